@@ -1,0 +1,43 @@
+-- A test over the numbers below a bound passes just where it passes at each of them.
+use Prim.Native.Nat.{ℕ, zero, suc, _+_, _<_}
+use native.Mathlib.Numerals.{add-one}
+use native.Mathlib.Decide.{ℕ-discrete}
+use native.Mathlib.Omega.{arith}
+use mathlib.Core.Path.{_≡_, refl, sym, _∙_}
+use mathlib.Core.Bool.{Bool, true, _&&_}
+use Rattle.numbers.specs.Below.{allBelow}
+use Rattle.numbers.proofs.Tests.{same-truth, and-true, and-left, and-right}
+
+-- A number below n + 1 is below n or is n.
+pub below-cases {ℓ} : {P : Type ℓ} (n k : ℕ) → k < suc n → (k < n → P) → (k ≡ n → P) → P
+below-cases {P = P} n k h below last = by (ℕ-discrete k n)
+  where
+    by : Dec (k ≡ n) → P
+    by (yes e) = last e
+    by (no d) = below (omega arith)
+
+pub all-suc : (n : ℕ) (p : ℕ → Bool) → allBelow (suc n) p ≡ (allBelow n p && p n)
+unfolding allBelow
+all-suc n p = refl
+
+pub all-next : (n : ℕ) (p : ℕ → Bool) → allBelow (n + 1) p ≡ (allBelow n p && p n)
+all-next n p = rw add-one (all-suc n p)
+
+pub all-at : (n : ℕ) (p : ℕ → Bool) → allBelow n p ≡ true → (k : ℕ) → k < n → p k ≡ true
+unfolding allBelow
+all-at zero p h k l = absurd (omega arith)
+all-at (suc n) p h k l =
+    below-cases n k l
+    (λ m. all-at n p (and-left (allBelow n p) (p n) h) k m)
+    (λ e. rw e (and-right (allBelow n p) (p n) h))
+
+pub all-intro : (n : ℕ) (p : ℕ → Bool) → ((k : ℕ) → k < n → p k ≡ true) → allBelow n p ≡ true
+unfolding allBelow
+all-intro zero p h = refl
+all-intro (suc n) p h = and-true (allBelow n p) (p n) (all-intro n p (λ k l. h k (omega arith))) (h n (omega arith))
+
+pub all-cong : (n : ℕ) (p q : ℕ → Bool) → ((k : ℕ) → k < n → p k ≡ q k) → allBelow n p ≡ allBelow n q
+all-cong n p q h =
+    same-truth (allBelow n p) (allBelow n q)
+    (λ t. all-intro n q (λ k l. sym (h k l) ∙ all-at n p t k l))
+    (λ t. all-intro n p (λ k l. h k l ∙ all-at n q t k l))

@@ -1,0 +1,3 @@
+pub mod Whole
+pub mod Below
+pub mod Tests
