@@ -1,0 +1,5 @@
+pub mod Places
+pub mod Facts
+pub mod Refusals
+pub mod Zeros
+pub mod Open

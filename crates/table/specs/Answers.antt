@@ -1,0 +1,47 @@
+-- The numbers and values of document 01 for every case of the answers.
+use Prim.Native.Nat.{ℕ}
+use mathlib.Core.List.{[], _∷_}
+use lib.IntN.{pos}
+use Rattle.table.specs.Refusals.{Outcome, accepted, refused}
+use Rattle.table.specs.declared.Refusal.{Refusal}
+use Rattle.table.specs.declared.Refusal.the-variants.{NotInOrder, OutsideLimits, NotThere, InUse, WrongSort, LevelTooLow, SharesAbove, DepthAbove, NotEmpty, InDebt, QueueFull, CountAtEnd, ListShort, PlanWrong, PlanOutOfOrder}
+use Rattle.table.specs.declared.Answer.{Answer}
+use Rattle.table.specs.declared.Answer.the-variants as answer
+use Rattle.table.specs.declared.Seen.{Seen}
+use Rattle.table.specs.declared.Seen.the-variants as seen
+use Rattle.table.specs.declared.Compared.{Compared}
+use Rattle.table.specs.declared.Compared.the-variants as compared
+
+-- The number of a refusal.
+abbrev pub numberOf : Refusal → ℕ
+numberOf NotInOrder = 1
+numberOf OutsideLimits = 2
+numberOf NotThere = 3
+numberOf InUse = 4
+numberOf WrongSort = 5
+numberOf LevelTooLow = 6
+numberOf SharesAbove = 7
+numberOf DepthAbove = 8
+numberOf NotEmpty = 9
+numberOf InDebt = 10
+numberOf QueueFull = 11
+numberOf CountAtEnd = 12
+numberOf ListShort = 13
+numberOf PlanWrong = 14
+numberOf PlanOutOfOrder = 15
+
+-- What a call tells its caller.
+unfoldable pub told : Answer → Outcome
+told (answer.Accepted value) = accepted (value ∷ [])
+told (answer.Refused why) = refused (numberOf why)
+
+-- What look tells: rate, balance and waiting count.
+unfoldable pub toldSeen : Seen → Outcome
+toldSeen (seen.Node rate balance waiting) = accepted (rate ∷ balance ∷ waiting ∷ [])
+toldSeen (seen.Refused why) = refused (numberOf why)
+
+-- What same tells: 1 for yes, 0 for no.
+unfoldable pub toldCompared : Compared → Outcome
+toldCompared compared.Same = accepted (pos 1 ∷ [])
+toldCompared compared.Different = accepted (pos 0 ∷ [])
+toldCompared (compared.Refused why) = refused (numberOf why)

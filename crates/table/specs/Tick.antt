@@ -1,0 +1,138 @@
+-- Tick, in four steps over the table and the dispatch entries so far. Document 01, "Calls".
+use Prim.Native.Nat.{ℕ, zero, suc, _+_, _*_, _-_, _/_}
+use mathlib.Core.Bool.{Bool, true, false, not, cond, _||_}
+use mathlib.Core.List.{List, [], _∷_, _++_}
+use lib.ListN.{length, drop}
+use lib.Dec.{eqb, leb, ltb}
+use lib.IntN.{ℤ, pos, _+ℤ_, _-ℤ_}
+use lib.Signed.{leZ}
+use Rattle.numbers.specs.Tests.{every}
+use Rattle.numbers.specs.Below.{sumBelow, forBelow}
+use Rattle.table.specs.Limits.{nodes, balanceAt, waitingAt, queueAt, queueLength, requestLength, grainScale, entryLength}
+use Rattle.table.specs.Places.{place, put, rate, balance, waiting, depthGrains, tag, size, arrival}
+use Rattle.table.specs.Tree.{treeOf}
+use Rattle.table.specs.Order.{inOrder}
+use Rattle.table.specs.Refusals.{Cause, cause, first, Outcome, outcome, kept}
+
+-- What a request of this size is charged, in grains.
+unfoldable pub grains : ℕ → ℕ
+grains size = size * grainScale
+
+-- Whether node k has enough balance for an amount.
+unfoldable pub enough : List ℤ → ℕ → ℕ → Bool
+enough t amount k = leZ (pos amount) (balance t k)
+
+-- No node: the number after the last.
+abbrev pub nobody : ℕ
+nobody = nodes
+
+-- The first node with enough balance on the way from node k, at level l, up to the root, both included, or nobody.
+unfoldable pub supplierFrom : List ℤ → ℕ → ℕ → ℕ → ℕ
+supplierFrom t amount zero k = cond (enough t amount k) k nobody
+supplierFrom t amount (suc l) k = cond (enough t amount k) k (supplierFrom t amount l (treeOf t .parent k))
+
+-- The supplier of client k's oldest request.
+unfoldable pub supplier : List ℤ → ℕ → ℕ
+supplier t k = supplierFrom t (grains (size t k 0)) (treeOf t .level k) k
+
+-- A balance falls by an amount.
+unfoldable pub lower : List ℤ → ℕ → ℕ → List ℤ
+lower t amount k = put t k balanceAt (balance t k -ℤ pos amount)
+
+-- An amount is charged to node k, at level l, and to every node above it, the root included.
+unfoldable pub charge : List ℤ → ℕ → ℕ → ℕ → List ℤ
+charge t amount zero k = lower t amount k
+charge t amount (suc l) k = charge (lower t amount k) amount l (treeOf t .parent k)
+
+-- The oldest request of client k is taken out, and those behind it move up.
+unfoldable pub takenOut : List ℤ → ℕ → List ℤ
+takenOut t k =
+    put
+    (forBelow requestLength (λ p u. put u k (queueAt + (queueLength - requestLength) + p) (pos 0))
+    (forBelow (queueLength - requestLength) (λ p u. put u k (queueAt + p) (place u k (queueAt + requestLength + p))) t))
+    k
+    waitingAt
+    (pos (waiting t k - 1))
+
+-- The table, and the entries dispatched so far, four numbers each: client, tag, size, supplier.
+pub record State : Type 0 where
+  pub table : List ℤ
+  pub entries : List ℤ
+
+-- The oldest request of client k is dispatched with node s as supplier.
+unfoldable pub dispatched : State → ℕ → ℕ → State
+dispatched st k s =
+    record {
+      table = takenOut (charge (st .table) (grains (size (st .table) k 0)) (treeOf (st .table) .level s) s) k;
+      entries = st .entries ++ (pos k ∷ tag (st .table) k 0 ∷ pos (size (st .table) k 0) ∷ pos s ∷ []);
+    }
+
+-- Step 1: every node's balance grows by its rate.
+unfoldable pub grown : List ℤ → List ℤ
+grown t = forBelow nodes (λ k u. put u k balanceAt (balance u k +ℤ pos (rate u k))) t
+
+-- Whether a request waits at client k whose grains are at most the client's balance.
+unfoldable pub ready : List ℤ → ℕ → Bool
+ready t k = every (ltb 0 (waiting t k) ∷ enough t (grains (size t k 0)) k ∷ [])
+
+-- While that is so, it is dispatched with the client as supplier: at most n times.
+unfoldable pub served : ℕ → ℕ → State → State
+served zero k st = st
+served (suc n) k st = elim (ready (st .table) k) [ true ↦ served n k (dispatched st k k) | false ↦ st ]
+
+-- Step 2: clients in rising number.
+unfoldable pub servedAll : State → State
+servedAll st = forBelow nodes (λ k s. served (waiting (s .table) k) k s) st
+
+-- Step 3: every balance above depth x 1000 is cut to that.
+unfoldable pub cut : List ℤ → List ℤ
+cut t = forBelow nodes (λ k u. cond (leZ (balance u k) (pos (depthGrains u k))) u (put u k balanceAt (pos (depthGrains u k)))) t
+
+-- Whether the oldest request of client k has a supplier.
+unfoldable pub supplied : List ℤ → ℕ → Bool
+supplied t k = every (ltb 0 (waiting t k) ∷ ltb (supplier t k) nobody ∷ [])
+
+-- Of two clients the one to be dispatched first: k where its oldest request has a supplier and arrived before that of
+-- best, or where there is no best.
+unfoldable pub better : List ℤ → ℕ → ℕ → ℕ
+better t k best = cond (every (supplied t k ∷ (eqb best nobody || ltb (arrival t k 0) (arrival t best 0)) ∷ [])) k best
+
+-- The client whose oldest request has the lowest arrival number of those that have a supplier, or nobody.
+unfoldable pub next : List ℤ → ℕ
+next t = forBelow nodes (better t) nobody
+
+-- Step 4: again and again the next client's request is dispatched, at most n times.
+unfoldable pub lent : ℕ → State → State
+lent zero st = st
+lent (suc n) st = elim (eqb (next (st .table)) nobody) [ true ↦ st | false ↦ lent n (dispatched st (next (st .table)) (supplier (st .table) (next (st .table)))) ]
+
+-- All waiting requests.
+unfoldable pub allWaiting : List ℤ → ℕ
+allWaiting t = sumBelow nodes (waiting t)
+
+-- The four steps.
+unfoldable pub stepTwo : List ℤ → State
+stepTwo t = servedAll (record { table = grown t; entries = [] })
+
+unfoldable pub stepThree : List ℤ → State
+stepThree t = record { table = cut (stepTwo t .table); entries = stepTwo t .entries }
+
+unfoldable pub ticked : List ℤ → State
+ticked t = lent (allWaiting (stepThree t .table)) (stepThree t)
+
+-- The list after: the entries, and beyond them the list as it came.
+unfoldable pub listed : List ℤ → List ℤ → List ℤ
+listed entries list = entries ++ drop (length entries) list
+
+unfoldable pub tickRefusal : List ℤ → List ℤ → ℕ
+tickRefusal t list = first (cause 1 (not (inOrder t)) ∷ cause 13 (ltb (length list) (entryLength * allWaiting t)) ∷ [])
+
+unfoldable pub tickTable : List ℤ → List ℤ → List ℤ
+tickTable t list = kept (tickRefusal t list) (ticked t .table) t
+
+unfoldable pub tickList : List ℤ → List ℤ → List ℤ
+tickList t list = kept (tickRefusal t list) (listed (ticked t .entries) list) list
+
+-- How many were dispatched.
+unfoldable pub tickAnswer : List ℤ → List ℤ → Outcome
+tickAnswer t list = outcome (tickRefusal t list) (pos (length (ticked t .entries) / entryLength) ∷ [])

@@ -1,0 +1,287 @@
+// The account table: a lent slice of 2,568 signed numbers, its limits and places, and what a call answers.
+ghost use mathlib.Core.Path.{_≡_};
+ghost use mathlib.Core.List.{[], _∷_};
+ghost use Prim.Native.Nat.{ℕ, _+_, _*_, _<_, _≤_, _^_};
+ghost use lib.ListN.{length};
+ghost use lib.IntN.{pos};
+ghost use Rattle.numbers.specs.Whole.{plus, withinℤ};
+ghost use Rattle.numbers.specs.Tests.{every};
+ghost use Rattle.table.specs.Limits.{tableLength, headerLength, recordLength, nodes, greatestRate, greatestDepth};
+ghost use Rattle.table.specs.Places.{place, put, header, putHeader, count};
+ghost use Rattle.table.specs.Refusals.{outcome};
+ghost use Rattle.table.specs.Calls.{blank, opened, openRefusal, openTable, openAnswer};
+ghost use Rattle.table.specs.Answers.{numberOf, told};
+
+// The causes of refusal, in the order of their numbers.
+pub enum Refusal {
+    NotInOrder,
+    OutsideLimits,
+    NotThere,
+    InUse,
+    WrongSort,
+    LevelTooLow,
+    SharesAbove,
+    DepthAbove,
+    NotEmpty,
+    InDebt,
+    QueueFull,
+    CountAtEnd,
+    ListShort,
+    PlanWrong,
+    PlanOutOfOrder,
+}
+
+// What a call answers: 0 or the arrival number, or why it is refused.
+pub enum Answer {
+    Accepted(i64),
+    Refused(Refusal),
+}
+
+// What look answers.
+pub enum Seen {
+    Node {
+        rate: i64,
+        balance: i64,
+        waiting: i64,
+    },
+    Refused(Refusal),
+}
+
+// What same answers.
+pub enum Compared {
+    Same,
+    Different,
+    Refused(Refusal),
+}
+
+pub struct Table {}
+
+impl Table {
+    pub const LENGTH: usize = 2568;
+
+    pub const HEADER: usize = 8;
+
+    pub const RECORD: usize = 40;
+
+    pub const NODES: usize = 64;
+
+    pub const LAST_NODE: u64 = 63;
+
+    pub const LAST_CLASS_LEVEL: u64 = 3;
+
+    pub const LAST_LEVEL: u64 = 4;
+
+    pub const GRAIN_SCALE: u64 = 1000;
+
+    pub const WHOLE_SHARE: u64 = 10000;
+
+    pub const GREATEST_DEPTH: u64 = 1000000;
+
+    pub const GREATEST_RATE: u64 = 1000000000;
+
+    pub const GREATEST_COUNT: u64 = 9000000000000000000;
+
+    pub const MOST_WAITING: u64 = 8;
+
+    // Places of a record.
+    pub const SORT: usize = 0;
+
+    pub const PARENT: usize = 1;
+
+    pub const LEVEL: usize = 2;
+
+    pub const KIND: usize = 3;
+
+    pub const SHARE: usize = 4;
+
+    pub const DEPTH: usize = 5;
+
+    pub const RATE: usize = 6;
+
+    pub const BALANCE: usize = 7;
+
+    pub const WAITING: usize = 8;
+
+    pub const SPARE: usize = 9;
+
+    pub const SPARE_LENGTH: usize = 7;
+
+    pub const QUEUE: usize = 16;
+
+    pub const QUEUE_LENGTH: usize = 24;
+
+    pub const REQUEST: usize = 3;
+
+    pub const TAG: usize = 0;
+
+    pub const SIZE: usize = 1;
+
+    pub const ARRIVAL: usize = 2;
+
+    // Numbers of one entry of the dispatch list.
+    pub const ENTRY: usize = 4;
+
+    // Sorts and kinds.
+    pub const UNUSED: u64 = 0;
+
+    pub const CLASS: u64 = 1;
+
+    pub const CLIENT: u64 = 2;
+
+    pub const FIXED: u64 = 0;
+
+    pub const WEIGHTED: u64 = 1;
+
+    // What stands at place p of node k.
+    pub fn get(table: &[i64], k: usize, p: usize) -> i64
+        requires { ⌜ (length (now table) ≡ tableLength) × (k < nodes) × (p < recordLength) ⌝ }
+        ensures { λ r. ⌜ r ≡ place (now (table .entry)) k p ⌝ }
+    {
+        table[Table::HEADER + Table::RECORD * k + p]
+    }
+
+    // The natural part of it.
+    pub fn natural(table: &[i64], k: usize, p: usize) -> u64
+        requires { ⌜ (length (now table) ≡ tableLength) × (k < nodes) × (p < recordLength) ⌝ }
+        ensures { λ r. ⌜ r ≡ plus (place (now (table .entry)) k p) ⌝ }
+    {
+        numbers::natural(Table::get(table, k, p))
+    }
+
+    // Writes v there.
+    pub fn put(table: &mut [i64], k: usize, p: usize, v: i64)
+        requires { ⌜ (length (now table) ≡ tableLength) × (k < nodes) × (p < recordLength) ⌝ }
+        ensures { λ _. ⌜ now (table .exit) ≡ put (now (table .entry)) k p v ⌝ }
+    {
+        table[Table::HEADER + Table::RECORD * k + p] = v;
+    }
+
+    // Writes a natural number there.
+    pub fn put_natural(table: &mut [i64], k: usize, p: usize, v: u64)
+        requires { ⌜ (length (now table) ≡ tableLength) × (k < nodes) × (p < recordLength) × (v < 2 ^ 63) ⌝ }
+        ensures { λ _. ⌜ now (table .exit) ≡ put (now (table .entry)) k p (pos v) ⌝ }
+    {
+        Table::put(table, k, p, numbers::whole(v));
+    }
+
+    // What stands at place p of the header.
+    pub fn heading(table: &[i64], p: usize) -> i64
+        requires { ⌜ (length (now table) ≡ tableLength) × (p < headerLength) ⌝ }
+        ensures { λ r. ⌜ r ≡ header (now (table .entry)) p ⌝ }
+    {
+        table[p]
+    }
+
+    // The count of accepted requests.
+    pub fn count(table: &[i64]) -> u64
+        requires { ⌜ length (now table) ≡ tableLength ⌝ }
+        ensures { λ r. ⌜ r ≡ count (now (table .entry)) ⌝ }
+    {
+        numbers::natural(Table::heading(table, 0))
+    }
+
+    // Writes the count of accepted requests.
+    pub fn put_count(table: &mut [i64], n: u64)
+        requires { ⌜ (length (now table) ≡ tableLength) × (n < 2 ^ 63) ⌝ }
+        ensures { λ _. ⌜ now (table .exit) ≡ putHeader (now (table .entry)) 0 (pos n) ⌝ }
+    {
+        let count = numbers::whole(n);
+        table[0] = count;
+    }
+
+    // Writes 0 everywhere.
+    fn clear(table: &mut [i64])
+        requires { ⌜ length (now table) ≡ tableLength ⌝ }
+        ensures { λ _. ⌜ now (table .exit) ≡ blank ⌝ }
+    {
+        let mut i: usize = 0;
+        while i < table.len() {
+            table[i] = 0;
+            i += 1;
+        }
+    }
+
+    // Makes the root in a table of zeros.
+    fn put_root(table: &mut [i64], rate: i64, depth: i64)
+        requires { ⌜ (length (now table) ≡ tableLength) × (now table ≡ blank) ⌝ }
+        ensures { λ _. ⌜ now (table .exit) ≡ opened rate depth ⌝ }
+    {
+        Table::put(table, 0, Table::SORT, 1);
+        Table::put(table, 0, Table::SHARE, 10000);
+        Table::put(table, 0, Table::DEPTH, depth);
+        Table::put(table, 0, Table::RATE, rate);
+    }
+
+    // Whether open's arguments are in their limits.
+    fn open_limits(rate: i64, depth: i64) -> bool
+        ensures { λ r. ⌜ r ≡ every (withinℤ 1 greatestRate rate ∷ withinℤ 1 greatestDepth depth ∷ []) ⌝ }
+    {
+        let rate_fits = numbers::within(rate, 1, Table::GREATEST_RATE);
+        let depth_fits = numbers::within(depth, 1, Table::GREATEST_DEPTH);
+        rate_fits & depth_fits
+    }
+
+    // The number of the first cause that turns open back, or 0.
+    fn open_refusal(table: &[i64], rate: i64, depth: i64) -> u64
+        ensures first { λ r. ⌜ r ≡ openRefusal (now (table .entry)) rate depth ⌝ }
+        ensures small { λ r. ⌜ r ≤ 2 ⌝ }
+    {
+        if table.len() != Table::LENGTH {
+            return 1;
+        }
+        if !Table::open_limits(rate, depth) {
+            return 2;
+        }
+        0
+    }
+
+    // Zeroes the table and makes the root with balance 0. Document 01, "Calls".
+    pub fn open(table: &mut [i64], rate: i64, depth: i64) -> Answer
+        ensures answer { λ r. ⌜ told r ≡ openAnswer (now (table .entry)) rate depth ⌝ }
+        ensures table { λ _. ⌜ now (table .exit) ≡ openTable (now (table .entry)) rate depth ⌝ }
+    {
+        let number = Table::open_refusal(table, rate, depth);
+        if number != 0 {
+            return answered(number, 0);
+        }
+        Table::clear(table);
+        Table::put_root(table, rate, depth);
+        Answer::Accepted(0)
+    }
+}
+
+// The refusal of a number.
+pub fn refusal_of(number: u64) -> Refusal
+    requires { ⌜ (1 ≤ number) × (number ≤ 15) ⌝ }
+    ensures { λ r. ⌜ numberOf r ≡ number ⌝ }
+{
+    match number {
+        1 => Refusal::NotInOrder,
+        2 => Refusal::OutsideLimits,
+        3 => Refusal::NotThere,
+        4 => Refusal::InUse,
+        5 => Refusal::WrongSort,
+        6 => Refusal::LevelTooLow,
+        7 => Refusal::SharesAbove,
+        8 => Refusal::DepthAbove,
+        9 => Refusal::NotEmpty,
+        10 => Refusal::InDebt,
+        11 => Refusal::QueueFull,
+        12 => Refusal::CountAtEnd,
+        13 => Refusal::ListShort,
+        14 => Refusal::PlanWrong,
+        _ => Refusal::PlanOutOfOrder,
+    }
+}
+
+// The answer of a call: its value where the number of the refusal is 0.
+pub fn answered(number: u64, value: i64) -> Answer
+    requires { ⌜ number ≤ 15 ⌝ }
+    ensures { λ r. ⌜ told r ≡ outcome number (value ∷ []) ⌝ }
+{
+    if number == 0 {
+        Answer::Accepted(value)
+    } else {
+        Answer::Refused(refusal_of(number))
+    }
+}
