@@ -1,0 +1,11 @@
+pub mod Edits
+pub mod Nodes
+pub mod Ready
+pub mod ChangeRate
+pub mod OneNode
+pub mod ChangeShare
+pub mod Request
+pub mod Fresh
+pub mod Open
+pub mod Join
+pub mod Leave

@@ -1,0 +1,1 @@
+// Every accepted call keeps a table in order.
