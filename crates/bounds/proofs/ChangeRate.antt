@@ -1,0 +1,43 @@
+-- An accepted change of the rate: the tree, the balances and the requests stay.
+use Prim.Native.Nat.{ℕ, _+_, _<_}
+use mathlib.Core.Path.{_≡_, refl, sym, ap, _∙_}
+use mathlib.Core.Bool.{true}
+use mathlib.Core.List.{List, []}
+use native.Mathlib.Omega.{arith}
+use lib.IntN.{ℤ}
+use Rattle.numbers.specs.Whole.{plus}
+use Rattle.table.specs.Places.{place, put, rate as rateOf, balance, waiting}
+use Rattle.table.specs.Rates.{renewed}
+use Rattle.table.specs.Order.{inOrder}
+use Rattle.table.specs.Calls.{changeRateRefusal, changeRateTable}
+use Rattle.table.proofs.Facts.{facts}
+use Rattle.table.proofs.Places.{place-put-same, place-put-place}
+use Rattle.keeps.proofs.ChangeRate.{change-rate-keeps, rerated-tree}
+use Rattle.bounds.specs.Events.{changeRate}
+use Rattle.bounds.specs.Observer.{Observer, afterAccepted}
+use Rattle.bounds.specs.Counts.{leaves}
+use Rattle.bounds.proofs.Simulation.{Agrees}
+use Rattle.bounds.proofs.Changes.{Change, all-same}
+use Rattle.bounds.proofs.Renewing.{kept-order, renewed-agrees, renewed-same}
+
+pub rate-change :
+    (t : List ℤ) (o : Observer) (rate : ℤ) → Agrees t o → changeRateRefusal t rate ≡ 0
+    → Change t (renewed (put t 0 6 rate)) o (afterAccepted o (changeRate rate) []) (λ c. leaves c (changeRate rate))
+unfolding changeRateTable afterAccepted rateOf balance waiting
+rate-change t o rate a h =
+    all-same t (renewed u) o p _
+    (renewed-agrees u order p (rerated-tree t rate ∙ a .tree) (ap plus (place-put-same t 0 6 rate (facts t (a .order) .long) (omega arith) (omega arith)))
+    (λ j e. a .queue j e ∙ ap (λ (w : ℕ). o .sent j + w) (sym (ap plus (rest j 8 (omega arith) (omega arith))))))
+    (λ j. renewed-same u order t o p j (record { sort = refl; depth = refl; balance = rest j 7 (omega arith) (omega arith) }))
+  where
+    u : List ℤ
+    u = put t 0 6 rate
+
+    p : Observer
+    p = afterAccepted o (changeRate rate) []
+
+    order : inOrder (renewed u) ≡ true
+    order = kept-order _ (renewed u) t h (change-rate-keeps t rate h)
+
+    rest : (j p : ℕ) → p < 40 → (p ≡ 6 → ⊥) → place u j p ≡ place t j p
+    rest j p = place-put-place t 0 6 rate j p (omega arith)

@@ -1,0 +1,59 @@
+-- An accepted change of share: balances and requests stay.
+use Prim.Native.Nat.{ℕ, _+_, _<_}
+use mathlib.Core.Path.{_≡_, refl, sym, ap, _∙_}
+use mathlib.Core.Bool.{true}
+use mathlib.Core.List.{List, []}
+use native.Mathlib.Omega.{arith}
+use lib.IntN.{ℤ}
+use Rattle.numbers.specs.Whole.{plus}
+use Rattle.table.specs.Places.{place, rate as rateOf, balance, waiting}
+use Rattle.table.specs.Tree.{Tree, treeOf, isClient}
+use Rattle.table.specs.Rates.{renewed}
+use Rattle.table.specs.Order.{inOrder}
+use Rattle.table.specs.Calls.{reshared, changeShareRefusal, changeShareTable}
+use Rattle.table.proofs.Facts.{InOrder, facts}
+use Rattle.keeps.proofs.Edits.{reshared-node, reshared-others, reshared-rest}
+use Rattle.keeps.proofs.ChangeShare.{ChangeSharePassed, change-share-passed, change-share-keeps}
+use Rattle.bounds.specs.Events.{changeShare}
+use Rattle.bounds.specs.Observer.{Observer, withShare, afterAccepted}
+use Rattle.bounds.specs.Counts.{leaves}
+use Rattle.bounds.proofs.Simulation.{Agrees}
+use Rattle.bounds.proofs.Trees.{with-share}
+use Rattle.bounds.proofs.Changes.{Change, all-same}
+use Rattle.bounds.proofs.Renewing.{kept-order, renewed-agrees, renewed-same}
+
+pub share-change :
+    (t : List ℤ) (o : Observer) (node kind share : ℤ) → Agrees t o → changeShareRefusal t node kind share ≡ 0
+    → Change t (renewed (reshared t (plus node) kind share)) o (afterAccepted o (changeShare node kind share) []) (λ c. leaves c (changeShare node kind share))
+unfolding changeShareTable afterAccepted withShare rateOf balance waiting isClient
+share-change t o node kind share a h =
+    all-same t (renewed u) o p _
+    (renewed-agrees u order p tree (ap plus (rest 0 6 (omega arith) (omega arith) (omega arith)) ∙ a .disk)
+    (λ j e. a .queue j e ∙ ap (λ (w : ℕ). o .sent j + w) (sym (ap plus (rest j 8 (omega arith) (omega arith) (omega arith))))))
+    (λ j. renewed-same u order t o p j (record { sort = refl; depth = refl; balance = rest j 7 (omega arith) (omega arith) (omega arith) }))
+  where
+    k : ℕ
+    k = plus node
+
+    u : List ℤ
+    u = reshared t k kind share
+
+    p : Observer
+    p = afterAccepted o (changeShare node kind share) []
+
+    f : InOrder t
+    f = facts t (a .order)
+
+    passed : ChangeSharePassed t k kind share
+    passed = change-share-passed t node kind share h
+
+    order : inOrder (renewed u) ≡ true
+    order = kept-order _ (renewed u) t h (change-share-keeps t node kind share h)
+
+    rest : (j p : ℕ) → p < 40 → (p ≡ 3 → ⊥) → (p ≡ 4 → ⊥) → place u j p ≡ place t j p
+    rest = reshared-rest t k kind share (f .long) (passed .node)
+
+    tree : treeOf u ≡ p .tree
+    tree =
+        with-share (treeOf u) (treeOf t) k (reshared-others t k kind share (f .long) (passed .node)) _ _ (reshared-node t k kind share (f .long) (passed .node))
+        ∙ ap (λ (tree : Tree). withShare tree k (plus kind) (plus share)) (a .tree)

@@ -1,0 +1,86 @@
+-- What an observer reads from the numbers that a tick writes: each dispatch writes four, so after it the observer reads one
+-- entry more, behind those before it, whatever the list holds beyond. Counts over entries grow by that entry's term.
+use Prim.Native.Nat.{ℕ, zero, suc, _+_, _*_, _/_}
+use mathlib.Core.Path.{_≡_, refl, ap, _∙_}
+use mathlib.Core.Bool.{cond}
+use mathlib.Core.List.{List, [], _∷_, _++_, append-nil}
+use native.Mathlib.Omega.{arith}
+use native.Mathlib.Nat.{zero-add, suc-add}
+use lib.Dec.{eqb}
+use lib.ListN.{length}
+use lib.IntN.{ℤ, pos}
+use Rattle.numbers.specs.Whole.{plus}
+use Rattle.table.specs.Tree.{Tree}
+use Rattle.table.specs.Places.{size, tag}
+use Rattle.table.specs.Tick.{State, grains, dispatched}
+use Rattle.ticks.proofs.Dispatch.{dispatch-entry}
+use Rattle.bounds.specs.Observer.{Entry, entriesIn, entriesFor}
+use Rattle.bounds.specs.Counts.{grainsFor, isAbove, grainsCharged}
+
+-- The entries of a list of numbers, and then those of what stands behind it.
+pub entries-append : (n m : ℕ) (list more : List ℤ) → length list ≡ 4 * n → entriesIn (n + m) (list ++ more) ≡ entriesIn n list ++ entriesIn m more
+unfolding entriesIn
+entries-append zero m [] more e = rw (zero-add m)
+entries-append zero m (a ∷ list) more e = absurd (omega arith)
+entries-append (suc n) m [] more e = absurd (omega arith)
+entries-append (suc n) m (a ∷ []) more e = absurd (omega arith)
+entries-append (suc n) m (a ∷ b ∷ []) more e = absurd (omega arith)
+entries-append (suc n) m (a ∷ b ∷ c ∷ []) more e = absurd (omega arith)
+entries-append (suc n) m (a ∷ b ∷ c ∷ d ∷ list) more e = rw (suc-add n m, entriesIn, entries-append n m list more (omega arith))
+
+-- A count over entries that adds a term for each.
+pub count-last : (f : List Entry → ℕ) (term : Entry → ℕ) → f [] ≡ 0 → ((e : Entry) (list : List Entry) → f (e ∷ list) ≡ term e + f list) → (list : List Entry) (e : Entry) → f (list ++ (e ∷ [])) ≡ f list + term e
+count-last f term none next [] e = omega (arith, none, next e [])
+count-last f term none next (a ∷ list) e =
+    omega (arith, next a (list ++ (e ∷ [])), next a list, count-last f term none next list e)
+
+pub entriesFor-last : (k : ℕ) (list : List Entry) (e : Entry) → entriesFor k (list ++ (e ∷ [])) ≡ entriesFor k list + cond (eqb (e .client) k) 1 0
+unfolding entriesFor
+entriesFor-last k = count-last (entriesFor k) (λ e. cond (eqb (e .client) k) 1 0) refl (λ e list. refl)
+
+pub grainsFor-last : (k : ℕ) (list : List Entry) (e : Entry) → grainsFor k (list ++ (e ∷ [])) ≡ grainsFor k list + cond (eqb (e .client) k) (grains (e .size)) 0
+unfolding grainsFor
+grainsFor-last k = count-last (grainsFor k) (λ e. cond (eqb (e .client) k) (grains (e .size)) 0) refl (λ e list. refl)
+
+pub grainsCharged-last : (tree : Tree) (x : ℕ) (list : List Entry) (e : Entry) → grainsCharged tree x (list ++ (e ∷ [])) ≡ grainsCharged tree x list + cond (isAbove tree x (tree .level (e .supplier)) (e .supplier)) (grains (e .size)) 0
+unfolding grainsCharged
+grainsCharged-last tree x =
+    count-last (grainsCharged tree x) (λ e. cond (isAbove tree x (tree .level (e .supplier)) (e .supplier)) (grains (e .size)) 0) refl (λ e list. refl)
+
+-- The entries that a list of numbers holds, four for each, and that it holds nothing else.
+unfoldable pub told : List ℤ → List Entry
+told list = entriesIn (length list / 4) list
+
+unfoldable pub whole : List ℤ → Type 0
+whole list = length list ≡ 4 * (length list / 4)
+
+pub told-none : told [] ≡ []
+unfolding told entriesIn
+told-none = refl
+
+pub whole-none : whole []
+unfolding whole
+whole-none = refl
+
+-- An observer reads them from any list that begins with them.
+pub told-first : (list more : List ℤ) → whole list → entriesIn (length list / 4) (list ++ more) ≡ told list
+unfolding told whole entriesIn
+told-first list more w =
+    let none : length list / 4 ≡ length list / 4 + 0 = omega arith in
+    ap (λ (n : ℕ). entriesIn n (list ++ more)) none ∙ entries-append (length list / 4) 0 list more w ∙ append-nil (told list)
+
+-- The entry of a dispatch for client k with node s as supplier.
+unfoldable pub entryOf : List ℤ → ℕ → ℕ → Entry
+entryOf t k s = record { client = k; size = size t k 0; supplier = s }
+
+module _ (st : State) (k s : ℕ) (w : whole (st .entries)) where
+  pub told-dispatched : told (dispatched st k s .entries) ≡ told (st .entries) ++ (entryOf (st .table) k s ∷ [])
+  unfolding told whole dispatched entriesIn plus entryOf
+  told-dispatched =
+      let one : length (dispatched st k s .entries) / 4 ≡ length (st .entries) / 4 + 1 = omega (arith, dispatch-entry st k s) in
+      ap (λ (n : ℕ). entriesIn n (dispatched st k s .entries)) one
+      ∙ entries-append (length (st .entries) / 4) 1 (st .entries) (pos k ∷ tag (st .table) k 0 ∷ pos (size (st .table) k 0) ∷ pos s ∷ []) w
+
+  pub whole-dispatched : whole (dispatched st k s .entries)
+  unfolding whole
+  whole-dispatched = omega (arith, dispatch-entry st k s)

@@ -1,0 +1,132 @@
+-- The three claims over a stretch, from the laws of one call. Five depths are one at the start and four at the end.
+use Prim.Native.Nat.{ℕ, suc, _+_, _*_, _≤_, _<_}
+use mathlib.Core.Path.{_≡_, refl, sym, ap, _∙_, subst}
+use mathlib.Core.Bool.{true, false, not}
+use mathlib.Core.Logic.{⊎-elim}
+use mathlib.Core.List.{List, [], _∷_}
+use native.Mathlib.Omega.{arith}
+use native.Mathlib.Decide.{decLt}
+use borrow.Author.Tests.{eqb-true, eqb-false, eq-eqb, ne-eqb, not-true}
+use lib.ListN.{length}
+use lib.IntN.{ℤ, pos}
+use Rattle.numbers.specs.Whole.{plus, minus}
+use Rattle.numbers.specs.Tests.{every}
+use Rattle.numbers.proofs.Tests.{by-test, true-false}
+use Rattle.numbers.proofs.Every.{head-holds, rest-hold, none-left, holds-with, head-fails, rest-fail}
+use Rattle.numbers.proofs.Parts.{zarith, plus-pos, minus-pos, within-parts}
+use Rattle.table.specs.Places.{place, balance, depthGrains}
+use Rattle.table.specs.Tree.{Tree, treeOf, there, isClass, isClient}
+use Rattle.table.specs.Refusals.{Outcome, accepted, refused, outcome}
+use Rattle.table.specs.Calls.{leaveRefusal, leaveAnswer}
+use Rattle.table.proofs.Facts.{InOrder, facts}
+use Rattle.table.proofs.Refusals.{none-first, outcome-refused}
+use Rattle.laws.proofs.Children.{class-there}
+use Rattle.laws.proofs.Floors.{grounds, node-floor}
+use Rattle.bounds.specs.Events.{Call, join, leave, changeShare, changeRate, request, tick, tableAfter, answerOf, eventOf, events, tableAfterAll}
+use Rattle.bounds.specs.Observer.{Observer, observed, observedAll}
+use Rattle.bounds.specs.Counts.{accepts, leaves, ratesOver, dispatchedOver, chargedOver, waitsThroughout, staysThroughout}
+use Rattle.bounds.specs.Demand.{Bounds}
+use Rattle.bounds.proofs.Simulation.{Agrees, Steps}
+use Rattle.bounds.proofs.Telescope.{agrees-all, ClassOver, class-over, ClientOver, client-over}
+
+-- A node that is there has a number below 64.
+pub there-below : (t : List ℤ) (k : ℕ) → length t ≡ 2568 → there (treeOf t) k ≡ true → k < 64
+unfolding there treeOf place plus
+there-below t k long e =
+    elim (decLt k 64) [
+      | yes low ↦ low
+      | no high ↦
+          let beyond : length t ≤ 8 + 40 * k + 0 = omega arith in
+          absurd (true-false e (ap (λ (z : ℤ). not (lib.Dec.eqb (plus z) 0)) (lib.ListN.List·getD-eq-default t (pos 0) beyond ∙ refl)))
+    ]
+
+client-there : (tree : Tree) (k : ℕ) → isClient tree k ≡ true → there tree k ≡ true
+unfolding there isClient
+client-there tree k e = ap not (ne-eqb (tree .sort k) 0 (λ z. omega (arith, eqb-true (tree .sort k) 2 e)))
+
+-- Leave of the root is refused.
+root-refused : (t : List ℤ) (node : ℤ) → plus node ≡ 0 → leaveRefusal t node ≡ 0 → ⊥
+unfolding leaveRefusal
+root-refused t node zero h =
+    let past₁ = none-first 1 _ _ (λ e. omega arith) h .1 in
+    let past₂ = none-first 2 _ _ (λ e. omega arith) past₁ .1 in
+    let past₃ = none-first 3 _ _ (λ e. omega arith) past₂ .1 in
+    true-false (eq-eqb (plus node) 0 zero) (none-first 5 _ _ (λ e. omega arith) past₃ .0)
+
+root-stays-once : (t : List ℤ) (call : Call) → every (leaves 0 call ∷ accepts (answerOf t call) ∷ []) ≡ false
+unfolding leaves answerOf leaveAnswer accepts
+root-stays-once t (join node parent sort kind share depth) = head-fails _ _ refl
+root-stays-once t (leave node) =
+    by-test (lib.Dec.eqb (plus node) 0)
+    (λ e. rest-fail _ _ (head-fails _ _ (leave-refused t node (eqb-true (plus node) 0 e))))
+    (λ e. head-fails _ _ e)
+  where
+    leave-refused : (t : List ℤ) (node : ℤ) → plus node ≡ 0 → accepts (leaveAnswer t node) ≡ false
+    leave-refused t node zero = ap accepts (outcome-refused _ _ (root-refused t node zero)) ∙ refl
+root-stays-once t (changeShare node kind share) = head-fails _ _ refl
+root-stays-once t (changeRate rate) = head-fails _ _ refl
+root-stays-once t (request client tag size) = head-fails _ _ refl
+root-stays-once t (tick list) = head-fails _ _ refl
+
+pub root-stays : (t : List ℤ) (calls : List Call) → staysThroughout 0 (events t calls) ≡ true
+unfolding staysThroughout events eventOf
+root-stays t [] = refl
+root-stays t (call ∷ calls) = holds-with _ _ (ap not (root-stays-once t call)) (holds-with _ _ (root-stays (tableAfter t call) calls) none-left)
+
+root-class : (t : List ℤ) → InOrder t → isClass (treeOf t) 0 ≡ true
+unfolding isClass treeOf
+root-class t f = eq-eqb _ 1 (ap plus (f .root .sort) ∙ plus-pos 1)
+
+depth-in-grains : (t : List ℤ) (o : Observer) (k : ℕ) → Agrees t o → depthGrains t k ≡ o .tree .depth k * 1000
+unfolding depthGrains treeOf
+depth-in-grains t o k a = ap (λ (tree : Tree). tree .depth k * 1000) (a .tree)
+
+client-depth : (t : List ℤ) (k : ℕ) → InOrder t → isClient (treeOf t) k ≡ true → 1 ≤ treeOf t .depth k
+unfolding treeOf
+client-depth t k f e =
+    let here = client-there (treeOf t) k e in
+    let depth = f .limits k (there-below t k (f .long) here) here .depth in
+    omega (arith, within-parts 1 1000000 (place t k 5) depth)
+
+pub bounds-from : Steps → (t : List ℤ) (o : Observer) → Agrees t o → (calls : List Call) → Bounds o (events t calls)
+bounds-from laws t o a calls =
+    record { clients = of-client; disk = of-class 0 (rw (← a .tree) (root-class t f)) (root-stays t calls); classes = of-class }
+  where
+    f : InOrder t
+    f = facts t (a .order)
+
+    b : Agrees (tableAfterAll t calls) (observedAll o (events t calls))
+    b = agrees-all laws t o calls a
+
+    g : InOrder (tableAfterAll t calls)
+    g = facts (tableAfterAll t calls) (b .order)
+
+    of-class :
+        (c : ℕ) → isClass (o .tree) c ≡ true → staysThroughout c (events t calls) ≡ true
+        → chargedOver o c (events t calls) ≤ ratesOver o c (events t calls) + 5 * (o .tree .depth c * 1000)
+    of-class c e h =
+        let over = class-over laws t o calls a c e h in
+        let here : isClass (treeOf t) c ≡ true = rw (a .tree) e in
+        let there : isClass (treeOf (tableAfterAll t calls)) c ≡ true = rw (b .tree) (over .class) in
+        let low = there-below t c (f .long) (class-there (treeOf t) c here) in
+        let most = f .balances c low (class-there (treeOf t) c here) .most in
+        let floor = node-floor (tableAfterAll t calls) (grounds _ g) c low (class-there _ c there) in
+        omega (
+          arith,
+          zarith,
+          over .line,
+          floor,
+          most,
+          plus-pos (depthGrains t c),
+          minus-pos (depthGrains t c),
+          depth-in-grains t o c a,
+          depth-in-grains (tableAfterAll t calls) (observedAll o (events t calls)) c b,
+          ap (λ (d : ℕ). d * 1000) (over .depth),
+        )
+
+    of-client :
+        (k : ℕ) → isClient (observedAll o (events t calls) .tree) k ≡ true → waitsThroughout o k (events t calls) ≡ true
+        → ratesOver o k (events t calls) < dispatchedOver k (events t calls) + observedAll o (events t calls) .tree .depth k * 1000
+    of-client k e h =
+        let over = client-over laws t o calls a k e h in
+        ⊎-elim (λ u. omega (arith, client-depth (tableAfterAll t calls) k g (rw (b .tree) e), ap (λ (tree : Tree). tree .depth k) (b .tree))) (λ u. omega (arith, over .line, ap (λ (d : ℕ). d * 1000) (over .depth))) (over .end)

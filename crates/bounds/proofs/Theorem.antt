@@ -1,0 +1,46 @@
+-- Demand 3. The opened table agrees with the observer, every call keeps that, and the laws of one call give the three
+-- claims over a stretch.
+use mathlib.Core.Path.{_≡_}
+use mathlib.Core.Bool.{true, false}
+use mathlib.Core.List.{[], _∷_}
+use Rattle.numbers.specs.Tests.{every}
+use Rattle.table.specs.Tree.{isClient}
+use Rattle.table.specs.Calls.{openTable}
+use Rattle.bounds.specs.Events.{tableAfter, answerOf, eventOf, events, tableAfterAll}
+use Rattle.bounds.specs.Observer.{observed, start, observedAll}
+use Rattle.bounds.specs.Counts.{accepts, leaves, waits}
+use Rattle.bounds.specs.Demand.{Demand3}
+use Rattle.bounds.proofs.Simulation.{Agrees, ClassStep, ClientStep, Steps}
+use Rattle.bounds.proofs.Telescope.{agrees-all}
+use Rattle.bounds.proofs.Stretch.{bounds-from}
+use Rattle.bounds.proofs.Opened.{opened-agrees}
+use Rattle.bounds.proofs.CallSteps.{calls-agree, calls-class, calls-client, by-call}
+use Rattle.bounds.proofs.TickSteps.{tick-agrees, tick-class, tick-client}
+
+pub steps : Steps
+steps =
+    record {
+      agrees = λ t o call a.
+          by-call (λ call. Agrees (tableAfter t call) (observed o (eventOf t call)))
+          (λ call quiet. calls-agree t o call quiet a)
+          (λ list. tick-agrees t o list a)
+          call;
+      class = λ t o call a c e.
+          by-call (λ call. every (leaves c call ∷ accepts (answerOf t call) ∷ []) ≡ false → ClassStep t o call c)
+          (λ call quiet. calls-class t o call quiet a c e)
+          (λ list stays. tick-class t o list a c e)
+          call;
+      client = λ t o call a k.
+          by-call
+          (λ call. isClient (observed o (eventOf t call) .tree) k ≡ true → waits (observed o (eventOf t call)) k ≡ true → ClientStep t o call k)
+          (λ call quiet. calls-client t o call quiet a k)
+          (λ list. tick-client t o list a k)
+          call;
+    }
+
+pub demand-3 : Demand3
+unfolding Demand3
+demand-3 t rate depth before stretch h =
+    bounds-from steps (tableAfterAll (openTable t rate depth) before) (observedAll (start rate depth) (events (openTable t rate depth) before))
+    (agrees-all steps (openTable t rate depth) (start rate depth) before (opened-agrees t rate depth h))
+    stretch

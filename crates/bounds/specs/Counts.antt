@@ -1,0 +1,86 @@
+-- What demand 3 counts over a stretch of events that an observer o follows: rates, grains dispatched and charged, and who
+-- waits or stays throughout. Document 01, "What demand 3 counts".
+use Prim.Native.Nat.{ℕ, zero, suc, _+_}
+use mathlib.Core.Bool.{Bool, true, false, not, cond, _||_}
+use mathlib.Core.List.{List, [], _∷_}
+use lib.Dec.{eqb, ltb}
+use lib.IntN.{ℤ}
+use Rattle.numbers.specs.Whole.{plus}
+use Rattle.numbers.specs.Tests.{every}
+use Rattle.table.specs.Tree.{Tree}
+use Rattle.table.specs.Rates.{rateIn}
+use Rattle.table.specs.Refusals.{Outcome, accepted, refused}
+use Rattle.table.specs.Tick.{grains}
+use Rattle.bounds.specs.Events.{Call, join, leave, changeShare, changeRate, request, tick, Event}
+use Rattle.bounds.specs.Observer.{Entry, entries, Observer, observed}
+
+-- Whether an answer accepts.
+unfoldable pub accepts : Outcome → Bool
+accepts (accepted values) = true
+accepts (refused number) = false
+
+unfoldable pub isTick : Call → Bool
+isTick (join node parent sort kind share depth) = false
+isTick (leave node) = false
+isTick (changeShare node kind share) = false
+isTick (changeRate rate) = false
+isTick (request client tag size) = false
+isTick (tick list) = true
+
+-- A node's rate at an event: at an accepted tick the one that the tree before it gives, else 0.
+unfoldable pub rateAt : Observer → ℕ → Event → ℕ
+rateAt o k e = cond (every (isTick (e .call) ∷ accepts (e .answer) ∷ [])) (rateIn (o .tree) (o .disk) k) 0
+
+-- The sum of node k's rates over a stretch.
+unfoldable pub ratesOver : Observer → ℕ → List Event → ℕ
+ratesOver o k [] = 0
+ratesOver o k (e ∷ stretch) = rateAt o k e + ratesOver (observed o e) k stretch
+
+-- The grains of the entries for client k.
+unfoldable pub grainsFor : ℕ → List Entry → ℕ
+grainsFor k [] = 0
+grainsFor k (e ∷ list) = cond (eqb (e .client) k) (grains (e .size)) 0 + grainsFor k list
+
+-- The grains dispatched for client k over a stretch.
+unfoldable pub dispatchedOver : ℕ → List Event → ℕ
+dispatchedOver k [] = 0
+dispatchedOver k (e ∷ stretch) = grainsFor k (entries e) + dispatchedOver k stretch
+
+-- Whether node x is node s, at level l, or stands above it.
+unfoldable pub isAbove : Tree → ℕ → ℕ → ℕ → Bool
+isAbove tree x zero s = eqb s x
+isAbove tree x (suc l) s = eqb s x || isAbove tree x l (tree .parent s)
+
+-- An entry is charged to its supplier and to every node above that.
+unfoldable pub grainsCharged : Tree → ℕ → List Entry → ℕ
+grainsCharged tree x [] = 0
+grainsCharged tree x (e ∷ list) =
+    cond (isAbove tree x (tree .level (e .supplier)) (e .supplier)) (grains (e .size)) 0 + grainsCharged tree x list
+
+-- The grains charged to node x over a stretch.
+unfoldable pub chargedOver : Observer → ℕ → List Event → ℕ
+chargedOver o x [] = 0
+chargedOver o x (e ∷ stretch) = grainsCharged (o .tree) x (entries e) + chargedOver (observed o e) x stretch
+
+-- A client has a request waiting when, since its join, more requests were accepted for it than entries dispatched.
+unfoldable pub waits : Observer → ℕ → Bool
+waits o k = ltb (o .sent k) (o .asked k)
+
+-- After each call of the stretch client k has a request waiting.
+unfoldable pub waitsThroughout : Observer → ℕ → List Event → Bool
+waitsThroughout o k [] = true
+waitsThroughout o k (e ∷ stretch) = every (waits (observed o e) k ∷ waitsThroughout (observed o e) k stretch ∷ [])
+
+-- Whether a call takes node c out where it is accepted.
+unfoldable pub leaves : ℕ → Call → Bool
+leaves c (join node parent sort kind share depth) = false
+leaves c (leave node) = eqb (plus node) c
+leaves c (changeShare node kind share) = false
+leaves c (changeRate rate) = false
+leaves c (request client tag size) = false
+leaves c (tick list) = false
+
+-- No accepted leave of the stretch takes node c out.
+unfoldable pub staysThroughout : ℕ → List Event → Bool
+staysThroughout c [] = true
+staysThroughout c (e ∷ stretch) = every (not (every (leaves c (e .call) ∷ accepts (e .answer) ∷ [])) ∷ staysThroughout c stretch ∷ [])

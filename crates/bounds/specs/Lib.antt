@@ -1,0 +1,4 @@
+pub mod Events
+pub mod Observer
+pub mod Counts
+pub mod Demand

@@ -1,0 +1,16 @@
+pub mod Sorts
+pub mod Frame
+pub mod Queues
+pub mod Reached
+pub mod Way
+pub mod Charge
+pub mod TakenOut
+pub mod Sweep
+pub mod Cut
+pub mod Grown
+pub mod Next
+pub mod Dispatch
+pub mod Served
+pub mod Lent
+pub mod Keeps
+pub mod Entries
