@@ -1,0 +1,3 @@
+pub mod Near
+pub mod Short
+pub mod Edges

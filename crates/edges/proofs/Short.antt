@@ -1,0 +1,136 @@
+-- Short forms of what a scenario's steps give. `simp` finds each: it rewrites the definition by the laws of Near and by
+-- the short forms found before, and what comes out is the value that antt computes.
+use Prim.Native.Nat.{ℕ}
+use mathlib.Core.Path.{_≡_, refl, fun-ext}
+use mathlib.Core.Bool.{Bool, _&&_}
+use mathlib.Core.List.{List}
+use lib.IntN.{ℤ, pos}
+use Rattle.table.specs.Places.{rate, balance, waiting, depthGrains}
+use Rattle.table.specs.Rates.{renewed}
+use Rattle.table.specs.Order.{limitsKept, spareInOrder, classInOrder, rateInOrder, childBalance, childBalances, balanceInOrder, arrivalsDiffer, inOrder}
+use Rattle.table.specs.Calls.{sharesAbove, depthsAbove, joinRefusal, joinTable, joinAnswer, requestRefusal, requestTable, requestAnswer, lookRefusal, lookAnswer}
+use Rattle.table.specs.Tick.{State, grown, servedAll, cut, allWaiting, stepTwo, stepThree, ticked, tickRefusal, tickTable, tickList, tickAnswer}
+use Rattle.edges.specs.Scenario.{disk, join, request, look, Step, _gives_, _lists_, _refuses_, setBalance, lentTo, answer, called, ticksAs, holds, after}
+use Rattle.edges.proofs.Near.{place-is, put-is, tree-is, unused-is, lent-is}
+
+-- A short form of x: a value that is equal to it.
+pub record Short {A : Type 0} (x : A) : Type 0 where
+  pub value : A
+  pub same : x ≡ value
+
+-- The short form that an equation gives, of all that is equal to x.
+unfoldable pub by : {A : Type 0} {x v : A} → ((y : A) → y ≡ x → y ≡ v) → Short x
+by {x = x} {v = v} f = record { value = v; same = f x refl }
+
+-- A short form that uses the value of another, which is computed once.
+unfoldable pub with : {A B : Type 0} {x : A} {y : B} → Short x → ((a : A) → x ≡ a → Short y) → Short y
+with s f = f (s .value) (s .same)
+
+-- Short forms of what a function gives are one of the function, and an equation at each argument.
+unfoldable pub each : {A B : Type 0} {f : A → B} → ((a : A) → Short (f a)) → Short f
+each s = record { value = λ a. s a .value; same = fun-ext (λ a. s a .same) }
+
+pub is : {A B : Type 0} {f : A → B} (s : (a : A) → Short (f a)) (a : A) → f a ≡ s a .value
+is s a = s a .same
+
+-- In order.
+unfoldable pub shortLimits : (t : List ℤ) → Short (limitsKept t)
+unfolding limitsKept
+shortLimits t = each (λ k. by (λ y e. simp place-is at e))
+
+unfoldable pub shortSpare : (t : List ℤ) → Short (spareInOrder t)
+unfolding spareInOrder waiting
+shortSpare t = each (λ k. by (λ y e. simp place-is at e))
+
+unfoldable pub shortClass : (t : List ℤ) → Short (classInOrder t)
+unfolding classInOrder
+shortClass t = each (λ c. by (λ y e. simp tree-is at e))
+
+unfoldable pub shortRate : (t : List ℤ) → Short (rateInOrder t)
+unfolding rateInOrder
+shortRate t = each (λ k. by (λ y e. simp tree-is at e))
+
+unfoldable pub shortChild : (t : List ℤ) (c : ℕ) → Short (childBalance t c)
+unfolding childBalance
+shortChild t c = each (λ k. by (λ y e. simp tree-is at e))
+
+unfoldable pub shortBalance : (t : List ℤ) → Short (balanceInOrder t)
+unfolding balanceInOrder childBalances
+shortBalance t = each (λ k. by (λ y e. simp (tree-is, shortChild t k .same) at e))
+
+unfoldable pub shortArrivals : (t : List ℤ) → Short (arrivalsDiffer t)
+unfolding arrivalsDiffer waiting
+shortArrivals t = each (λ k. by (λ y e. simp place-is at e))
+
+unfoldable pub shortInOrder : (t : List ℤ) → Short (inOrder t)
+unfolding inOrder
+shortInOrder t =
+    by
+    (λ y e.
+    simp (unused-is, tree-is, is shortLimits, is shortSpare, is shortClass, is shortRate, is shortBalance, is shortArrivals) at e)
+
+-- The refusals.
+unfoldable pub shortJoinRefusal : (t : List ℤ) (node parent sort kind share depth : ℤ) → Short (joinRefusal t node parent sort kind share depth)
+unfolding joinRefusal sharesAbove depthsAbove
+shortJoinRefusal t node parent sort kind share depth = by (λ y e. simp (is shortInOrder, tree-is) at e)
+
+unfoldable pub shortRequestRefusal : (t : List ℤ) (node tag size : ℤ) → Short (requestRefusal t node tag size)
+unfolding requestRefusal
+shortRequestRefusal t node tag size = by (λ y e. simp (is shortInOrder) at e)
+
+unfoldable pub shortLookRefusal : (t : List ℤ) (node : ℤ) → Short (lookRefusal t node)
+unfolding lookRefusal
+shortLookRefusal t node = by (λ y e. simp (is shortInOrder) at e)
+
+unfoldable pub shortWaiting : (t : List ℤ) → Short (waiting t)
+unfolding waiting
+shortWaiting t = each (λ k. by (λ y e. simp place-is at e))
+
+unfoldable pub shortAllWaiting : (t : List ℤ) → Short (allWaiting t)
+unfolding allWaiting
+shortAllWaiting t = by (λ y e. simp (is shortWaiting) at e)
+
+unfoldable pub shortTickRefusal : (t list : List ℤ) → Short (tickRefusal t list)
+unfolding tickRefusal
+shortTickRefusal t list = by (λ y e. simp (is shortInOrder, is shortAllWaiting) at e)
+
+-- The steps of tick.
+unfoldable pub shortGrown : (t : List ℤ) → Short (grown t)
+unfolding grown balance rate
+shortGrown t = by (λ y e. simp (place-is, put-is) at e)
+
+unfoldable pub shortServed : (st : State) → Short (servedAll st)
+unfolding servedAll waiting
+shortServed st = by (λ y e. simp place-is at e)
+
+unfoldable pub shortCut : (t : List ℤ) → Short (cut t)
+unfolding cut balance depthGrains
+shortCut t = by (λ y e. simp (place-is, put-is) at e)
+
+unfoldable pub shortStepTwo : (t : List ℤ) → Short (stepTwo t)
+unfolding stepTwo
+shortStepTwo t = by (λ y e. simp (is shortGrown, is shortServed) at e)
+
+unfoldable pub shortStepThree : (t : List ℤ) → Short (stepThree t)
+unfolding stepThree
+shortStepThree t = with (shortStepTwo t) (λ st h. by (λ y e. simp (h, is shortCut) at e))
+
+unfoldable pub shortTicked : (t : List ℤ) → Short (ticked t)
+unfolding ticked
+shortTicked t = with (shortStepThree t) (λ st h. by (λ y e. simp (h, is shortAllWaiting, lent-is) at e))
+
+-- A step, and a test of the table after it. The refusal, and what a tick does, are computed once for both.
+unfoldable pub shortStep : (step : Step) (rest : List ℤ → Bool) (t : List ℤ) → Short (holds step t && rest (after step t))
+unfolding holds after answer called ticksAs joinTable joinAnswer requestTable requestAnswer lookAnswer tickTable tickList tickAnswer renewed
+shortStep (disk r d gives o) rest t = record { value = _; same = refl }
+shortStep (join node parent sort kind share depth gives o) rest t =
+    with (shortJoinRefusal t (pos node) (pos parent) (pos sort) (pos kind) (pos share) (pos depth))
+    (λ n h. by (λ y e. simp (h, tree-is) at e))
+shortStep (request client tag size gives o) rest t =
+    with (shortRequestRefusal t (pos client) (pos tag) (pos size)) (λ n h. by (λ y e. simp h at e))
+shortStep (look node gives o) rest t = with (shortLookRefusal t (pos node)) (λ n h. by (λ y e. simp h at e))
+shortStep (c lists dispatches) rest t =
+    with (shortTickRefusal t (lentTo c)) (λ n h. with (shortTicked t) (λ st k. by (λ y e. simp (h, k) at e)))
+shortStep (c refuses refusal) rest t =
+    with (shortTickRefusal t (lentTo c)) (λ n h. with (shortTicked t) (λ st k. by (λ y e. simp (h, k) at e)))
+shortStep (setBalance node amount) rest t = by (λ y e. simp (is shortInOrder) at e)
