@@ -1,0 +1,39 @@
+-- The sums under a class are small where every record is in order.
+use Prim.Native.Nat.{ℕ, _*_, _≤_, _<_, _^_}
+use mathlib.Core.Path.{_≡_}
+use mathlib.Core.Bool.{true}
+use mathlib.Core.List.{List}
+use native.Mathlib.Omega.{arith}
+use lib.IntN.{ℤ}
+use Rattle.numbers.specs.Whole.{plus, minus}
+use Rattle.numbers.proofs.Sums.{sum-bound}
+use Rattle.table.specs.Places.{place, balance, depthGrains}
+use Rattle.table.specs.Tree.{treeOf, childOf, countIf, sumUnder}
+use Rattle.table.proofs.Facts.{limits-of}
+use Rattle.rating.specs.Sums.{term, Summable}
+use Rattle.rating.proofs.Summable.{SmallBalance, balances-summable}
+use Rattle.rating.proofs.Under.{child-small}
+use Rattle.records.specs.Record.{recordsInOrder}
+use Rattle.records.proofs.Bounds.{bounds}
+use Rattle.records.proofs.Nodes.{Node, node-at}
+
+-- A node's depth and the parts of its balance.
+pub record Small (t : List ℤ) (k : ℕ) : Type 0 where
+  pub depth : plus (place t k 5) ≤ 1000000
+  pub credit : plus (place t k 7) ≤ 1000000000
+  pub debt : minus (place t k 7) ≤ 4000000000
+
+pub small : (t : List ℤ) (k : ℕ) → Node t k → Small t k
+unfolding treeOf balance depthGrains
+small t k f = let b = bounds t k (f .limits) in omega arith
+
+pub summable : (which : ℕ) (t : List ℤ) → recordsInOrder t ≡ true → Summable which t
+unfolding balance
+summable which t h =
+    balances-summable which t (λ k hk e. limits-of t k (node-at t h k hk e .limits))
+    (λ k hk e. let s = small t k (node-at t h k hk e) in record { credit = omega arith; debt = omega arith })
+
+pub sum-small : (which : ℕ) (t : List ℤ) → recordsInOrder t ≡ true → (c : ℕ) → sumUnder (treeOf t) c (term which t) ≤ 2 ^ 63
+unfolding sumUnder
+sum-small which t h c =
+    omega (arith, sum-bound 64 (2 ^ 57) (λ k. countIf (childOf (treeOf t) c k) (term which t) k) (λ k hk. child-small which t (summable which t h) c k hk))

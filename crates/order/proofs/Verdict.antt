@@ -1,0 +1,181 @@
+-- The stages together are the definition: a table in order passes each, and a table that passes all is in order. Only the
+-- floor of the stage of records is no clause of the definition; it follows from the others (laws, Floors).
+use Prim.Native.Nat.{ℕ, _+_, _*_, _≤_, _<_}
+use mathlib.Core.Path.{_≡_, refl, sym, ap, _∙_}
+use mathlib.Core.Bool.{Bool, true, false, not}
+use mathlib.Core.List.{List}
+use native.Mathlib.Omega.{arith}
+use borrow.Author.Tests.{leb-true, le-leb, eq-eqb, eqb-false, not-true, not-false}
+use lib.ListN.{length}
+use lib.Dec.{eqb}
+use lib.IntN.{ℤ, pos}
+use Rattle.numbers.specs.Whole.{plus, minus}
+use Rattle.numbers.specs.Below.{allBelow}
+use Rattle.numbers.proofs.Tests.{by-test, true-false}
+use Rattle.numbers.proofs.Every.{head-holds, rest-hold, holds-with, none-left}
+use Rattle.numbers.proofs.All.{all-at, all-intro}
+use Rattle.numbers.proofs.Parts.{zarith, add-parts, one-is-zero, plus-pos}
+use Rattle.table.specs.Places.{place, balance, waiting, depthGrains}
+use Rattle.table.specs.Tree.{treeOf, there, isClass, isClient, sumUnder, eachNode, eachClass, eachClient}
+use Rattle.table.specs.Rates.{fixedSum}
+use Rattle.table.specs.Order.{isZero, headerInOrder, unusedInOrder, limitsKept, spareInOrder, rootInOrder, parentInOrder, classInOrder, rateInOrder, balanceInOrder, requestInOrder, queueInOrder, arrivalsDiffer, inOrder}
+use Rattle.table.proofs.Facts.{InOrder, facts, each-at, at-each, at-zero, zero-at as zero-of, limits-of, root-of, child-of, of-balance}
+use Rattle.laws.proofs.Children.{balances-parts}
+use Rattle.laws.proofs.Children.{class-there}
+use Rattle.laws.proofs.Floors.{grounds, balance-room, node-floor}
+use Rattle.rating.specs.Rated.{Rated}
+use Rattle.rating.proofs.Rated.{rated-of}
+use Rattle.records.specs.Record.{recordsInOrder}
+use Rattle.queues.specs.Waiting.{waitingInOrder}
+use Rattle.order.specs.Cover.{classCovers}
+use Rattle.records.proofs.Bounds.{bounds}
+use Rattle.records.proofs.Nodes.{Node, node-at, zero-at, records-by}
+
+pub record Stages (t : List ℤ) : Type 0 where
+  pub long : length t ≡ 2568
+  pub header : headerInOrder t ≡ true
+  pub root : rootInOrder t ≡ true
+  pub records : recordsInOrder t ≡ true
+  pub classes : eachClass (treeOf t) (classCovers t) ≡ true
+  pub rates : eachNode (treeOf t) (rateInOrder t) ≡ true
+  pub queues : allBelow 64 (waitingInOrder t) ≡ true
+
+-- What a class covers, as facts.
+pub record Covers (t : List ℤ) (c : ℕ) : Type 0 where
+  pub shares : fixedSum (treeOf t) c ≤ 10000
+  pub depths : sumUnder (treeOf t) c (treeOf t .depth) ≤ treeOf t .depth c
+  pub line : sumUnder (treeOf t) c (λ k. plus (balance t k)) + minus (balance t c) ≤ sumUnder (treeOf t) c (λ k. minus (balance t k)) + plus (balance t c) + depthGrains t c
+
+covers-of : (t : List ℤ) (c : ℕ) → classCovers t c ≡ true → Covers t c
+unfolding classCovers
+covers-of t c h =
+    let h1 = rest-hold _ _ h in
+    record {
+      shares = leb-true (fixedSum (treeOf t) c) 10000 (head-holds _ _ h);
+      depths = leb-true (sumUnder (treeOf t) c (treeOf t .depth)) (treeOf t .depth c) (head-holds _ _ h1);
+      line = leb-true (sumUnder (treeOf t) c (λ k. plus (balance t k)) + minus (balance t c)) (sumUnder (treeOf t) c (λ k. minus (balance t k)) + plus (balance t c) + depthGrains t c) (head-holds _ _ (rest-hold _ _ h1));
+    }
+
+of-covers : (t : List ℤ) (c : ℕ) → Covers t c → classCovers t c ≡ true
+unfolding classCovers
+of-covers t c f =
+    holds-with _ _ (le-leb _ _ (f .shares)) (holds-with _ _ (le-leb _ _ (f .depths)) (holds-with _ _ (le-leb _ _ (f .line)) none-left))
+
+pub covers-at : (t : List ℤ) → eachClass (treeOf t) (classCovers t) ≡ true → (c : ℕ) → c < 64 → isClass (treeOf t) c ≡ true → Covers t c
+unfolding eachClass
+covers-at t h c hc e = covers-of t c (each-at (isClass (treeOf t)) (classCovers t) h c hc e)
+
+-- A node at which requests wait is a client.
+idle : (t : List ℤ) → InOrder t → (k : ℕ) → k < 64 → isClient (treeOf t) k ≡ false → waiting t k ≡ 0
+unfolding treeOf there isClass isClient waiting
+idle t f k hk other =
+    by-test (isClass (treeOf t) k) (λ e. f .class k hk e .idle)
+    (λ d. by-test (there (treeOf t) k)
+    (λ e.
+    let l = f .limits k hk e in
+    omega (arith, zarith, eqb-false (plus (place t k 0)) 2 other, eqb-false (plus (place t k 0)) 1 d))
+    (λ e. ap plus (f .empty k hk e 8 (omega arith)) ∙ plus-pos 0))
+
+queue-empty : (t : List ℤ) (k : ℕ) → waiting t k ≡ 0 → queueInOrder t k ≡ true
+unfolding queueInOrder
+queue-empty t k e = all-intro (waiting t k) (requestInOrder t k) (λ i hi. absurd (omega arith))
+
+-- A table in order passes each stage.
+node-in : (t : List ℤ) → inOrder t ≡ true → (k : ℕ) → k < 64 → there (treeOf t) k ≡ true → Node t k
+unfolding inOrder eachNode plus minus
+node-in t h k hk e =
+    let f = facts t h in
+    let h4 = rest-hold _ _ (rest-hold _ _ (rest-hold _ _ (rest-hold _ _ h))) in
+    let b = f .balances k hk e in
+    record {
+      limits = each-at (there (treeOf t)) (limitsKept t) (head-holds _ _ (rest-hold _ _ (rest-hold _ _ (rest-hold _ _ h)))) k hk e;
+      spare = each-at (there (treeOf t)) (spareInOrder t) (head-holds _ _ h4) k hk e;
+      parent = each-at (there (treeOf t)) (parentInOrder (treeOf t)) (head-holds _ _ (rest-hold _ _ (rest-hold _ _ h4))) k hk e;
+      level = λ d. f .class k hk d .level;
+      idle = λ d. f .class k hk d .idle;
+      most = omega (arith, zarith, b .most, one-is-zero (balance t k));
+      least = node-floor t (grounds t f) k hk e;
+      client = λ d. omega (arith, zarith, b .client d, one-is-zero (balance t k));
+    }
+
+pub stages : (t : List ℤ) → inOrder t ≡ true → Stages t
+unfolding inOrder eachClass eachNode eachClient unusedInOrder waitingInOrder depthGrains treeOf
+stages t h =
+    let f = facts t h in
+    let h1 = rest-hold _ _ h in
+    let h2 = rest-hold _ _ h1 in
+    let h5 = rest-hold _ _ (rest-hold _ _ (rest-hold _ _ h2)) in
+    let h8 = rest-hold _ _ (rest-hold _ _ (rest-hold _ _ h5)) in
+    let h10 = rest-hold _ _ (rest-hold _ _ h8) in
+    record {
+      long = f .long;
+      header = head-holds _ _ h1;
+      root = head-holds _ _ h5;
+      records = records-by t (node-in t h) (λ k hk e. all-intro 40 (λ p. isZero (place t k p)) (λ p hp. at-zero _ (f .empty k hk e p hp)));
+      classes = at-each (isClass (treeOf t)) (classCovers t)
+          (λ c hc e.
+          let r = balance-room t c (f .balances c hc (class-there (treeOf t) c e)) .class e in
+          of-covers t c (record { shares = f .class c hc e .shares; depths = f .class c hc e .depths; line = omega arith }));
+      rates = head-holds _ _ h8;
+      queues = all-intro 64 (waitingInOrder t)
+          (λ k hk.
+          holds-with _ _
+          (by-test (isClient (treeOf t) k) (λ e. each-at (isClient (treeOf t)) (queueInOrder t) (head-holds _ _ h10) k hk e)
+          (λ e. queue-empty t k (idle t f k hk e)))
+          (holds-with _ _ (all-at 64 (arrivalsDiffer t) (head-holds _ _ (rest-hold _ _ h10)) k hk) none-left));
+    }
+
+-- A table that passes all is in order.
+class-in : (t : List ℤ) (c : ℕ) → isClass (treeOf t) c ≡ true → Node t c → Covers t c → classInOrder t c ≡ true
+unfolding classInOrder
+class-in t c e n f =
+    holds-with _ _ (le-leb _ _ (n .level e))
+    (holds-with _ _ (eq-eqb _ _ (n .idle e)) (holds-with _ _ (le-leb _ _ (f .shares)) (holds-with _ _ (le-leb _ _ (f .depths)) none-left)))
+
+balance-in : (t : List ℤ) (k : ℕ) → Node t k → (isClass (treeOf t) k ≡ true → Covers t k) → balanceInOrder t k ≡ true
+unfolding plus minus
+balance-in t k n f =
+    of-balance t k
+    (record {
+      most = omega (arith, zarith, n .most);
+      class = λ e. omega (arith, zarith, f e .line, balances-parts t k, add-parts (balance t k) (pos (depthGrains t k)));
+      client = λ e. omega (arith, zarith, n .client e);
+    })
+
+pub from-stages : (t : List ℤ) → Stages t → inOrder t ≡ true
+unfolding inOrder eachClass eachNode eachClient unusedInOrder waitingInOrder
+from-stages t s =
+    let node = node-at t (s .records) in
+    let covers = covers-at t (s .classes) in
+    let queue = all-at 64 (waitingInOrder t) (s .queues) in
+    holds-with _ _ (eq-eqb _ _ (s .long))
+    (holds-with _ _ (s .header)
+    (holds-with _ _ (at-each (λ k. not (there (treeOf t) k)) (λ k. allBelow 40 (λ p. isZero (place t k p))) (λ k hk e. zero-at t (s .records) k hk (not-true _ e)))
+    (holds-with _ _ (at-each (there (treeOf t)) (limitsKept t) (λ k hk e. node k hk e .limits))
+    (holds-with _ _ (at-each (there (treeOf t)) (spareInOrder t) (λ k hk e. node k hk e .spare))
+    (holds-with _ _ (s .root)
+    (holds-with _ _ (at-each (there (treeOf t)) (parentInOrder (treeOf t)) (λ k hk e. node k hk e .parent))
+    (holds-with _ _ (at-each (isClass (treeOf t)) (classInOrder t) (λ c hc e. class-in t c e (node c hc (class-there (treeOf t) c e)) (covers c hc e)))
+    (holds-with _ _ (s .rates)
+    (holds-with _ _ (at-each (there (treeOf t)) (balanceInOrder t) (λ k hk e. balance-in t k (node k hk e) (covers k hk)))
+    (holds-with _ _ (at-each (isClient (treeOf t)) (queueInOrder t) (λ k hk e. head-holds _ _ (queue k hk)))
+    (holds-with _ _ (all-intro 64 (arrivalsDiffer t) (λ k hk. head-holds _ _ (rest-hold _ _ (queue k hk)))) none-left)))))))))))
+
+-- What the stages up to the classes make of a table: its rates can be reckoned.
+pub can-be-rated : (t : List ℤ) → length t ≡ 2568 → rootInOrder t ≡ true → recordsInOrder t ≡ true → eachClass (treeOf t) (classCovers t) ≡ true → Rated t
+can-be-rated t long root records classes =
+    let node = node-at t records in
+    rated-of t long (root-of t root) (λ k hk e. limits-of t k (node k hk e .limits)) (λ k hk e ne. child-of (treeOf t) k (node k hk e .parent) ne)
+    (λ c hc e. covers-at t classes c hc e .shares)
+
+-- No node has more than 8 requests waiting.
+pub waiting-small : (t : List ℤ) → recordsInOrder t ≡ true → (k : ℕ) → k < 64 → waiting t k ≤ 8
+unfolding waiting
+waiting-small t h k hk =
+    by-test (there (treeOf t) k) (λ e. bounds t k (node-at t h k hk e .limits) .waiting)
+    (λ e. omega (arith, ap plus (zero-of _ (all-at 40 (λ p. isZero (place t k p)) (zero-at t h k hk e) 8 (omega arith))), plus-pos 0))
+
+-- One stage that fails is enough.
+pub out-of-order : (t : List ℤ) (b : Bool) → (Stages t → b ≡ true) → b ≡ false → false ≡ inOrder t
+out-of-order t b passes fails =
+    sym (by-test (inOrder t) (λ h. absurd (true-false (passes (stages t h)) fails)) (λ h. h))

@@ -1,0 +1,80 @@
+-- `order::classes::class_covers` meets its contract: three tests together.
+use Prim.Native.Nat.{ℕ, _+_, _*_}
+use mathlib.Core.Path.{_≡_, sym, ap, ap₂, _∙_}
+use mathlib.Core.Bool.{true}
+use native.Mathlib.Omega.{arith}
+use borrow.Author.Tests.{not-true, not-false}
+use lib.Dec.{leb}
+use Rattle.table.specs.Places.{balance, depthGrains}
+use Rattle.table.specs.Tree.{treeOf, isClass}
+use Rattle.laws.proofs.Children.{class-there}
+use Rattle.order.specs.Cover.{classCovers}
+use Rattle.records.proofs.Joined.{joined-as, same-tests, last-test, test-here, test-past}
+use Rattle.records.proofs.Nodes.{Node, node-at}
+use Rattle.order.proofs.Totals.{small}
+use borrow.Author.Needs.{needs}
+use Rattle.order.proofs.classes.class_covers.Statement.{statement}
+use Rattle.order.proofs.classes.class_covers.Tie as tie
+
+-- Past the first test the node is a class.
+class : (c : tie.Else1) → isClass (treeOf (c .before .before .args .table .now)) (c .before .before .args .c) ≡ true
+class c = sym (c .before .is-class .ensures) ∙ not-false _ (c .if1 .left)
+
+node : (c : tie.Else1) → Node (c .before .before .args .table .now) (c .before .before .args .c)
+node c = node-at _ (c .before .before .pre .2) _ (c .before .before .pre .1) (class-there _ _ (class c))
+
+is-class-requires : tie.Need-is-class-requires
+is-class-requires c κs = search needs
+
+returns : tie.Need-returns
+returns c = sym (test-past _ _ _ (sym (c .before .is-class .ensures) ∙ not-true _ (c .if1 .taken)))
+
+natural-requires : tie.Need-natural-requires
+natural-requires c κs = search needs
+
+negative-requires : tie.Need-negative-requires
+negative-requires c κs = search needs
+
+add-needed : tie.Need-add-needed
+add-needed c = omega (arith, small _ _ (node (c .before .before)))
+
+natural-requires-2 : tie.Need-natural-requires-2
+natural-requires-2 c κs = search needs
+
+add-covered : tie.Need-add-covered
+add-covered c = omega (arith, small _ _ (node (c .before .before .before)))
+
+mul-covered : tie.Need-mul-covered
+mul-covered c = omega (arith, small _ _ (node (c .before .before .before)))
+
+add-covered-2 : tie.Need-add-covered-2
+add-covered-2 c = omega (arith, small _ _ (node (c .before .before .before)))
+
+returns-2 : tie.Need-returns-2
+unfolding treeOf classCovers balance depthGrains
+returns-2 c =
+    let start = c .before .before .before .before .before in
+    let sums = start .pre .3 in
+    let depth = c .before .before .natural .ensures in
+    let needed = ap₂ _+_ (sums .credits) (c .before .negative .ensures) in
+    let covered = ap₂ _+_ (ap₂ _+_ (sums .debts) (c .natural2 .ensures)) (ap (λ (n : ℕ). n * 1000) depth) in
+    joined-as
+    (same-tests (ap (λ (n : ℕ). leb n 10000) (sums .fixed))
+    (same-tests (ap₂ leb (sums .depths) depth)
+    (last-test (ap₂ leb needed covered))))
+    ∙ sym (test-here _ (classCovers (start .args .table .now)) _ (class (c .before .before .before)))
+
+pub class-covers-spec : {M : Type 1} → statement M
+class-covers-spec =
+    tie.close
+    (tie.spec
+    is-class-requires
+    returns
+    natural-requires
+    negative-requires
+    add-needed
+    natural-requires-2
+    add-covered
+    mul-covered
+    add-covered-2
+    returns-2)

@@ -1,0 +1,103 @@
+-- `order::in_order` meets its contract: a stage that fails is enough to say no, and all together say yes.
+use mathlib.Core.Path.{_≡_, sym, _∙_}
+use mathlib.Core.Bool.{true, _&&_}
+use borrow.Author.Tests.{eq-eqb, ne-eqb, not-true, not-false}
+use lib.ListN.{length}
+use lib.Dec.{eqb}
+use Rattle.numbers.proofs.Tests.{same-truth, and-true, and-left, and-right}
+use Rattle.table.specs.Tree.{treeOf, eachClass}
+use Rattle.table.specs.Order.{headerInOrder, rootInOrder, inOrder}
+use Rattle.records.specs.Record.{recordsInOrder}
+use Rattle.order.specs.Cover.{classCovers}
+use Rattle.order.proofs.Verdict.{stages, from-stages, out-of-order, can-be-rated, waiting-small}
+use borrow.Author.Needs.{needs}
+use Rattle.order.proofs.in_order.Statement.{statement}
+use Rattle.order.proofs.in_order.Tie as tie
+
+-- What is known past each test.
+long : (c : tie.Else2) → length (c .before .before .before .before .before .args .table .now) ≡ 2568
+long c = c .before .before .before .before .if1 .left
+
+shaped : (c : tie.Else2) → (c .before .before .before .header-in-order .result && c .before .before .root-in-order .result && c .before .records-in-order .result) ≡ true
+shaped c = not-false _ (c .if2 .left)
+
+header : (c : tie.Else2) → headerInOrder (c .before .before .before .before .before .args .table .now) ≡ true
+header c = sym (c .before .before .before .header-in-order .ensures) ∙ and-left (c .before .before .before .header-in-order .result) _ (and-left _ (c .before .records-in-order .result) (shaped c))
+
+root : (c : tie.Else2) → rootInOrder (c .before .before .before .before .before .args .table .now) ≡ true
+root c = sym (c .before .before .root-in-order .ensures) ∙ and-right (c .before .before .before .header-in-order .result) _ (and-left _ (c .before .records-in-order .result) (shaped c))
+
+records : (c : tie.Else2) → recordsInOrder (c .before .before .before .before .before .args .table .now) ≡ true
+records c = sym (c .before .records-in-order .ensures) ∙ and-right (c .before .before .before .header-in-order .result && c .before .before .root-in-order .result) _ (shaped c)
+
+covered : (c : tie.Else3) → eachClass (treeOf (c .before .before .before .before .before .before .before .args .table .now)) (classCovers (c .before .before .before .before .before .before .before .args .table .now)) ≡ true
+covered c = sym (c .before .classes-cover .ensures) ∙ not-false _ (c .if3 .left)
+
+returns : tie.Need-returns
+returns c =
+    let t = c .before .args .table .now in
+    out-of-order t (eqb (length t) 2568) (λ s. eq-eqb (length t) 2568 (s .long)) (ne-eqb (length t) 2568 (c .if1 .taken))
+
+header-in-order-requires : tie.Need-header-in-order-requires
+header-in-order-requires c κs = search needs
+
+root-in-order-requires : tie.Need-root-in-order-requires
+root-in-order-requires c κs = search needs
+
+records-in-order-requires : tie.Need-records-in-order-requires
+records-in-order-requires c κs = search needs
+
+returns-2 : tie.Need-returns-2
+returns-2 c =
+    let header = c .before .before .before .header-in-order in
+    let root = c .before .before .root-in-order in
+    let each = c .before .records-in-order in
+    out-of-order _ (header .result && root .result && each .result)
+    (λ s. and-true (header .result && root .result) (each .result) (and-true (header .result) (root .result) (header .ensures ∙ s .header) (root .ensures ∙ s .root)) (each .ensures ∙ s .records))
+    (not-true _ (c .if2 .taken))
+
+classes-cover-requires : tie.Need-classes-cover-requires
+classes-cover-requires c κs = (long c, records c)
+
+returns-3 : tie.Need-returns-3
+returns-3 c = out-of-order _ (c .before .classes-cover .result) (λ s. c .before .classes-cover .ensures ∙ s .classes) (not-true _ (c .if3 .taken))
+
+rates-in-order-requires : tie.Need-rates-in-order-requires
+rates-in-order-requires c κs = can-be-rated _ (long (c .before .before)) (root (c .before .before)) (records (c .before .before)) (covered c)
+
+queues-in-order-requires : tie.Need-queues-in-order-requires
+queues-in-order-requires c κs = (long (c .before .before .before), waiting-small _ (records (c .before .before .before)))
+
+returns-4 : tie.Need-returns-4
+returns-4 c =
+    let shaped = c .before .before .before .before in
+    let rates = c .before .rates-in-order in
+    let queues = c .queues-in-order in
+    same-truth (rates .result && queues .result) (inOrder (shaped .before .before .before .before .before .args .table .now))
+    (λ h.
+    from-stages _
+    (record {
+      long = long shaped;
+      header = header shaped;
+      root = root shaped;
+      records = records shaped;
+      classes = covered (c .before .before);
+      rates = sym (rates .ensures) ∙ and-left (rates .result) (queues .result) h;
+      queues = sym (queues .ensures) ∙ and-right (rates .result) (queues .result) h;
+    }))
+    (λ h. let s = stages _ h in and-true (rates .result) (queues .result) (rates .ensures ∙ s .rates) (queues .ensures ∙ s .queues))
+
+pub in-order-spec : {M : Type 1} → statement M
+in-order-spec =
+    tie.close
+    (tie.spec
+    returns
+    header-in-order-requires
+    root-in-order-requires
+    records-in-order-requires
+    returns-2
+    classes-cover-requires
+    returns-3
+    rates-in-order-requires
+    queues-in-order-requires
+    returns-4)

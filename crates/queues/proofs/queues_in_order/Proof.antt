@@ -1,0 +1,58 @@
+-- `queues::queues_in_order` meets its contract. The invariant: every node's requests so far are in order.
+use Prim.Native.Nat.{_≤_, _-_}
+use mathlib.Core.Path.{_≡_, refl, sym, _∙_}
+use native.Mathlib.Omega.{arith}
+use Rattle.numbers.specs.Tests.{every}
+use Rattle.numbers.specs.Below.{allBelow}
+use Rattle.numbers.proofs.All.{all-next}
+use Rattle.queues.specs.Waiting.{waitingInOrder}
+use Rattle.records.proofs.Joined.{joined-as, same-tests, last-test, all-done}
+use Rattle.queues.proofs.queues_in_order.Statement.{statement}
+use Rattle.queues.proofs.queues_in_order.Tie as tie
+
+abbrev Inv-loop : tie.InvT-loop
+Inv-loop table ok₀ k₀ ok k = (k ≤ 64) × (ok ≡ allBelow k (waitingInOrder table))
+
+abbrev μ-loop : tie.MeasureT-loop
+μ-loop table ok₀ k₀ ok k = 64 - k
+
+loop-holds : tie.Need-loop-holds Inv-loop μ-loop
+unfolding allBelow
+loop-holds c = (omega arith, refl)
+
+queue-in-order-requires : tie.Need-queue-in-order-requires Inv-loop μ-loop
+queue-in-order-requires c κs = omega (arith, c .before .before .pre .1 (c .before .loop .k) (omega arith))
+
+arrivals-differ-requires : tie.Need-arrivals-differ-requires Inv-loop μ-loop
+arrivals-differ-requires c κs = (c .before .before .before .pre .0, omega arith, c .before .before .before .pre .1)
+
+add-k : tie.Need-add-k Inv-loop μ-loop
+add-k c = omega arith
+
+loop-less : tie.Need-loop-less Inv-loop μ-loop
+loop-less c = omega arith
+
+loop-again : tie.Need-loop-again Inv-loop μ-loop
+unfolding every waitingInOrder
+loop-again c = (
+  omega arith,
+  joined-as (same-tests (c .before .before .before .loop .inv .1) (same-tests (c .before .queue-in-order .ensures) (last-test (c .arrivals-differ .ensures))))
+      ∙ sym (all-next _ _),
+)
+
+returns : tie.Need-returns Inv-loop μ-loop
+returns c = all-done _ _ _ _ (c .before .loop .inv .1) (omega arith)
+
+pub queues-in-order-spec : {M : Type 1} → statement M
+queues-in-order-spec =
+    tie.close
+    (tie.spec
+    Inv-loop
+    μ-loop
+    loop-holds
+    queue-in-order-requires
+    arrivals-differ-requires
+    add-k
+    loop-less
+    loop-again
+    returns)

@@ -1,0 +1,132 @@
+// The waiting requests: their sizes and arrival numbers.
+use table::Table;
+ghost use mathlib.Core.Path.{_≡_};
+ghost use Prim.Native.Nat.{ℕ, _-_, _<_, _≤_};
+ghost use mathlib.Core.Bool.{_||_};
+ghost use lib.ListN.{length};
+ghost use lib.Dec.{eqb, ltb};
+ghost use Rattle.numbers.specs.Below.{allBelow};
+ghost use Rattle.table.specs.Limits.{tableLength, nodes, mostWaiting};
+ghost use Rattle.table.specs.Places.{waiting, arrival};
+ghost use Rattle.table.specs.Order.{requestInOrder, queueInOrder, differsAt, arrivalsDiffer};
+ghost use Rattle.queues.specs.Waiting.{waitingInOrder};
+
+// How many requests wait at node k.
+pub fn waiting(table: &[i64], k: usize) -> usize
+    requires { ⌜ (length (now table) ≡ tableLength) × (k < nodes) ⌝ }
+    ensures { λ r. ⌜ r ≡ waiting (now (table .entry)) k ⌝ }
+{
+    Table::natural(table, k, Table::WAITING) as usize
+}
+
+// The arrival number of waiting request i of node k.
+pub fn arrival(table: &[i64], k: usize, i: usize) -> u64
+    requires { ⌜ (length (now table) ≡ tableLength) × (k < nodes) × (i < mostWaiting) ⌝ }
+    ensures { λ r. ⌜ r ≡ arrival (now (table .entry)) k i ⌝ }
+{
+    Table::natural(table, k, Table::QUEUE + Table::REQUEST * i + Table::ARRIVAL)
+}
+
+// Whether request i of node k arrived after the one before it.
+fn rising(table: &[i64], k: usize, i: usize) -> bool
+    requires { ⌜ (length (now table) ≡ tableLength) × (k < nodes) × (i < mostWaiting) ⌝ }
+    ensures { λ r. ⌜ r ≡ (eqb i 0 || ltb (arrival (now (table .entry)) k (i - 1)) (arrival (now (table .entry)) k i)) ⌝ }
+{
+    if i == 0 {
+        return true;
+    }
+    arrival(table, k, i - 1) < arrival(table, k, i)
+}
+
+// Whether request i of node k is in order.
+fn request_in_order(table: &[i64], k: usize, i: usize) -> bool
+    requires { ⌜ (length (now table) ≡ tableLength) × (k < nodes) × (i < mostWaiting) ⌝ }
+    ensures { λ r. ⌜ r ≡ requestInOrder (now (table .entry)) k i ⌝ }
+{
+    let place = Table::QUEUE + Table::REQUEST * i;
+    let size = records::place_within(
+        table,
+        k,
+        place + Table::SIZE,
+        1,
+        Table::natural(table, k, Table::DEPTH),
+    );
+    let number = records::place_within(table, k, place + Table::ARRIVAL, 1, Table::count(table));
+    let rising = rising(table, k, i);
+    size & number & rising
+}
+
+// Whether every request of node k is in order.
+fn queue_in_order(table: &[i64], k: usize) -> bool
+    requires { ⌜ (length (now table) ≡ tableLength) × (k < nodes) × (waiting (now table) k ≤ mostWaiting) ⌝ }
+    ensures { λ r. ⌜ r ≡ queueInOrder (now (table .entry)) k ⌝ }
+{
+    let n = waiting(table, k);
+    let mut ok = true;
+    let mut i: usize = 0;
+    while i < n {
+        ok = ok & request_in_order(table, k, i);
+        i += 1;
+    }
+    ok
+}
+
+// Whether arrival number a differs from those that wait at node j.
+fn differs_at(table: &[i64], a: u64, j: usize) -> bool
+    requires { ⌜ (length (now table) ≡ tableLength) × (j < nodes) × (waiting (now table) j ≤ mostWaiting) ⌝ }
+    ensures { λ r. ⌜ r ≡ differsAt (now (table .entry)) a j ⌝ }
+{
+    let n = waiting(table, j);
+    let mut ok = true;
+    let mut i: usize = 0;
+    while i < n {
+        ok = ok & (a != arrival(table, j, i));
+        i += 1;
+    }
+    ok
+}
+
+// Whether it differs from those of every node below k.
+fn differs_below(table: &[i64], a: u64, k: usize) -> bool
+    requires { ⌜ (length (now table) ≡ tableLength) × (k ≤ nodes) × ((j : ℕ) → j < nodes → waiting (now table) j ≤ mostWaiting) ⌝ }
+    ensures { λ r. ⌜ r ≡ allBelow k (differsAt (now (table .entry)) a) ⌝ }
+{
+    let mut ok = true;
+    let mut j: usize = 0;
+    while j < k {
+        ok = ok & differs_at(table, a, j);
+        j += 1;
+    }
+    ok
+}
+
+// Whether the arrival numbers of node k differ from those of every lower node.
+fn arrivals_differ(table: &[i64], k: usize) -> bool
+    requires { ⌜ (length (now table) ≡ tableLength) × (k < nodes) × ((j : ℕ) → j < nodes → waiting (now table) j ≤ mostWaiting) ⌝ }
+    ensures { λ r. ⌜ r ≡ arrivalsDiffer (now (table .entry)) k ⌝ }
+{
+    let n = waiting(table, k);
+    let mut ok = true;
+    let mut i: usize = 0;
+    while i < n {
+        ok = ok & differs_below(table, arrival(table, k, i), k);
+        i += 1;
+    }
+    ok
+}
+
+// Whether every waiting request is in order.
+pub fn queues_in_order(table: &[i64]) -> bool
+    requires { ⌜ (length (now table) ≡ tableLength) × ((j : ℕ) → j < nodes → waiting (now table) j ≤ mostWaiting) ⌝ }
+    ensures { λ r. ⌜ r ≡ allBelow nodes (waitingInOrder (now (table .entry))) ⌝ }
+{
+    let mut ok = true;
+    let mut k: usize = 0;
+    while k < Table::NODES {
+        let queue = queue_in_order(table, k);
+        let differ = arrivals_differ(table, k);
+        ok = ok & queue & differ;
+        k += 1;
+    }
+    ok
+}

@@ -1,0 +1,6 @@
+pub mod Terms
+pub mod Under
+pub mod Rated
+pub mod Levels
+pub mod Renewal
+pub mod Summable

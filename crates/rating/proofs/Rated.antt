@@ -1,0 +1,112 @@
+-- What a table that can be rated satisfies: its sums can be reckoned, its rates are at most the disk's. A table in order
+-- can be rated.
+use Prim.Native.Nat.{ℕ, zero, suc, _*_, _≤_, _<_}
+use mathlib.Core.Path.{_≡_, refl, ap, _∙_}
+use mathlib.Core.Bool.{true, false}
+use mathlib.Core.List.{List}
+use native.Mathlib.Omega.{arith}
+use native.Mathlib.Nat.{mul-le-mul}
+use native.Mathlib.Decide.{ℕ-discrete}
+use lib.ListN.{length}
+use lib.IntN.{ℤ}
+use Rattle.numbers.specs.Whole.{plus}
+use Rattle.numbers.proofs.Tests.{by-test}
+use Rattle.numbers.proofs.Parts.{plus-pos, zarith}
+use Rattle.table.specs.Places.{rate}
+use Rattle.table.specs.Tree.{Tree, treeOf, there, isClass, isFixed, childOf}
+use Rattle.table.specs.Rates.{fixedShare, weight, fixedSum, weightSum, rateIn}
+use Rattle.table.proofs.Facts.{Limits, Root, Child, InOrder}
+use Rattle.laws.proofs.Children.{child-of}
+use Rattle.laws.proofs.Children.{class-there}
+use Rattle.laws.proofs.Renewed.{rate-at-root}
+use Rattle.laws.proofs.Rounding.{rate-of-child, child-rate-le, weight-le-sum}
+use Rattle.rating.specs.Sums.{Summable}
+use Rattle.rating.specs.Rated.{Placed, Rated}
+use Rattle.rating.proofs.Terms.{fixed-term, weight-term}
+
+-- A rate times a share fits 64 bits.
+pub product-small : (r s : ℕ) → r ≤ 1000000000 → s ≤ 10000 → r * s ≤ 10000000000000
+product-small r s hr hs = mul-le-mul hr hs
+
+-- Shares that are counted are at most the share.
+pub fixed-share-le : (tree : Tree) (k : ℕ) → fixedShare tree k ≤ tree .share k
+unfolding fixedShare
+fixed-share-le tree k = by-test (isFixed tree k) (λ e. rw e (omega arith)) (λ e. rw e (omega arith))
+
+pub weight-le : (tree : Tree) (k : ℕ) → weight tree k ≤ tree .share k
+unfolding weight
+weight-le tree k = by-test (isFixed tree k) (λ e. rw e (omega arith)) (λ e. rw e (omega arith))
+
+-- A node that is there, but for the root, is a child of its parent.
+placed-child : (tree : Tree) (k : ℕ) → there tree k ≡ true → (k ≡ 0 → ⊥) → childOf tree (tree .parent k) k ≡ true
+placed-child tree k e ne = child-of tree (tree .parent k) k (record { there = e; below = ne; parent = refl })
+
+-- So the weights under its parent are more than nothing where it is weighted.
+pub weights-there : (tree : Tree) (k : ℕ) → k < 64 → there tree k ≡ true → (k ≡ 0 → ⊥) → Placed tree k → isFixed tree k ≡ false → 1 ≤ weightSum tree (tree .parent k)
+weights-there tree k hk e ne p weighted = omega (arith, weight-le-sum tree (tree .parent k) k hk (placed-child tree k e ne) weighted)
+
+module _ (t : List ℤ) (f : Rated t) where
+  pub fixed-summable : Summable 0 t
+  fixed-summable =
+      record {
+        parent = λ k hk e ne. f .node k hk e ne .parent;
+        small = λ k hk e ne. let p = f .node k hk e ne in omega (arith, fixed-term t k, fixed-share-le (treeOf t) k);
+      }
+
+  pub weight-summable : Summable 1 t
+  weight-summable =
+      record {
+        parent = λ k hk e ne. f .node k hk e ne .parent;
+        small = λ k hk e ne. let p = f .node k hk e ne in omega (arith, weight-term t k, weight-le (treeOf t) k);
+      }
+
+  -- A node at level 0 is the root.
+  pub only-root : (k : ℕ) → k < 64 → there (treeOf t) k ≡ true → treeOf t .level k ≡ 0 → k ≡ 0
+  only-root k hk e top = elim (ℕ-discrete k 0) [ yes z ↦ z | no ne ↦ absurd (let p = f .node k hk e ne in omega arith) ]
+
+  rate-le-at : (l k : ℕ) → treeOf t .level k ≡ l → k < 64 → there (treeOf t) k ≡ true → rateIn (treeOf t) (rate t 0) k ≤ rate t 0
+  rate-le-at zero k at hk e = omega (arith, rate-at-root (treeOf t) (rate t 0) k at)
+  rate-le-at (suc l) k at hk e =
+      let ne : k ≡ 0 → ⊥ = λ z. let top = f .top in omega (arith, ap (treeOf t .level) z) in
+      let p = f .node k hk e ne in
+      omega (
+        arith,
+        rate-of-child (treeOf t) (rate t 0) k (p .level),
+        child-rate-le (treeOf t) (treeOf t .parent k) (rateIn (treeOf t) (rate t 0) (treeOf t .parent k)) k hk (placed-child (treeOf t) k e ne) (p .most),
+        rate-le-at l (treeOf t .parent k) (omega arith) (p .parent) (p .above),
+      )
+
+  -- No rate exceeds the disk's.
+  pub rate-le-disk : (k : ℕ) → k < 64 → there (treeOf t) k ≡ true → rateIn (treeOf t) (rate t 0) k ≤ rate t 0
+  rate-le-disk k hk e = rate-le-at (treeOf t .level k) k refl hk e
+
+-- What makes a table rated: its root, the limits of its nodes, their parents, and the fixed shares under each class.
+pub rated-of : (t : List ℤ) → length t ≡ 2568 → Root t → ((k : ℕ) → k < 64 → there (treeOf t) k ≡ true → Limits t k) → ((k : ℕ) → k < 64 → there (treeOf t) k ≡ true → (k ≡ 0 → ⊥) → Child (treeOf t) k) → ((c : ℕ) → c < 64 → isClass (treeOf t) c ≡ true → fixedSum (treeOf t) c ≤ 10000) → Rated t
+unfolding treeOf rate
+rated-of t long root limits child shares =
+    record {
+      long = long;
+      top = ap plus (root .level) ∙ plus-pos 0;
+      disk = let r = root .rate in omega (arith, zarith);
+      node = λ k hk e ne.
+          let l = limits k hk e in
+          let c = child k hk e ne in
+          let parent : treeOf t .parent k < 64 = omega (arith, zarith) in
+          record {
+            parent = parent;
+            above = class-there (treeOf t) (treeOf t .parent k) (c .class);
+            level = c .level;
+            deep = omega (arith, zarith);
+            least = omega (arith, zarith);
+            most = omega (arith, zarith);
+            shares = shares (treeOf t .parent k) parent (c .class);
+          };
+    }
+
+-- A table in order can be rated.
+pub rated : (t : List ℤ) → InOrder t → Rated t
+rated t f = rated-of t (f .long) (f .root) (f .limits) (f .child) (λ c hc e. f .class c hc e .shares)
+
+-- So can every table with the same tree whose disk's rate is in its limit.
+pub rated-as : (t u : List ℤ) → Rated t → length u ≡ 2568 → treeOf u ≡ treeOf t → rate u 0 ≤ 1000000000 → Rated u
+rated-as t u f long tree disk = record { long = long; top = rw tree (f .top); disk = disk; node = rw tree (f .node) }

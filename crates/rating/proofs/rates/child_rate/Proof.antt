@@ -1,0 +1,56 @@
+-- `rating::rates::child_rate` meets its contract, by the kind of the share.
+use mathlib.Core.Path.{refl, sym, _∙_}
+use native.Mathlib.Omega.{arith}
+use Rattle.table.specs.Tree.{treeOf}
+use Rattle.laws.proofs.Rounding.{left-le, fixed-child, weighted-child}
+use Rattle.rating.proofs.Rated.{weights-there}
+use borrow.Author.Needs.{needs}
+use Rattle.rating.proofs.rates.child_rate.Statement.{statement}
+use Rattle.rating.proofs.rates.child_rate.Tie as tie
+
+natural-requires : tie.Need-natural-requires
+natural-requires c κs = search needs
+
+is-fixed-requires : tie.Need-is-fixed-requires
+is-fixed-requires c κs = search needs
+
+fixed-rate-requires : tie.Need-fixed-rate-requires
+unfolding treeOf
+fixed-rate-requires c κs = omega arith
+
+returns : tie.Need-returns
+unfolding treeOf
+returns c =
+    let start = c .before .before .before .before .args in
+    cc (fixed-child (treeOf (start .table .now)) (start .rate) (start .k) (sym (c .before .before .is-fixed .ensures) ∙ c .before .if1 .taken))
+
+left-rate-requires : tie.Need-left-rate-requires
+left-rate-requires c κs = search needs
+
+weighted-rate-requires : tie.Need-weighted-rate-requires
+unfolding treeOf
+weighted-rate-requires c κs =
+    let start = c .before .before .before .before in
+    omega (
+      arith,
+      left-le (start .args .rate) (start .args .fixed),
+      weights-there (treeOf (start .args .table .now)) (start .args .k) (omega arith) (start .pre .3) (λ e. omega arith) (start .pre .4) (sym (c .before .before .is-fixed .ensures) ∙ c .before .if1 .left),
+    )
+
+returns-2 : tie.Need-returns-2
+unfolding treeOf
+returns-2 c =
+    let start = c .before .before .before .before .before .args in
+    cc (weighted-child (treeOf (start .table .now)) (treeOf (start .table .now) .parent (start .k)) (start .rate) (start .k) refl (sym (c .before .before .before .is-fixed .ensures) ∙ c .before .before .if1 .left))
+
+pub child-rate-spec : {M : Type 1} → statement M
+child-rate-spec =
+    tie.close
+    (tie.spec
+    natural-requires
+    is-fixed-requires
+    fixed-rate-requires
+    returns
+    left-rate-requires
+    weighted-rate-requires
+    returns-2)

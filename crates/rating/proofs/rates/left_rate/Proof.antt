@@ -1,0 +1,22 @@
+-- `rating::rates::left_rate` meets its contract: the product fits 64 bits.
+use Prim.Native.Nat.{_-_}
+use mathlib.Core.Path.{refl}
+use native.Mathlib.Omega.{arith}
+use Rattle.table.specs.Rates.{leftRate}
+use Rattle.rating.proofs.Rated.{product-small}
+use borrow.Author.Needs.{needs}
+use Rattle.rating.proofs.rates.left_rate.Statement.{statement}
+use Rattle.rating.proofs.rates.left_rate.Tie as tie
+
+sub-result : tie.Need-sub-result
+sub-result c = search needs
+
+mul-result : tie.Need-mul-result
+mul-result c = omega (arith, product-small (c .args .rate) (10000 - c .args .fixed) (omega arith) (omega arith))
+
+returns : tie.Need-returns
+unfolding leftRate
+returns c = refl
+
+pub left-rate-spec : {M : Type 1} → statement M
+left-rate-spec = tie.close (tie.spec sub-result mul-result returns)

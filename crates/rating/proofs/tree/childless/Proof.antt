@@ -1,0 +1,47 @@
+-- `rating::tree::childless` meets its contract. The invariant: the nodes so far are no children.
+use Prim.Native.Nat.{_≤_, _-_}
+use mathlib.Core.Path.{_≡_, refl}
+use mathlib.Core.Bool.{not}
+use native.Mathlib.Omega.{arith}
+use borrow.Author.Needs.{needs}
+use Rattle.numbers.specs.Below.{allBelow}
+use Rattle.numbers.proofs.All.{all-next}
+use Rattle.table.specs.Tree.{treeOf, childOf, childless}
+use Rattle.rating.proofs.tree.childless.Statement.{statement}
+use Rattle.rating.proofs.tree.childless.Tie as tie
+
+abbrev Inv-loop : tie.InvT-loop
+Inv-loop table c none₀ k₀ none k =
+    (k ≤ 64) × (none ≡ allBelow k (λ j. not (childOf (treeOf table) c j)))
+
+abbrev μ-loop : tie.MeasureT-loop
+μ-loop table c none₀ k₀ none k = 64 - k
+
+loop-holds : tie.Need-loop-holds Inv-loop μ-loop
+unfolding allBelow
+loop-holds c = (omega arith, refl)
+
+child-of-requires : tie.Need-child-of-requires Inv-loop μ-loop
+child-of-requires c κs = search needs
+
+add-k : tie.Need-add-k Inv-loop μ-loop
+add-k c = omega arith
+
+loop-less : tie.Need-loop-less Inv-loop μ-loop
+loop-less c = omega arith
+
+loop-again : tie.Need-loop-again Inv-loop μ-loop
+loop-again c =
+    let start = c .before .before .before .args in
+    (omega arith, cc (all-next (c .before .before .loop .k) (λ j. not (childOf (treeOf (start .table .now)) (start .c) j))))
+
+returns : tie.Need-returns Inv-loop μ-loop
+unfolding childless
+returns c =
+    let end : c .before .loop .k ≡ 64 = omega arith in
+    rw end at (c .before .loop .inv .1)
+
+pub childless-spec : {M : Type 1} → statement M
+childless-spec =
+    tie.close
+    (tie.spec Inv-loop μ-loop loop-holds child-of-requires add-k loop-less loop-again returns)

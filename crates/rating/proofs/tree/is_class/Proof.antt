@@ -1,0 +1,15 @@
+-- `rating::tree::is_class` meets its contract: the sort is that of a class.
+use Rattle.table.specs.Tree.{treeOf, isClass}
+use borrow.Author.Needs.{needs}
+use Rattle.rating.proofs.tree.is_class.Statement.{statement}
+use Rattle.rating.proofs.tree.is_class.Tie as tie
+
+natural-requires : tie.Need-natural-requires
+natural-requires c κs = search needs
+
+returns : tie.Need-returns
+unfolding treeOf isClass
+returns c = cc
+
+pub is-class-spec : {M : Type 1} → statement M
+is-class-spec = tie.close (tie.spec natural-requires returns)

@@ -1,0 +1,15 @@
+-- `rating::tree::is_client` meets its contract: the sort is that of a client.
+use Rattle.table.specs.Tree.{treeOf, isClient}
+use borrow.Author.Needs.{needs}
+use Rattle.rating.proofs.tree.is_client.Statement.{statement}
+use Rattle.rating.proofs.tree.is_client.Tie as tie
+
+natural-requires : tie.Need-natural-requires
+natural-requires c κs = search needs
+
+returns : tie.Need-returns
+unfolding treeOf isClient
+returns c = cc
+
+pub is-client-spec : {M : Type 1} → statement M
+is-client-spec = tie.close (tie.spec natural-requires returns)

@@ -1,0 +1,15 @@
+-- `rating::tree::is_fixed` meets its contract: the kind is fixed.
+use Rattle.table.specs.Tree.{treeOf, isFixed}
+use borrow.Author.Needs.{needs}
+use Rattle.rating.proofs.tree.is_fixed.Statement.{statement}
+use Rattle.rating.proofs.tree.is_fixed.Tie as tie
+
+natural-requires : tie.Need-natural-requires
+natural-requires c κs = search needs
+
+returns : tie.Need-returns
+unfolding treeOf isFixed
+returns c = cc
+
+pub is-fixed-spec : {M : Type 1} → statement M
+is-fixed-spec = tie.close (tie.spec natural-requires returns)

@@ -1,0 +1,15 @@
+-- `rating::tree::there` meets its contract: the sort is not 0.
+use Rattle.table.specs.Tree.{treeOf, there}
+use borrow.Author.Needs.{needs}
+use Rattle.rating.proofs.tree.there.Statement.{statement}
+use Rattle.rating.proofs.tree.there.Tie as tie
+
+natural-requires : tie.Need-natural-requires
+natural-requires c κs = search needs
+
+returns : tie.Need-returns
+unfolding treeOf there
+returns c = cc
+
+pub there-spec : {M : Type 1} → statement M
+there-spec = tie.close (tie.spec natural-requires returns)

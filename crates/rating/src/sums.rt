@@ -1,0 +1,101 @@
+// Sums over the children of a class.
+ghost use mathlib.Core.Path.{_≡_};
+ghost use Prim.Native.Nat.{ℕ, _<_};
+ghost use lib.ListN.{length, getD};
+ghost use Rattle.table.specs.Limits.{tableLength, nodes};
+ghost use Rattle.table.specs.Tree.{treeOf, childOf, countIf, sumUnder};
+ghost use Rattle.table.specs.Rates.{fixedShare, weight};
+ghost use Rattle.rating.specs.Sums.{term, Summable};
+use super::tree;
+use table::Table;
+
+// What is summed.
+pub const FIXED_SHARES: u64 = 0;
+
+pub const WEIGHTS: u64 = 1;
+
+pub const DEPTHS: u64 = 2;
+
+// The natural parts of the balances.
+pub const CREDITS: u64 = 3;
+
+// The negative parts of the balances.
+pub const DEBTS: u64 = 4;
+
+// The share of node k where it is fixed, else 0.
+pub fn fixed_share(table: &[i64], k: usize) -> u64
+    requires { ⌜ (length (now table) ≡ tableLength) × (k < nodes) ⌝ }
+    ensures { λ r. ⌜ r ≡ fixedShare (treeOf (now (table .entry))) k ⌝ }
+{
+    if tree::is_fixed(table, k) {
+        return Table::natural(table, k, Table::SHARE);
+    }
+    0
+}
+
+// The share of node k where it is weighted, else 0.
+pub fn weight(table: &[i64], k: usize) -> u64
+    requires { ⌜ (length (now table) ≡ tableLength) × (k < nodes) ⌝ }
+    ensures { λ r. ⌜ r ≡ weight (treeOf (now (table .entry))) k ⌝ }
+{
+    if tree::is_fixed(table, k) {
+        return 0;
+    }
+    Table::natural(table, k, Table::SHARE)
+}
+
+// The summand of node k.
+pub fn term(table: &[i64], which: u64, k: usize) -> u64
+    requires { ⌜ (length (now table) ≡ tableLength) × (k < nodes) ⌝ }
+    ensures { λ r. ⌜ r ≡ term which (now (table .entry)) k ⌝ }
+{
+    match which {
+        FIXED_SHARES => fixed_share(table, k),
+        WEIGHTS => weight(table, k),
+        DEPTHS => Table::natural(table, k, Table::DEPTH),
+        CREDITS => Table::natural(table, k, Table::BALANCE),
+        _ => numbers::negative(Table::get(table, k, Table::BALANCE)),
+    }
+}
+
+// The summand of node k where it is a child of class c, else 0.
+fn child_term(table: &[i64], which: u64, c: usize, k: usize) -> u64
+    requires { ⌜ (length (now table) ≡ tableLength) × (k < nodes) ⌝ }
+    ensures { λ r. ⌜ r ≡ countIf (childOf (treeOf (now (table .entry))) c k) (term which (now (table .entry))) k ⌝ }
+{
+    if tree::child_of(table, c, k) {
+        return term(table, which, k);
+    }
+    0
+}
+
+// The sum under class c.
+pub fn sum_under(table: &[i64], which: u64, c: usize) -> u64
+    requires { ⌜ (length (now table) ≡ tableLength) × Summable which (now table) ⌝ }
+    ensures { λ r. ⌜ r ≡ sumUnder (treeOf (now (table .entry))) c (term which (now (table .entry))) ⌝ }
+{
+    let mut sum: u64 = 0;
+    let mut k: usize = 0;
+    while k < Table::NODES {
+        sum += child_term(table, which, c, k);
+        k += 1;
+    }
+    sum
+}
+
+// The sums under all classes, in one pass. The root is nobody's child.
+pub fn sums(table: &[i64], which: u64) -> [u64; 64]
+    requires { ⌜ (length (now table) ≡ tableLength) × Summable which (now table) ⌝ }
+    ensures { λ r. ⌜ ((c : ℕ) → c < nodes → getD r c 0 ≡ sumUnder (treeOf (now (table .entry))) c (term which (now (table .entry)))) ⌝ }
+{
+    let mut sums: [u64; 64] = [0; 64];
+    let mut k: usize = 1;
+    while k < Table::NODES {
+        if tree::there(table, k) {
+            let c = Table::natural(table, k, Table::PARENT) as usize;
+            sums[c] = sums[c] + term(table, which, k);
+        }
+        k += 1;
+    }
+    sums
+}

@@ -1,0 +1,25 @@
+-- What the limits of a node's places say of the numbers that are read there.
+use Prim.Native.Nat.{ℕ, _≤_, _<_}
+use mathlib.Core.Path.{_≡_, sym, _∙_}
+use mathlib.Core.Bool.{true}
+use mathlib.Core.List.{List}
+use native.Mathlib.Omega.{arith}
+use lib.IntN.{ℤ}
+use Rattle.numbers.proofs.Parts.{zarith}
+use Rattle.table.specs.Places.{place, waiting}
+use Rattle.table.specs.Tree.{treeOf}
+use Rattle.table.specs.Order.{limitsKept}
+use Rattle.table.proofs.Facts.{limits-of}
+
+pub record Bounds (t : List ℤ) (k : ℕ) : Type 0 where
+  pub parent : treeOf t .parent k < 64
+  pub level : treeOf t .level k ≤ 4
+  pub kind : treeOf t .kind k ≤ 1
+  pub share : treeOf t .share k ≤ 10000
+  pub weight : 1 ≤ treeOf t .share k
+  pub depth : treeOf t .depth k ≤ 1000000
+  pub waiting : waiting t k ≤ 8
+
+pub bounds : (t : List ℤ) (k : ℕ) → limitsKept t k ≡ true → Bounds t k
+unfolding treeOf waiting
+bounds t k h = let f = limits-of t k h in omega (arith, zarith)

@@ -1,0 +1,5 @@
+mod Bits
+pub mod Bounds
+pub mod Joined
+pub mod Nodes
+mod Spans

@@ -1,0 +1,57 @@
+-- The numbers from one on, as the code looks at them, are places of the header and of a record.
+use Prim.Native.Nat.{ℕ, suc, _+_, _*_, _-_, _≤_, _<_}
+use mathlib.Core.Path.{_≡_, refl, sym, ap, _∙_}
+use mathlib.Core.Bool.{Bool, true, _||_}
+use mathlib.Core.Logic.{⊎-elim}
+use mathlib.Core.List.{List}
+use native.Mathlib.Omega.{arith}
+use borrow.Author.Tests.{ltb-true, ltb-false}
+use lib.ListN.{getD}
+use lib.Dec.{ltb}
+use lib.IntN.{ℤ, pos}
+use Rattle.numbers.specs.Below.{allBelow}
+use Rattle.numbers.proofs.Tests.{same-truth, by-test, or-cases, or-true-left, or-true-right}
+use Rattle.numbers.proofs.All.{all-at, all-intro, all-cong}
+use Rattle.table.specs.Places.{place, header}
+use Rattle.table.specs.Order.{isZero}
+use Rattle.records.specs.Record.{zeros}
+
+-- One number looked at from two starts.
+same-number : (t : List ℤ) (m n : ℕ) → m ≡ n → isZero (getD t m (pos 0)) ≡ isZero (getD t n (pos 0))
+same-number t m n e = ap (λ (i : ℕ). isZero (getD t i (pos 0))) e
+
+pub header-zeros : (t : List ℤ) → zeros t 1 7 ≡ allBelow 7 (λ p. isZero (header t (suc p)))
+unfolding zeros header
+header-zeros t =
+    all-cong 7 (λ p. isZero (getD t (1 + p) (pos 0))) (λ p. isZero (getD t (suc p) (pos 0)))
+    (λ p hp. same-number t (1 + p) (suc p) (omega arith))
+
+pub record-zeros : (t : List ℤ) (k : ℕ) → zeros t (8 + 40 * k) 40 ≡ allBelow 40 (λ p. isZero (place t k p))
+unfolding zeros place
+record-zeros t k = refl
+
+pub spare-zeros : (t : List ℤ) (k : ℕ) → zeros t (8 + 40 * k + 9) 7 ≡ allBelow 7 (λ p. isZero (place t k (9 + p)))
+unfolding zeros place
+spare-zeros t k =
+    all-cong 7 (λ p. isZero (getD t (8 + 40 * k + 9 + p) (pos 0))) (λ p. isZero (getD t (8 + 40 * k + (9 + p)) (pos 0)))
+    (λ p hp. same-number t (8 + 40 * k + 9 + p) (8 + 40 * k + (9 + p)) (omega arith))
+
+-- The waiting places from the first that holds no request on.
+pub queue-zeros : (t : List ℤ) (k n : ℕ) → n ≤ 24 → zeros t (8 + 40 * k + 16 + n) (24 - n) ≡ allBelow 24 (λ p. ltb p n || isZero (place t k (16 + p)))
+unfolding zeros place
+queue-zeros t k n hn =
+    same-truth (allBelow (24 - n) (λ p. isZero (getD t (8 + 40 * k + 16 + n + p) (pos 0)))) (allBelow 24 (λ p. ltb p n || isZero (getD t (8 + 40 * k + (16 + p)) (pos 0))))
+    (λ h.
+    all-intro 24 (λ p. ltb p n || isZero (getD t (8 + 40 * k + (16 + p)) (pos 0)))
+    (λ p hp.
+    by-test (ltb p n) (or-true-left (ltb p n) (isZero (getD t (8 + 40 * k + (16 + p)) (pos 0))))
+    (λ e.
+    or-true-right (ltb p n) (isZero (getD t (8 + 40 * k + (16 + p)) (pos 0)))
+    (same-number t (8 + 40 * k + (16 + p)) (8 + 40 * k + 16 + n + (p - n)) (omega (arith, ltb-false p n e))
+    ∙ all-at (24 - n) (λ p. isZero (getD t (8 + 40 * k + 16 + n + p) (pos 0))) h (p - n) (omega (arith, ltb-false p n e))))))
+    (λ h.
+    all-intro (24 - n) (λ p. isZero (getD t (8 + 40 * k + 16 + n + p) (pos 0)))
+    (λ p hp.
+    ⊎-elim (λ e. absurd (omega (arith, ltb-true (n + p) n e)))
+    (λ e. same-number t (8 + 40 * k + 16 + n + p) (8 + 40 * k + (16 + (n + p))) (omega arith) ∙ e)
+    (or-cases (ltb (n + p) n) (isZero (getD t (8 + 40 * k + (16 + (n + p))) (pos 0))) (all-at 24 (λ p. ltb p n || isZero (getD t (8 + 40 * k + (16 + p)) (pos 0))) h (n + p) (omega arith)))))

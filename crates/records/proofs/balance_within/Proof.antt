@@ -1,0 +1,55 @@
+-- `records::balance_within` meets its contract: three tests together.
+use Prim.Native.Nat.{ℕ, _*_}
+use mathlib.Core.Path.{ap, ap₂}
+use mathlib.Core.Bool.{Bool, _||_}
+use native.Mathlib.Omega.{arith}
+use lib.Dec.{eqb, leb}
+use Rattle.table.specs.Places.{balance, depthGrains}
+use Rattle.table.specs.Tree.{treeOf}
+use Rattle.records.specs.Record.{balanceWithin}
+use Rattle.records.proofs.Joined.{joined-as, same-tests, last-test}
+use borrow.Author.Needs.{needs}
+use Rattle.records.proofs.balance_within.Statement.{statement}
+use Rattle.records.proofs.balance_within.Tie as tie
+
+natural-requires : tie.Need-natural-requires
+natural-requires c κs = search needs
+
+mul-grains : tie.Need-mul-grains
+unfolding treeOf
+mul-grains c = omega arith
+
+is-class-requires : tie.Need-is-class-requires
+is-class-requires c κs = search needs
+
+negative-requires : tie.Need-negative-requires
+negative-requires c κs = search needs
+
+natural-requires-2 : tie.Need-natural-requires-2
+natural-requires-2 c κs = search needs
+
+mul-low : tie.Need-mul-low
+unfolding treeOf
+mul-low c = omega arith
+
+returns : tie.Need-returns
+unfolding treeOf balanceWithin balance depthGrains
+returns c =
+    let grains = ap (λ (n : ℕ). n * 1000) (c .before .before .before .natural .ensures) in
+    let below = c .before .negative .ensures in
+    joined-as
+    (same-tests (ap₂ leb (c .natural2 .ensures) grains)
+    (same-tests (ap₂ (λ (n m : ℕ). leb n (4 * m)) below grains)
+    (last-test (ap₂ (λ (b : Bool) (n : ℕ). b || eqb n 0) (c .before .before .is-class .ensures) below))))
+
+pub balance-within-spec : {M : Type 1} → statement M
+balance-within-spec =
+    tie.close
+    (tie.spec
+    natural-requires
+    mul-grains
+    is-class-requires
+    negative-requires
+    natural-requires-2
+    mul-low
+    returns)

@@ -1,0 +1,52 @@
+-- `records::limits_kept` meets its contract: seven tests together.
+use Rattle.records.proofs.Joined.{joined-as, same-tests, last-test}
+use Rattle.table.specs.Order.{limitsKept}
+use borrow.Author.Needs.{needs}
+use Rattle.records.proofs.limits_kept.Statement.{statement}
+use Rattle.records.proofs.limits_kept.Tie as tie
+
+place-within-requires : tie.Need-place-within-requires
+place-within-requires c κs = search needs
+
+place-within-requires-2 : tie.Need-place-within-requires-2
+place-within-requires-2 c κs = search needs
+
+place-within-requires-3 : tie.Need-place-within-requires-3
+place-within-requires-3 c κs = search needs
+
+place-within-requires-4 : tie.Need-place-within-requires-4
+place-within-requires-4 c κs = search needs
+
+place-within-requires-5 : tie.Need-place-within-requires-5
+place-within-requires-5 c κs = search needs
+
+place-within-requires-6 : tie.Need-place-within-requires-6
+place-within-requires-6 c κs = search needs
+
+place-within-requires-7 : tie.Need-place-within-requires-7
+place-within-requires-7 c κs = search needs
+
+returns : tie.Need-returns
+unfolding limitsKept
+returns c =
+    joined-as
+    (same-tests (c .before .before .before .before .before .before .place-within .ensures)
+    (same-tests (c .before .before .before .before .before .place-within2 .ensures)
+    (same-tests (c .before .before .before .before .place-within3 .ensures)
+    (same-tests (c .before .before .before .place-within4 .ensures)
+    (same-tests (c .before .before .place-within5 .ensures)
+    (same-tests (c .before .place-within6 .ensures)
+    (last-test (c .place-within7 .ensures))))))))
+
+pub limits-kept-spec : {M : Type 1} → statement M
+limits-kept-spec =
+    tie.close
+    (tie.spec
+    place-within-requires
+    place-within-requires-2
+    place-within-requires-3
+    place-within-requires-4
+    place-within-requires-5
+    place-within-requires-6
+    place-within-requires-7
+    returns)

@@ -1,0 +1,58 @@
+-- `records::node_in_order` meets its contract: the limits first, since the other tests need them.
+use mathlib.Core.Path.{_≡_, sym, _∙_}
+use mathlib.Core.Bool.{true}
+use native.Mathlib.Omega.{arith}
+use borrow.Author.Tests.{not-true, not-false}
+use Rattle.numbers.proofs.Every.{head-fails}
+use Rattle.table.specs.Order.{limitsKept}
+use Rattle.records.specs.Record.{nodeInOrder}
+use Rattle.records.proofs.Bounds.{bounds}
+use Rattle.records.proofs.Joined.{joined-as, same-tests, last-test, every-past}
+use borrow.Author.Needs.{needs}
+use Rattle.records.proofs.node_in_order.Statement.{statement}
+use Rattle.records.proofs.node_in_order.Tie as tie
+
+-- The limits are kept where the code goes on.
+kept : (c : tie.Else1) → limitsKept (c .before .before .args .table .now) (c .before .before .args .k) ≡ true
+kept c = sym (c .before .limits-kept .ensures) ∙ not-false _ (c .if1 .left)
+
+limits-kept-requires : tie.Need-limits-kept-requires
+limits-kept-requires c κs = search needs
+
+returns : tie.Need-returns
+unfolding nodeInOrder
+returns c = sym (head-fails _ _ (sym (c .before .limits-kept .ensures) ∙ not-true _ (c .if1 .taken)))
+
+spare-in-order-requires : tie.Need-spare-in-order-requires
+spare-in-order-requires c κs = omega (arith, bounds _ _ (kept c))
+
+parent-in-order-requires : tie.Need-parent-in-order-requires
+parent-in-order-requires c κs = omega (arith, bounds _ _ (kept (c .before)))
+
+class-placed-requires : tie.Need-class-placed-requires
+class-placed-requires c κs = search needs
+
+balance-within-requires : tie.Need-balance-within-requires
+balance-within-requires c κs = omega (arith, bounds _ _ (kept (c .before .before .before)))
+
+returns-2 : tie.Need-returns-2
+unfolding nodeInOrder
+returns-2 c =
+    joined-as
+    (same-tests (c .before .before .before .spare-in-order .ensures)
+    (same-tests (c .before .before .parent-in-order .ensures)
+    (same-tests (c .before .class-placed .ensures)
+    (last-test (c .balance-within .ensures)))))
+    ∙ sym (every-past _ _ (kept (c .before .before .before .before)))
+
+pub node-in-order-spec : {M : Type 1} → statement M
+node-in-order-spec =
+    tie.close
+    (tie.spec
+    limits-kept-requires
+    returns
+    spare-in-order-requires
+    parent-in-order-requires
+    class-placed-requires
+    balance-within-requires
+    returns-2)

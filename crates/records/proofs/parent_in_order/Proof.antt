@@ -1,0 +1,53 @@
+-- `records::parent_in_order` meets its contract.
+use Prim.Native.Nat.{ℕ, suc}
+use mathlib.Core.Path.{ap, ap₂, _∙_}
+use mathlib.Core.Bool.{Bool, _||_}
+use native.Mathlib.Omega.{arith}
+use lib.Dec.{eqb}
+use Rattle.numbers.specs.Whole.{plus}
+use Rattle.table.specs.Places.{place}
+use Rattle.table.specs.Tree.{treeOf, isClass}
+use Rattle.table.specs.Order.{parentInOrder}
+use Rattle.records.proofs.Joined.{joined-as, same-tests, last-test}
+use borrow.Author.Needs.{needs}
+use Rattle.records.proofs.parent_in_order.Statement.{statement}
+use Rattle.records.proofs.parent_in_order.Tie as tie
+
+natural-requires : tie.Need-natural-requires
+natural-requires c κs = search needs
+
+is-class-requires : tie.Need-is-class-requires
+unfolding treeOf
+is-class-requires c κs = omega arith
+
+natural-requires-2 : tie.Need-natural-requires-2
+natural-requires-2 c κs = search needs
+
+natural-requires-3 : tie.Need-natural-requires-3
+unfolding treeOf
+natural-requires-3 c κs = omega arith
+
+follows-requires : tie.Need-follows-requires
+follows-requires c κs = search needs
+
+returns : tie.Need-returns
+unfolding parentInOrder treeOf
+returns c =
+    let start = c .before .before .before .before .before in
+    let t = start .args .table .now in
+    let parent = c .before .before .before .before .natural .ensures in
+    let above = c .before .natural3 .ensures ∙ ap (λ (p : ℕ). plus (place t p 2)) parent in
+    let class = c .before .before .before .is-class .ensures ∙ ap (isClass (treeOf t)) parent in
+    let level = c .follows .ensures ∙ ap₂ (λ (n m : ℕ). eqb n (suc m)) (c .before .before .natural2 .ensures) above in
+    ap (λ (b : Bool). eqb (start .args .k) 0 || b) (joined-as (same-tests class (last-test level)))
+
+pub parent-in-order-spec : {M : Type 1} → statement M
+parent-in-order-spec =
+    tie.close
+    (tie.spec
+    natural-requires
+    is-class-requires
+    natural-requires-2
+    natural-requires-3
+    follows-requires
+    returns)

@@ -1,0 +1,47 @@
+-- `records::root_in_order` meets its contract: six tests together.
+use Rattle.table.specs.Order.{rootInOrder}
+use Rattle.records.proofs.Joined.{joined-as, same-tests, last-test}
+use borrow.Author.Needs.{needs}
+use Rattle.records.proofs.root_in_order.Statement.{statement}
+use Rattle.records.proofs.root_in_order.Tie as tie
+
+place-is-requires : tie.Need-place-is-requires
+place-is-requires c κs = search needs
+
+place-is-requires-2 : tie.Need-place-is-requires-2
+place-is-requires-2 c κs = search needs
+
+place-is-requires-3 : tie.Need-place-is-requires-3
+place-is-requires-3 c κs = search needs
+
+place-is-requires-4 : tie.Need-place-is-requires-4
+place-is-requires-4 c κs = search needs
+
+place-is-requires-5 : tie.Need-place-is-requires-5
+place-is-requires-5 c κs = search needs
+
+place-within-requires : tie.Need-place-within-requires
+place-within-requires c κs = search needs
+
+returns : tie.Need-returns
+unfolding rootInOrder
+returns c =
+    joined-as
+    (same-tests (c .before .before .before .before .before .place-is .ensures)
+    (same-tests (c .before .before .before .before .place-is2 .ensures)
+    (same-tests (c .before .before .before .place-is3 .ensures)
+    (same-tests (c .before .before .place-is4 .ensures)
+    (same-tests (c .before .place-is5 .ensures)
+    (last-test (c .place-within .ensures)))))))
+
+pub root-in-order-spec : {M : Type 1} → statement M
+root-in-order-spec =
+    tie.close
+    (tie.spec
+    place-is-requires
+    place-is-requires-2
+    place-is-requires-3
+    place-is-requires-4
+    place-is-requires-5
+    place-within-requires
+    returns)

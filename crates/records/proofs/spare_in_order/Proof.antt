@@ -1,0 +1,73 @@
+-- `records::spare_in_order` meets its contract: both tests together.
+use Prim.Native.Nat.{ℕ, _+_, _*_, _-_}
+use mathlib.Core.Path.{ap, _∙_}
+use native.Mathlib.Omega.{arith}
+use Rattle.numbers.specs.Whole.{plus}
+use Rattle.table.specs.Places.{place, waiting}
+use Rattle.table.specs.Order.{spareInOrder}
+use Rattle.records.specs.Record.{zeros}
+use Rattle.records.proofs.Joined.{joined-as, same-tests, last-test}
+use Rattle.records.proofs.Spans.{spare-zeros, queue-zeros}
+use borrow.Author.Needs.{needs}
+use Rattle.records.proofs.spare_in_order.Statement.{statement}
+use Rattle.records.proofs.spare_in_order.Tie as tie
+
+mul-first : tie.Need-mul-first
+mul-first c = search needs
+
+add-first : tie.Need-add-first
+add-first c = search needs
+
+natural-requires : tie.Need-natural-requires
+natural-requires c κs = search needs
+
+mul-held : tie.Need-mul-held
+unfolding waiting
+mul-held c = omega arith
+
+add-zeros : tie.Need-add-zeros
+add-zeros c = search needs
+
+zeros-requires : tie.Need-zeros-requires
+zeros-requires c κs = search needs
+
+add-zeros-2 : tie.Need-add-zeros-2
+add-zeros-2 c = search needs
+
+add-zeros-3 : tie.Need-add-zeros-3
+unfolding waiting
+add-zeros-3 c = omega arith
+
+sub-zeros : tie.Need-sub-zeros
+unfolding waiting
+sub-zeros c = omega arith
+
+zeros-requires-2 : tie.Need-zeros-requires-2
+unfolding waiting
+zeros-requires-2 c κs = omega arith
+
+returns : tie.Need-returns
+unfolding spareInOrder waiting
+returns c =
+    let t = c .before .before .before .args .table .now in
+    let k = c .before .before .before .args .k in
+    let held = ap (λ (n : ℕ). zeros t (8 + 40 * k + 16 + 3 * n) (24 - 3 * n)) (c .before .before .natural .ensures) in
+    joined-as
+    (same-tests (c .before .zeros .ensures ∙ spare-zeros t k)
+    (last-test (c .zeros2 .ensures ∙ held ∙ queue-zeros t k (3 * plus (place t k 8)) (omega arith))))
+
+pub spare-in-order-spec : {M : Type 1} → statement M
+spare-in-order-spec =
+    tie.close
+    (tie.spec
+    mul-first
+    add-first
+    natural-requires
+    mul-held
+    add-zeros
+    zeros-requires
+    add-zeros-2
+    add-zeros-3
+    sub-zeros
+    zeros-requires-2
+    returns)

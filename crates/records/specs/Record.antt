@@ -1,0 +1,51 @@
+-- A record by itself and with its parent's: the first stage of the in-order test. It makes the sums under the classes safe
+-- to compute.
+use Prim.Native.Nat.{ℕ, _+_, _*_}
+use mathlib.Core.Bool.{Bool, cond, _||_}
+use mathlib.Core.List.{List, [], _∷_}
+use lib.ListN.{getD}
+use lib.Dec.{eqb, leb}
+use lib.IntN.{ℤ, pos}
+use Rattle.numbers.specs.Whole.{plus, minus}
+use Rattle.numbers.specs.Tests.{every}
+use Rattle.numbers.specs.Below.{allBelow}
+use Rattle.table.specs.Limits.{nodes, recordLength, lastClassLevel, lastLevel}
+use Rattle.table.specs.Places.{place, balance, waiting, depthGrains}
+use Rattle.table.specs.Tree.{treeOf, there, isClass, testIf}
+use Rattle.table.specs.Order.{isZero, limitsKept, spareInOrder, parentInOrder}
+
+-- Whether n numbers from the first on are zero.
+unfoldable pub zeros : List ℤ → ℕ → ℕ → Bool
+zeros t first n = allBelow n (λ p. isZero (getD t (first + p) (pos 0)))
+
+-- A class has level 0 to 3 and nothing waiting.
+unfoldable pub classPlaced : List ℤ → ℕ → Bool
+classPlaced t c = every (leb (treeOf t .level c) lastClassLevel ∷ eqb (waiting t c) 0 ∷ [])
+
+-- No balance exceeds depth x 1000 or stands more than 4 depths below 0, and a client's not below 0 at all. That no class
+-- stands lower in a table in order is a law (laws, Floors); it keeps the sums of balances small.
+unfoldable pub balanceWithin : List ℤ → ℕ → Bool
+balanceWithin t k =
+    every
+    (leb (plus (balance t k)) (depthGrains t k)
+    ∷ leb (minus (balance t k)) (lastLevel * depthGrains t k)
+    ∷ (isClass (treeOf t) k || eqb (minus (balance t k)) 0)
+    ∷ [])
+
+-- A node that is there, as far as its record and its parent's tell.
+unfoldable pub nodeInOrder : List ℤ → ℕ → Bool
+nodeInOrder t k =
+    every
+    (limitsKept t k
+    ∷ spareInOrder t k
+    ∷ parentInOrder (treeOf t) k
+    ∷ testIf (isClass (treeOf t) k) (classPlaced t) k
+    ∷ balanceWithin t k
+    ∷ [])
+
+-- An unused record is zero throughout.
+unfoldable pub recordInOrder : List ℤ → ℕ → Bool
+recordInOrder t k = cond (there (treeOf t) k) (nodeInOrder t k) (allBelow recordLength (λ p. isZero (place t k p)))
+
+unfoldable pub recordsInOrder : List ℤ → Bool
+recordsInOrder t = allBelow nodes (recordInOrder t)
