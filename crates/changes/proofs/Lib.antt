@@ -1,0 +1,4 @@
+pub mod Debt
+pub mod Before
+pub mod Sums
+pub mod Passed

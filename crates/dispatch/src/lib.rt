@@ -1,0 +1,29 @@
+// What a tick is made of: suppliers, charges, dispatches, and the steps in which balances grow and are cut.
+ghost use mathlib.Core.Path.{_≡_};
+ghost use Prim.Native.Nat.{_+_, _*_, _<_, _≤_};
+ghost use lib.ListN.{length};
+ghost use Rattle.table.specs.Limits.{nodes, entryLength};
+ghost use Rattle.table.specs.Places.{waiting};
+ghost use Rattle.dispatch.specs.Within.{Within};
+ghost use Rattle.dispatch.specs.Entries.{tableAfter, listAfter};
+
+pub mod charging;
+pub mod entries;
+pub mod queue;
+pub mod steps;
+pub mod supply;
+
+use table::Table;
+
+// Dispatches the oldest request of client k with node s as supplier, as an entry behind the n that the list has.
+pub fn dispatch(table: &mut [i64], list: &mut [i64], n: usize, k: usize, s: usize)
+    requires { ⌜ Within (now table) × (k < nodes) × (s < nodes) × (0 < waiting (now table) k) × (entryLength * n + entryLength ≤ length (now list)) ⌝ }
+    ensures table { λ _. ⌜ now (table .exit) ≡ tableAfter (now (table .entry)) k s ⌝ }
+    ensures list { λ _. ⌜ now (list .exit) ≡ listAfter (now (list .entry)) n (now (table .entry)) k s ⌝ }
+{
+    let tag = Table::get(table, k, Table::QUEUE + Table::TAG);
+    let size = Table::natural(table, k, Table::QUEUE + Table::SIZE);
+    entries::write_entry(list, n, k, tag, size, s);
+    charging::charge(table, size * Table::GRAIN_SCALE, s);
+    queue::take_out(table, k);
+}
