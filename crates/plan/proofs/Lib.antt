@@ -1,0 +1,14 @@
+pub mod Shows
+pub mod Codec
+pub mod Rising
+pub mod Listing
+pub mod Accepted
+pub mod Told
+pub mod Entered
+pub mod Part
+pub mod Joinable
+pub mod Planned
+pub mod ReadWritten
+pub mod WrittenRead
+pub mod RoundTrips
+pub mod Example

@@ -1,0 +1,44 @@
+-- A part of a tree: each of its nodes stands in the whole as it does in the part. What is summed over the children of a
+-- class is at most what it is in the whole.
+use Prim.Native.Nat.{ℕ, _≤_, _<_}
+use mathlib.Core.Path.{_≡_, sym, _∙_}
+use mathlib.Core.Bool.{true}
+use native.Mathlib.Omega.{arith}
+use Rattle.numbers.proofs.Tests.{by-test}
+use Rattle.numbers.proofs.Sums.{sum-mono}
+use Rattle.table.specs.Tree.{Tree, there, isFixed, childOf, countIf, sumUnder}
+use Rattle.table.specs.Rates.{fixedShare, fixedSum}
+use Rattle.laws.proofs.Children.{ChildOf, child-facts, child-of}
+use Rattle.keeps.proofs.Edits.{SameNode}
+use Rattle.keeps.proofs.Nodes.{there-same}
+
+pub record PartOf (part whole : Tree) : Type 0 where
+  pub same : (k : ℕ) → k < 64 → there part k ≡ true → SameNode part whole k
+
+same-fixed : (new old : Tree) (k : ℕ) → SameNode new old k → fixedShare new k ≡ fixedShare old k
+unfolding fixedShare isFixed
+same-fixed new old k n = rw (n .kind, n .share)
+
+module _ (part whole : Tree) (h : PartOf part whole) where
+  part-child : (c k : ℕ) → k < 64 → ChildOf part c k → ChildOf whole c k
+  part-child c k hk child =
+      let n = h .same k hk (child .there) in
+      record { there = sym (there-same part whole k (n .sort)) ∙ child .there; below = child .below; parent = sym (n .parent) ∙ child .parent }
+
+  part-term : (c : ℕ) (f g : ℕ → ℕ) (k : ℕ) → k < 64 → (there part k ≡ true → f k ≡ g k) → countIf (childOf part c k) f k ≤ countIf (childOf whole c k) g k
+  unfolding countIf
+  part-term c f g k hk same =
+      by-test (childOf part c k)
+      (λ e. let child = child-facts part c k e in rw (e, child-of whole c k (part-child c k hk child)) (omega (arith, same (child .there))))
+      (λ e. rw e (omega arith))
+
+  part-sum : (c : ℕ) (f g : ℕ → ℕ) → ((k : ℕ) → k < 64 → there part k ≡ true → f k ≡ g k) → sumUnder part c f ≤ sumUnder whole c g
+  unfolding sumUnder
+  part-sum c f g same = sum-mono 64 (λ k. countIf (childOf part c k) f k) (λ k. countIf (childOf whole c k) g k) (λ k hk. part-term c f g k hk (same k hk))
+
+  pub part-shares : (c : ℕ) → fixedSum part c ≤ fixedSum whole c
+  unfolding fixedSum
+  part-shares c = part-sum c (fixedShare part) (fixedShare whole) (λ k hk e. same-fixed part whole k (h .same k hk e))
+
+  pub part-depths : (c : ℕ) → sumUnder part c (part .depth) ≤ sumUnder whole c (whole .depth)
+  part-depths c = part-sum c (part .depth) (whole .depth) (λ k hk e. h .same k hk e .depth)

@@ -1,0 +1,5 @@
+pub mod Bytes
+pub mod Format
+pub mod Nodes
+pub mod Reading
+pub mod Writing
