@@ -1,0 +1,27 @@
+-- `cabinet::hds_change_rate` meets its contract: the call's own promise, and the number of its answer.
+use mathlib.Core.Path.{ap, _∙_}
+use borrow.Author.Needs.{needs, sfits-of}
+use mir.Syntax.{w64}
+use mir.ValLaws.{toZ-ofZ}
+use Rattle.cabinet.specs.Exported.{exported}
+use Rattle.cabinet.proofs.hds_change_rate.Statement.{statement}
+use Rattle.cabinet.proofs.hds_change_rate.Tie as tie
+
+change-rate-requires : tie.Need-change-rate-requires
+change-rate-requires c κs = search needs
+
+answer-number-requires : tie.Need-answer-number-requires
+answer-number-requires c κs = search needs
+
+same-length : tie.Need-same-length
+same-length c = search needs
+
+returns : tie.Need-returns
+returns c =
+    let s = c .before .before .before .before in
+    let done =
+    rw (toZ-ofZ w64 (s .args .rate) (s .fits .rate)) at (c .before .before .change-rate .ensures) in
+    (toZ-ofZ w64 _ (sfits-of (c .answer-number .ok)) ∙ c .answer-number .ensures ∙ ap exported (done .0), done .1)
+
+pub hds-change-rate-spec : {M : Type 1} → statement M
+hds-change-rate-spec = tie.close (tie.spec change-rate-requires answer-number-requires same-length returns)

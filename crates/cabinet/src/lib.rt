@@ -1,0 +1,166 @@
+// The calls of document 01 for hosts in C or Rust: one exported function for each. Numbers are i64, slices are pointer and
+// length. The answer is 0 or more where the call is accepted, else the negated number of the refusal.
+ghost use mathlib.Core.Path.{_≡_};
+ghost use Prim.Native.Nat.{_≤_};
+ghost use lib.IntN.{pos, _-ℤ_};
+ghost use Rattle.table.specs.Answers.{numberOf, told, toldCompared};
+ghost use Rattle.table.specs.Calls.{openAnswer, openTable, joinAnswer, joinTable, leaveAnswer, leaveTable, changeShareAnswer, changeShareTable, changeRateAnswer, changeRateTable, requestAnswer, requestTable, lookAnswer, sameAnswer};
+ghost use Rattle.table.specs.Tick.{tickAnswer, tickTable, tickList};
+ghost use Rattle.cabinet.specs.Exported.{exported, exportedBare, shown};
+use table::Answer;
+use table::Compared;
+use table::Refusal;
+use table::Seen;
+use table::Table;
+
+// The number of a refusal.
+fn number_of(why: Refusal) -> u64
+    ensures number { λ r. ⌜ r ≡ numberOf why ⌝ }
+    ensures small { λ r. ⌜ r ≤ 15 ⌝ }
+{
+    match why {
+        Refusal::NotInOrder => 1,
+        Refusal::OutsideLimits => 2,
+        Refusal::NotThere => 3,
+        Refusal::InUse => 4,
+        Refusal::WrongSort => 5,
+        Refusal::LevelTooLow => 6,
+        Refusal::SharesAbove => 7,
+        Refusal::DepthAbove => 8,
+        Refusal::NotEmpty => 9,
+        Refusal::InDebt => 10,
+        Refusal::QueueFull => 11,
+        Refusal::CountAtEnd => 12,
+        Refusal::ListShort => 13,
+        Refusal::PlanWrong => 14,
+        Refusal::PlanOutOfOrder => 15,
+    }
+}
+
+// The negated number of a refusal.
+fn negated(why: Refusal) -> i64
+    ensures { λ r. ⌜ r ≡ pos 0 -ℤ pos (numberOf why) ⌝ }
+{
+    numbers::lowered(0, number_of(why))
+}
+
+// The number of an answer.
+fn answer_number(answer: Answer) -> i64
+    ensures { λ r. ⌜ r ≡ exported (told answer) ⌝ }
+{
+    match answer {
+        Answer::Accepted(value) => value,
+        Answer::Refused(why) => negated(why),
+    }
+}
+
+// The number of what same answers.
+fn compared_number(compared: Compared) -> i64
+    ensures { λ r. ⌜ r ≡ exported (toldCompared compared) ⌝ }
+{
+    match compared {
+        Compared::Same => 1,
+        Compared::Different => 0,
+        Compared::Refused(why) => negated(why),
+    }
+}
+
+// Open (rate, root depth).
+#[no_mangle]
+pub extern "C" fn hds_open(table: &mut [i64], rate: i64, depth: i64) -> i64
+    ensures answer { λ r. ⌜ r ≡ exported (openAnswer (now (table .entry)) rate depth) ⌝ }
+    ensures table { λ _. ⌜ now (table .exit) ≡ openTable (now (table .entry)) rate depth ⌝ }
+{
+    answer_number(Table::open(table, rate, depth))
+}
+
+// Join (node, parent, sort, kind, share, depth).
+#[no_mangle]
+pub extern "C" fn hds_join(
+    table: &mut [i64],
+    node: i64,
+    parent: i64,
+    sort: i64,
+    kind: i64,
+    share: i64,
+    depth: i64,
+) -> i64
+    ensures answer { λ r. ⌜ r ≡ exported (joinAnswer (now (table .entry)) node parent sort kind share depth) ⌝ }
+    ensures table { λ _. ⌜ now (table .exit) ≡ joinTable (now (table .entry)) node parent sort kind share depth ⌝ }
+{
+    answer_number(accounts::join(table, node, parent, sort, kind, share, depth))
+}
+
+// Leave (node).
+#[no_mangle]
+pub extern "C" fn hds_leave(table: &mut [i64], node: i64) -> i64
+    ensures answer { λ r. ⌜ r ≡ exported (leaveAnswer (now (table .entry)) node) ⌝ }
+    ensures table { λ _. ⌜ now (table .exit) ≡ leaveTable (now (table .entry)) node ⌝ }
+{
+    answer_number(accounts::leave(table, node))
+}
+
+// Change share (node, kind, share).
+#[no_mangle]
+pub extern "C" fn hds_change_share(table: &mut [i64], node: i64, kind: i64, share: i64) -> i64
+    ensures answer { λ r. ⌜ r ≡ exported (changeShareAnswer (now (table .entry)) node kind share) ⌝ }
+    ensures table { λ _. ⌜ now (table .exit) ≡ changeShareTable (now (table .entry)) node kind share ⌝ }
+{
+    answer_number(accounts::change_share(table, node, kind, share))
+}
+
+// Change rate (rate).
+#[no_mangle]
+pub extern "C" fn hds_change_rate(table: &mut [i64], rate: i64) -> i64
+    ensures answer { λ r. ⌜ r ≡ exported (changeRateAnswer (now (table .entry)) rate) ⌝ }
+    ensures table { λ _. ⌜ now (table .exit) ≡ changeRateTable (now (table .entry)) rate ⌝ }
+{
+    answer_number(accounts::change_rate(table, rate))
+}
+
+// Request (client, tag, size): the arrival number.
+#[no_mangle]
+pub extern "C" fn hds_request(table: &mut [i64], client: i64, tag: i64, size: i64) -> i64
+    ensures answer { λ r. ⌜ r ≡ exported (requestAnswer (now (table .entry)) client tag size) ⌝ }
+    ensures table { λ _. ⌜ now (table .exit) ≡ requestTable (now (table .entry)) client tag size ⌝ }
+{
+    answer_number(accounts::request(table, client, tag, size))
+}
+
+// Tick: how many were dispatched, and the list of them.
+#[no_mangle]
+pub extern "C" fn hds_tick(table: &mut [i64], list: &mut [i64]) -> i64
+    ensures answer { λ r. ⌜ r ≡ exported (tickAnswer (now (table .entry)) (now (list .entry))) ⌝ }
+    ensures table { λ _. ⌜ now (table .exit) ≡ tickTable (now (table .entry)) (now (list .entry)) ⌝ }
+    ensures list { λ _. ⌜ now (list .exit) ≡ tickList (now (table .entry)) (now (list .entry)) ⌝ }
+{
+    answer_number(accounts::tick(table, list))
+}
+
+// Look (node): 0, and in seen the rate, balance and waiting count.
+#[no_mangle]
+pub extern "C" fn hds_look(table: &[i64], node: i64, seen: &mut [i64; 3]) -> i64
+    ensures answer { λ r. ⌜ r ≡ exportedBare (lookAnswer (now (table .entry)) node) ⌝ }
+    ensures seen { λ _. ⌜ now (seen .exit) ≡ shown (lookAnswer (now (table .entry)) node) (now (seen .entry)) ⌝ }
+{
+    let found = accounts::look(table, node);
+    match found {
+        Seen::Node {
+            rate,
+            balance,
+            waiting,
+        } => {
+            *seen = [rate, balance, waiting];
+            0
+        }
+        Seen::Refused(why) => negated(why),
+    }
+}
+
+// Same (two tables): 1 for yes, 0 for no.
+#[no_mangle]
+pub extern "C" fn hds_same(first: &[i64], second: &[i64]) -> i64
+    ensures { λ r. ⌜ r ≡ exported (sameAnswer (now (first .entry)) (now (second .entry))) ⌝ }
+{
+    compared_number(accounts::same(first, second))
+}

@@ -1,0 +1,170 @@
+//! How long the archive's calls take, over the second engine's and over one plain pass through the table: ratios of
+//! medians, both engines on copies of the same tables. `bench [rounds]`.
+
+use std::hint::black_box;
+use std::time::Instant;
+
+use harness::{trees, Cabinet};
+use hds_engine::table::{at, get, waiting_in_all, BALANCE, CLIENT, DEPTH, NODES, ROOT, WEIGHTED};
+use hds_engine::{Controller, Engine, NewNode};
+
+/// Copies of a table that are used in turn within a round; they fit into the second cache together.
+const COPIES: usize = 16;
+/// Calls of a round.
+const CALLS: usize = 64;
+
+/// A call to be measured on a table.
+type Case = (&'static str, Vec<i64>, fn(&mut dyn Controller, &mut [i64], &mut [i64]));
+
+fn main() {
+    let rounds = std::env::args().nth(1).and_then(|text| text.parse().ok()).unwrap_or(101);
+    let plain = pass(rounds, one_by_one);
+    println!("| call | ours / second engine | ours / plain pass |");
+    println!("|---|---|---|");
+    for (name, table, call) in cases() {
+        let [ours, theirs] = measure(rounds, &table, call);
+        println!("| {name} | {:.2} | {:.1} |", ours / theirs, ours / plain);
+    }
+    let quick = pass(rounds, all_at_once);
+    println!();
+    println!("A plain pass adds the 2,568 numbers one by one; added several at a time it takes {:.2} of that.", quick / plain);
+}
+
+fn cases() -> Vec<Case> {
+    let mut cases: Vec<Case> = Vec::new();
+    for (nodes, table) in
+        [("three nodes", trees::small(1000)), ("63 nodes", trees::large(1_000_000))]
+    {
+        let name = |call: &str| -> &'static str { format!("{call}, {nodes}").leak() };
+        cases.push((name("look"), table.clone(), look));
+        cases.push((name("request"), table.clone(), request));
+        cases.push((name("join and leave"), table.clone(), join_and_leave));
+        cases.push((name("tick, idle"), table.clone(), tick));
+        for (waiting, each, most) in [("8 waiting", 8, 8), ("every queue full", 8, usize::MAX)] {
+            for (what, size, balances) in [
+                ("none may go", 300, empty as fn(&mut [i64])),
+                ("all go", 1, full as fn(&mut [i64])),
+                ("the root supplies all", 1, root_only as fn(&mut [i64])),
+            ] {
+                let mut table = table.clone();
+                if size == 300 {
+                    assert!(Engine.change_rate(&mut table, 1).is_ok());
+                }
+                trees::fill(&mut table, each, most, size);
+                balances(&mut table);
+                check(what, &table);
+                cases.push((name(&format!("tick, {waiting}, {what}")), table, tick));
+            }
+        }
+        let mut waiting = table.clone();
+        trees::fill(&mut waiting, 8, usize::MAX, 300);
+        cases.push((name("look, every queue full"), waiting, look));
+    }
+    cases
+}
+
+/// Sees that a tick of this table does what the case says.
+fn check(what: &str, table: &[i64]) {
+    let waiting = waiting_in_all(table);
+    let mut list = vec![-1; 4 * waiting];
+    let gone = Engine.tick(&mut table.to_vec(), &mut list).expect("a tick") as usize;
+    let from_root = list.chunks(4).filter(|entry| entry[3] == 0).count();
+    let right = match what {
+        "none may go" => gone == 0,
+        "all go" => gone == waiting && from_root == 0,
+        _ => from_root == waiting,
+    };
+    assert!(right, "{what}: {gone} of {waiting}, {from_root} from the root");
+}
+
+fn look(controller: &mut dyn Controller, table: &mut [i64], _: &mut [i64]) {
+    assert!(controller.look(table, 1).is_ok());
+}
+
+fn request(controller: &mut dyn Controller, table: &mut [i64], _: &mut [i64]) {
+    let client = trees::last_client(table);
+    assert!(controller.request(table, client, 7, 1).is_ok());
+}
+
+fn join_and_leave(controller: &mut dyn Controller, table: &mut [i64], _: &mut [i64]) {
+    let new = NewNode { node: 63, parent: 0, sort: CLIENT, kind: WEIGHTED, share: 5, depth: 1 };
+    assert!(controller.join(table, &new).is_ok());
+    assert!(controller.leave(table, 63).is_ok());
+}
+
+fn tick(controller: &mut dyn Controller, table: &mut [i64], list: &mut [i64]) {
+    assert!(controller.tick(table, list).is_ok());
+}
+
+fn empty(_: &mut [i64]) {}
+
+/// Every balance at its depth.
+fn full(table: &mut [i64]) {
+    for node in 0..NODES {
+        table[at(node, BALANCE)] = 1000 * get(table, node, DEPTH);
+    }
+}
+
+/// The root's balance at its depth, and rates that give the others too little.
+fn root_only(table: &mut [i64]) {
+    assert!(Engine.change_rate(table, 1).is_ok());
+    table[at(ROOT, BALANCE)] = 1000 * get(table, ROOT, DEPTH);
+}
+
+/// The medians of the time of a call, the archive's and the second engine's, from rounds that take turns.
+fn measure(
+    rounds: usize,
+    table: &[i64],
+    call: fn(&mut dyn Controller, &mut [i64], &mut [i64]),
+) -> [f64; 2] {
+    let mut times = [Vec::new(), Vec::new()];
+    let mut copies = vec![table.to_vec(); COPIES];
+    let mut list = vec![0; 4 * 8 * 63];
+    for _ in 0..rounds {
+        for which in [0, 1] {
+            let controller: &mut dyn Controller =
+                if which == 0 { &mut Cabinet } else { &mut Engine };
+            let mut nanoseconds = 0;
+            for _ in 0..CALLS / COPIES {
+                for copy in &mut copies {
+                    copy.copy_from_slice(table);
+                }
+                let began = Instant::now();
+                for copy in &mut copies {
+                    call(controller, black_box(copy), black_box(&mut list));
+                }
+                nanoseconds += began.elapsed().as_nanos();
+            }
+            times[which].push(nanoseconds as f64 / CALLS as f64);
+        }
+    }
+    times.map(median)
+}
+
+/// The median of the time of one pass through a table.
+fn pass(rounds: usize, sum: fn(&[i64]) -> i64) -> f64 {
+    let copies = vec![trees::large(1_000_000); COPIES];
+    let mut times = Vec::new();
+    for _ in 0..rounds {
+        let began = Instant::now();
+        for copy in &copies {
+            black_box(sum(black_box(copy)));
+        }
+        times.push(began.elapsed().as_nanos() as f64 / COPIES as f64);
+    }
+    median(times)
+}
+
+/// Looks for overflow at each number, so that the numbers are added in turn.
+fn one_by_one(table: &[i64]) -> i64 {
+    table.iter().sum()
+}
+
+fn all_at_once(table: &[i64]) -> i64 {
+    table.iter().fold(0, |sum, number| sum.wrapping_add(*number))
+}
+
+fn median(mut times: Vec<f64>) -> f64 {
+    times.sort_by(f64::total_cmp);
+    times[times.len() / 2]
+}

@@ -1,0 +1,107 @@
+//! The second engine and the archive, call by call: after each call the answers, all lent buffers and the guards around
+//! them are compared. `differential [random calls] [first seed]`. Clean runs of the archive stand before demand 3's judge
+//! too, and each faulty engine must be told from the archive. Plan calls, which the archive does not have, do not count.
+//! The last line counts scenes, runs, judged runs and faulty engines.
+
+use std::process::ExitCode;
+use std::time::Instant;
+
+use harness::{scenes, Cabinet};
+use hds_engine::differential::{differential, first_difference, Difference};
+use hds_engine::faulty::{Fault, Faulty, FAULTS};
+use hds_engine::judge;
+use hds_engine::random::{run, Profile};
+use hds_engine::steps::{Call, Step};
+use hds_engine::Engine;
+
+/// Calls in a random run.
+const LENGTH: usize = 1000;
+
+#[derive(Default)]
+struct Counts {
+    scenes: usize,
+    runs: usize,
+    calls: usize,
+    judged: usize,
+    faults: usize,
+}
+
+fn main() -> ExitCode {
+    let numbers: Vec<u64> = std::env::args().skip(1).filter_map(|text| text.parse().ok()).collect();
+    let most = numbers.first().copied().unwrap_or(1_000_000) as usize;
+    let first = numbers.get(1).copied().unwrap_or(1);
+    let began = Instant::now();
+    match compare(most, first) {
+        Ok(Counts { scenes, runs, calls, judged, faults }) => {
+            println!("{calls} calls in {:.0} s", began.elapsed().as_secs_f64());
+            println!("{scenes} scenes and {runs} random runs without a difference");
+            println!(
+                "{judged} clean runs without a broken promise, {faults} faulty engines told apart"
+            );
+            println!("{} passed, 0 failed", scenes + runs + judged + faults);
+            ExitCode::SUCCESS
+        }
+        Err(what) => {
+            println!("{what}");
+            ExitCode::FAILURE
+        }
+    }
+}
+
+fn compare(most: usize, first: u64) -> Result<Counts, String> {
+    let mut counts = Counts::default();
+    for (name, steps) in scenes::all() {
+        compared(0, &steps).map_err(|difference| format!("scene {name}: {difference}"))?;
+        counts.scenes += 1;
+        counts.calls += calls(&steps);
+    }
+    let mut seed = first;
+    let mut random = 0;
+    while random < most {
+        for profile in [Profile::Wild, Profile::Clean] {
+            let steps = run(seed, LENGTH, profile);
+            compared(seed, &steps).map_err(|difference| difference.to_string())?;
+            if profile == Profile::Clean {
+                if let Some(violation) = judge::watch(&mut Cabinet, &steps).first() {
+                    return Err(format!("seed {seed}: {violation}"));
+                }
+                counts.judged += 1;
+            }
+            counts.runs += 1;
+            random += calls(&steps);
+        }
+        seed += 1;
+    }
+    counts.calls += random;
+    for fault in FAULTS.into_iter().filter(|&fault| fault != Fault::None) {
+        if !told_apart(fault) {
+            return Err(format!("{fault:?} was not told from the archive"));
+        }
+        counts.faults += 1;
+    }
+    Ok(counts)
+}
+
+/// Whether some run shows a difference between a faulty engine and the archive.
+fn told_apart(fault: Fault) -> bool {
+    (1..200).any(|seed| {
+        let steps = run(seed, LENGTH, Profile::Wild);
+        first_difference(&mut Faulty::new(fault), &mut Cabinet, &steps).is_some()
+    })
+}
+
+fn compared(seed: u64, steps: &[Step]) -> Result<(), Box<Difference>> {
+    differential(&mut Engine, &mut Cabinet, seed, steps)
+}
+
+/// The calls of a list that the archive has.
+fn calls(steps: &[Step]) -> usize {
+    let ours = |step: &&Step| match step {
+        Step::Call(Call::PlanRead { .. } | Call::PlanWrite { .. } | Call::PlanCheck { .. }) => {
+            false
+        }
+        Step::Call(_) => true,
+        _ => false,
+    };
+    steps.iter().filter(ours).count()
+}

@@ -1,0 +1,360 @@
+//! Lists of steps with known numbers: the edges of document 01, every call at wrong lengths and at every limit, and a
+//! table damaged in every clause of "in order". Each begins with two zeroed tables.
+
+use hds_engine::damage;
+use hds_engine::order::CLAUSES;
+use hds_engine::random::{run, Profile, Rng};
+use hds_engine::steps::{Call, Step, World};
+use hds_engine::table::*;
+use hds_engine::{Engine, NewNode};
+
+/// A name and its steps.
+pub type Scene = (String, Vec<Step>);
+
+/// All scenes.
+pub fn all() -> Vec<Scene> {
+    let mut scenes: Vec<Scene> = Vec::new();
+    for (name, steps) in edges() {
+        scenes.push((name.into(), steps));
+    }
+    scenes.extend(lengths());
+    scenes.extend(limits());
+    scenes.extend(damaged());
+    scenes
+}
+
+fn open(rate: i64, depth: i64) -> Step {
+    Step::Call(Call::Open { rate, depth })
+}
+
+fn join(node: i64, parent: i64, sort: i64, kind: i64, share: i64, depth: i64) -> Step {
+    Step::Call(Call::Join(NewNode { node, parent, sort, kind, share, depth }))
+}
+
+fn client(node: i64, parent: i64, kind: i64, share: i64, depth: i64) -> Step {
+    join(node, parent, CLIENT, kind, share, depth)
+}
+
+fn class(node: i64, parent: i64, kind: i64, share: i64, depth: i64) -> Step {
+    join(node, parent, CLASS, kind, share, depth)
+}
+
+fn request(client: i64, tag: i64, size: i64) -> Step {
+    Step::Call(Call::Request { client, tag, size })
+}
+
+fn tick(list_len: usize) -> Step {
+    Step::Call(Call::Tick { list_len })
+}
+
+fn look(node: i64) -> Step {
+    Step::Call(Call::Look { node })
+}
+
+fn leave(node: i64) -> Step {
+    Step::Call(Call::Leave { node })
+}
+
+fn change_share(node: i64, kind: i64, share: i64) -> Step {
+    Step::Call(Call::ChangeShare { node, kind, share })
+}
+
+fn change_rate(rate: i64) -> Step {
+    Step::Call(Call::ChangeRate { rate })
+}
+
+fn same(swapped: bool) -> Step {
+    Step::Call(Call::Same { swapped })
+}
+
+fn poke(node: usize, place: usize, value: i64) -> Step {
+    Step::Poke { place: at(node, place), value }
+}
+
+fn looks(nodes: &[i64]) -> Vec<Step> {
+    nodes.iter().map(|&node| look(node)).collect()
+}
+
+/// The edges of document 01, marked or not.
+fn edges() -> Vec<(&'static str, Vec<Step>)> {
+    let two = [open(1000, 40), client(5, 0, WEIGHTED, 1, 16), client(6, 0, WEIGHTED, 1, 16)];
+    let alone = [open(1000, 40), client(5, 0, WEIGHTED, 4, 16)];
+    let deep = [
+        open(1000, 100),
+        class(1, 0, FIXED, 5000, 50),
+        class(2, 1, FIXED, 5000, 40),
+        class(3, 2, FIXED, 5000, 30),
+        client(4, 3, FIXED, 5000, 20),
+        client(5, 0, WEIGHTED, 5, 20),
+    ];
+    let eight: Vec<Step> = (0..9).map(|tag| request(5, tag, 16)).collect();
+    vec![
+        (
+            "the paper's rates",
+            [
+                vec![open(1000, 40), class(1, 0, FIXED, 5000, 30), client(2, 1, FIXED, 4000, 10)],
+                vec![client(3, 1, WEIGHTED, 4, 10), client(4, 1, WEIGHTED, 6, 10)],
+                looks(&[0, 1, 2, 3, 4]),
+            ]
+            .concat(),
+        ),
+        (
+            "three weights of 1",
+            [
+                vec![open(1000, 40)],
+                (1..4).map(|node| client(node, 0, WEIGHTED, 1, 1)).collect(),
+                looks(&[1, 2, 3]),
+            ]
+            .concat(),
+        ),
+        (
+            "a weight beside fixed 10,000",
+            [
+                vec![open(1000, 40), client(1, 0, WEIGHTED, 9, 1), client(2, 0, FIXED, 10_000, 1)],
+                looks(&[1, 2]),
+            ]
+            .concat(),
+        ),
+        (
+            "a weight beside three thirds",
+            [
+                vec![open(1000, 40), client(1, 0, FIXED, 3333, 1), client(2, 0, FIXED, 3333, 1)],
+                vec![client(3, 0, FIXED, 3334, 1), client(4, 0, WEIGHTED, 1, 1)],
+                looks(&[1, 2, 3, 4]),
+            ]
+            .concat(),
+        ),
+        (
+            "fixed 10,001 in all",
+            vec![
+                open(1000, 40),
+                client(1, 0, FIXED, 6000, 1),
+                client(2, 0, FIXED, 4001, 1),
+                client(2, 0, FIXED, 4000, 1),
+                change_share(2, FIXED, 4001),
+                change_share(2, WEIGHTED, 4001),
+                change_share(2, FIXED, 4000),
+            ],
+        ),
+        (
+            "size 3 goes at the third tick",
+            [&alone[..], &[request(5, 42, 3), tick(4), tick(4), tick(4)], &looks(&[0, 5])].concat(),
+        ),
+        (
+            "the root supplies",
+            [&two[..], &[request(5, 1, 1), tick(4)], &looks(&[0, 5, 6])].concat(),
+        ),
+        (
+            "the earlier one goes first",
+            [&two[..], &[request(6, 66, 1), request(5, 55, 1), tick(8), tick(8)]].concat(),
+        ),
+        (
+            "the root goes into debt",
+            [
+                vec![open(1000, 2), client(1, 0, WEIGHTED, 1, 1), client(2, 0, WEIGHTED, 1, 1)],
+                vec![poke(1, BALANCE, 500), poke(2, BALANCE, 1000)],
+                vec![request(1, 0, 1), request(2, 0, 1), tick(8)],
+                looks(&[0, 1, 2]),
+            ]
+            .concat(),
+        ),
+        (
+            "sizes at depth 16",
+            [&alone[..], &[request(5, 0, 16), request(5, 0, 17), request(5, 0, 0), tick(8)]]
+                .concat(),
+        ),
+        (
+            "depths under 40",
+            vec![
+                open(1000, 40),
+                client(1, 0, WEIGHTED, 1, 16),
+                client(2, 0, WEIGHTED, 1, 25),
+                client(2, 0, WEIGHTED, 1, 24),
+                client(3, 0, WEIGHTED, 1, 1),
+            ],
+        ),
+        (
+            "the ninth waiting",
+            [&alone[..], &eight, &[look(5), tick(31), tick(32), tick(33)]].concat(),
+        ),
+        (
+            "lengths of the list",
+            [
+                &alone[..],
+                &[
+                    tick(0),
+                    request(5, 0, 16),
+                    request(5, 0, 16),
+                    tick(7),
+                    tick(8),
+                    tick(9),
+                    tick(0),
+                ],
+            ]
+            .concat(),
+        ),
+        (
+            "levels, and who may be a parent",
+            [
+                &deep[..],
+                &[class(6, 3, WEIGHTED, 1, 1), client(6, 3, WEIGHTED, 1, 1)],
+                &[client(7, 4, WEIGHTED, 1, 1), client(7, 8, WEIGHTED, 1, 1)],
+                &[client(5, 0, WEIGHTED, 1, 1), client(0, 0, WEIGHTED, 1, 1)],
+            ]
+            .concat(),
+        ),
+        (
+            "leaving",
+            [
+                &deep[..],
+                &[leave(0), leave(1), leave(9), leave(64), request(4, 1, 1), leave(4)],
+                &[tick(4), tick(4), leave(4), leave(3), leave(2), leave(1), look(1), look(0)],
+            ]
+            .concat(),
+        ),
+        (
+            "a class in debt stays",
+            [
+                vec![open(10, 10), class(1, 0, FIXED, 10_000, 5), client(2, 1, FIXED, 10_000, 5)],
+                vec![poke(2, BALANCE, 5000), request(2, 0, 5), tick(4), leave(2), leave(1)],
+                looks(&[0, 1]),
+            ]
+            .concat(),
+        ),
+        (
+            "the count at its end",
+            [
+                &alone[..],
+                &[Step::Poke { place: ACCEPTED, value: MAX_ACCEPTED - 1 }],
+                &[request(5, 0, 1), request(5, 0, 1), look(5), tick(4), request(5, 0, 1)],
+            ]
+            .concat(),
+        ),
+        (
+            "same",
+            [
+                &two[..],
+                &[Step::Keep, same(false), request(5, 1, 1), tick(4), same(false), same(true)],
+                &[
+                    change_share(5, WEIGHTED, 2),
+                    same(false),
+                    change_share(5, WEIGHTED, 1),
+                    same(true),
+                ],
+                &[
+                    change_rate(1001),
+                    same(true),
+                    change_rate(1000),
+                    same(true),
+                    leave(6),
+                    same(false),
+                ],
+            ]
+            .concat(),
+        ),
+        (
+            "no bucket is full at joining",
+            [&two[..], &[tick(0), tick(0), leave(5), client(5, 0, WEIGHTED, 1, 16), look(5)]]
+                .concat(),
+        ),
+    ]
+}
+
+/// A table with a tree and requests that wait.
+fn sound() -> Vec<Step> {
+    vec![
+        open(1000, 100),
+        class(1, 0, FIXED, 5000, 50),
+        client(2, 1, FIXED, 6000, 20),
+        client(3, 1, WEIGHTED, 6, 30),
+        class(4, 0, WEIGHTED, 1, 50),
+        request(2, 7, 20),
+        request(3, 7, 30),
+        request(2, 7, 9),
+    ]
+}
+
+/// Every call, with arguments that a sound table accepts.
+fn every_call() -> Vec<Step> {
+    vec![
+        look(2),
+        request(2, -1, 1),
+        tick(100),
+        client(9, 4, WEIGHTED, 1, 1),
+        change_share(3, WEIGHTED, 9),
+        change_rate(77),
+        leave(9),
+        same(false),
+        same(true),
+        open(5, 6),
+    ]
+}
+
+/// Every call at tables of wrong length, whatever their contents.
+fn lengths() -> Vec<Scene> {
+    let lengths = [0, 1, HEADER_LEN, TABLE_LEN - 1, TABLE_LEN, TABLE_LEN + 1, 2 * TABLE_LEN];
+    lengths
+        .iter()
+        .map(|&len| {
+            let cut = [Step::Keep, Step::Resize { len }];
+            (format!("length {len}"), [&sound()[..], &cut, &every_call()].concat())
+        })
+        .collect()
+}
+
+/// Each argument of each call at and beyond its limits, the others sound.
+fn limits() -> Vec<Scene> {
+    let mut steps = sound();
+    for low in [0, 1, 63, 64, 10_000, 1_000_000, 1_000_000_000] {
+        for value in [low - 1, low, low + 1, -low, i64::MIN, i64::MIN + 1, i64::MAX - 1, i64::MAX] {
+            steps.extend([
+                look(value),
+                leave(value),
+                request(value, 1, 1),
+                request(3, value, 1),
+                request(3, 1, value),
+                change_share(value, WEIGHTED, 1),
+                change_share(3, value, 1),
+                change_share(3, WEIGHTED, value),
+                change_share(3, FIXED, value),
+                change_rate(value),
+                client(value, 4, WEIGHTED, 1, 1),
+                client(9, value, WEIGHTED, 1, 1),
+                join(9, 4, value, WEIGHTED, 1, 1),
+                client(9, 4, value, 1, 1),
+                client(9, 4, WEIGHTED, value, 1),
+                client(9, 4, WEIGHTED, 1, value),
+                tick(128),
+                Step::Keep,
+                open(value, 10),
+                open(10, value),
+                Step::Restore,
+            ]);
+        }
+    }
+    vec![("limits".into(), steps)]
+}
+
+/// Tables with one clause of "in order" broken and no other, and every call on each of them.
+fn damaged() -> Vec<Scene> {
+    let mut scenes = Vec::new();
+    for seed in 0..40 {
+        let mut steps = if seed == 0 { sound() } else { run(seed, 150, Profile::Clean) };
+        let mut world = World::default();
+        for step in &steps {
+            world.run(&mut Engine, step);
+        }
+        let mut rng = Rng::new(seed);
+        for clause in 0..CLAUSES.len() {
+            if let Some(damage) = damage::isolated(&mut rng, world.table.inner(), clause) {
+                for call in every_call() {
+                    steps.push(Step::Keep);
+                    steps.extend(damage.iter().cloned());
+                    steps.extend([call, Step::Restore]);
+                }
+            }
+        }
+        scenes.push((format!("damage {seed}"), steps));
+    }
+    scenes
+}

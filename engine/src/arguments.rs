@@ -1,0 +1,118 @@
+//! Arguments that mostly make sense for a table in order, for random runs.
+
+use crate::rng::Rng;
+use crate::table::*;
+
+/// A share: for a fixed one often a part of what is left under the class, all
+/// of it, or one above. The share of `except` does not count.
+pub(crate) fn share(rng: &mut Rng, table: &[i64], class: usize, except: Option<usize>) -> i64 {
+    let others = children(table, class).filter(|&child| Some(child) != except);
+    let left = MAX_SHARE - others.map(|child| share_of_kind(table, child, FIXED)).sum::<i64>();
+    let some = rng.between(1, left / 2);
+    let any = rng.between(1, MAX_SHARE);
+    let small = rng.between(1, 10);
+    let share = rng.pick(&[1, small, some, some, some, any, left, left + 1]);
+    share.clamp(1, MAX_SHARE)
+}
+
+/// What the children of a class leave of its depth.
+pub(crate) fn depth_left(table: &[i64], class: usize) -> i64 {
+    let taken: i64 = children(table, class).map(|child| get(table, child, DEPTH)).sum();
+    get(table, class, DEPTH) - taken
+}
+
+/// A depth that mostly fits under the class, at most one of `spread` parts of
+/// what is left.
+pub(crate) fn depth(rng: &mut Rng, table: &[i64], class: usize, spread: i64) -> i64 {
+    let left = depth_left(table, class);
+    let mut depth = rng.between(1, left / spread);
+    if rng.chance(8) {
+        depth = rng.pick(&[1, left / 2, left, left + 1]);
+    }
+    depth.clamp(1, MAX_DEPTH)
+}
+
+/// A class, often one of the lowest.
+pub(crate) fn class(rng: &mut Rng, table: &[i64]) -> usize {
+    let mut all: Vec<usize> = classes(table).collect();
+    if all.is_empty() {
+        return ROOT;
+    }
+    if rng.chance(40) {
+        all.sort_by_key(|&class| get(table, class, LEVEL));
+        return all[all.len() - 1];
+    }
+    rng.pick(&all)
+}
+
+/// A number for a joining node, unused if there is one.
+pub(crate) fn unused_node(rng: &mut Rng, table: &[i64]) -> i64 {
+    let unused: Vec<usize> = (1..NODES).filter(|&node| !is_used(table, node)).collect();
+    if unused.is_empty() {
+        return rng.between(1, 63);
+    }
+    rng.pick(&unused) as i64
+}
+
+/// Mostly a node that is there, else any node number.
+pub(crate) fn any_node(rng: &mut Rng, table: &[i64]) -> i64 {
+    let used: Vec<usize> = used_nodes(table).collect();
+    if used.is_empty() || rng.chance(15) {
+        rng.between(0, 63)
+    } else {
+        rng.pick(&used) as i64
+    }
+}
+
+/// Mostly a node that may leave.
+pub(crate) fn leaving_node(rng: &mut Rng, table: &[i64]) -> i64 {
+    let may_leave =
+        |&node: &usize| waiting_count(table, node) == 0 && children(table, node).next().is_none();
+    let free: Vec<usize> = used_nodes(table).filter(may_leave).collect();
+    if free.is_empty() || rng.chance(20) {
+        any_node(rng, table)
+    } else {
+        rng.pick(&free) as i64
+    }
+}
+
+/// Mostly a client.
+pub(crate) fn client(rng: &mut Rng, table: &[i64]) -> i64 {
+    let clients: Vec<usize> = clients(table).collect();
+    if clients.is_empty() || rng.chance(3) {
+        any_node(rng, table)
+    } else {
+        rng.pick(&clients) as i64
+    }
+}
+
+/// A size for a client of that depth: mostly small, at times one too large.
+pub(crate) fn size(rng: &mut Rng, depth: i64) -> i64 {
+    if rng.chance(2) {
+        return depth + 1;
+    }
+    let small = rng.between(1, depth.min(8));
+    let any = rng.between(1, depth);
+    rng.pick(&[1, small, small, any, depth])
+}
+
+/// A class and all nodes below it, by level.
+pub(crate) fn family(table: &[i64], class: usize) -> Vec<usize> {
+    let mut nodes = vec![class];
+    let mut next = 0;
+    while next < nodes.len() {
+        nodes.extend(children(table, nodes[next]));
+        next += 1;
+    }
+    nodes
+}
+
+/// A class below the root that is in debt, with nothing waiting below it.
+pub(crate) fn quiet_debtor(rng: &mut Rng, table: &[i64]) -> Option<usize> {
+    let in_debt = |&class: &usize| class != ROOT && get(table, class, BALANCE) < 0;
+    let is_quiet = |&class: &usize| {
+        family(table, class).into_iter().all(|node| waiting_count(table, node) == 0)
+    };
+    let debtors: Vec<usize> = classes(table).filter(in_debt).filter(is_quiet).collect();
+    (!debtors.is_empty()).then(|| rng.pick(&debtors))
+}

@@ -1,0 +1,147 @@
+//! The calls on the tree and on requests, save for tick.
+//!
+//! The functions here are the bodies of the calls: refusal 1 was judged
+//! before, by [`crate::Engine`]. Each judges its refusals in rising order and
+//! writes nothing before the last of them.
+
+use crate::controller::NewNode;
+use crate::rates;
+use crate::refusal::*;
+use crate::table::*;
+
+/// Open: zeroes the table and makes the root. Any contents will do.
+pub(crate) fn open(table: &mut [i64], rate: i64, depth: i64) -> Answer<i64> {
+    require((1..=MAX_RATE).contains(&rate), OUTSIDE_LIMITS)?;
+    require((1..=MAX_DEPTH).contains(&depth), OUTSIDE_LIMITS)?;
+    table.fill(0);
+    set(table, ROOT, SORT, CLASS);
+    set(table, ROOT, KIND, FIXED);
+    set(table, ROOT, SHARE, MAX_SHARE);
+    set(table, ROOT, DEPTH, depth);
+    set(table, ROOT, RATE, rate);
+    Ok(0)
+}
+
+/// Join: a new node, with balance 0.
+pub(crate) fn join(table: &mut [i64], new: &NewNode) -> Answer<i64> {
+    let (node, parent) = joining_numbers(new)?;
+    require(is_used(table, parent), NOT_THERE)?;
+    require(!is_used(table, node), IN_USE)?;
+    require(is_class(table, parent), WRONG_NODE)?;
+    let level = get(table, parent, LEVEL) + 1;
+    require(new.sort == CLIENT || level <= MAX_CLASS_LEVEL, TOO_LOW)?;
+    require(fixed_shares_fit(table, parent, node, new.kind, new.share), SHARES_ABOVE)?;
+    require(depth_fits(table, parent, new.depth), DEPTH_ABOVE)?;
+    set(table, node, SORT, new.sort);
+    set(table, node, PARENT, parent as i64);
+    set(table, node, LEVEL, level);
+    set(table, node, KIND, new.kind);
+    set(table, node, SHARE, new.share);
+    set(table, node, DEPTH, new.depth);
+    rates::renew(table);
+    Ok(0)
+}
+
+/// Judges cause 2 of a join; gives the node's and the parent's number.
+fn joining_numbers(new: &NewNode) -> Answer<(usize, usize)> {
+    let node = existing_number(new.node)?;
+    let parent = existing_number(new.parent)?;
+    require(node != ROOT, OUTSIDE_LIMITS)?;
+    require([CLASS, CLIENT].contains(&new.sort), OUTSIDE_LIMITS)?;
+    share_within_limits(new.kind, new.share)?;
+    require((1..=MAX_DEPTH).contains(&new.depth), OUTSIDE_LIMITS)?;
+    Ok((node, parent))
+}
+
+/// Leave: removes a node and zeroes its record.
+pub(crate) fn leave(table: &mut [i64], node: i64) -> Answer<i64> {
+    let node = existing_number(node)?;
+    require(is_used(table, node), NOT_THERE)?;
+    require(node != ROOT, WRONG_NODE)?;
+    let childless = children(table, node).next().is_none();
+    require(childless && waiting_count(table, node) == 0, OCCUPIED)?;
+    let in_debt = is_class(table, node) && get(table, node, BALANCE) < 0;
+    require(!in_debt, IN_DEBT)?;
+    table[at(node, 0)..at(node + 1, 0)].fill(0);
+    rates::renew(table);
+    Ok(0)
+}
+
+/// Change share: gives a node a kind and a share.
+pub(crate) fn change_share(table: &mut [i64], node: i64, kind: i64, share: i64) -> Answer<i64> {
+    let node = existing_number(node)?;
+    share_within_limits(kind, share)?;
+    require(is_used(table, node), NOT_THERE)?;
+    let parent = parent(table, node).ok_or(WRONG_NODE)?;
+    require(fixed_shares_fit(table, parent, node, kind, share), SHARES_ABOVE)?;
+    set(table, node, KIND, kind);
+    set(table, node, SHARE, share);
+    rates::renew(table);
+    Ok(0)
+}
+
+/// Change rate: gives the disk another rate.
+pub(crate) fn change_rate(table: &mut [i64], rate: i64) -> Answer<i64> {
+    require((1..=MAX_RATE).contains(&rate), OUTSIDE_LIMITS)?;
+    set(table, ROOT, RATE, rate);
+    rates::renew(table);
+    Ok(0)
+}
+
+/// Request: returns its arrival number.
+pub(crate) fn request(table: &mut [i64], client: i64, tag: i64, size: i64) -> Answer<i64> {
+    let client = existing_number(client)?;
+    require(size >= 1, OUTSIDE_LIMITS)?;
+    require(is_used(table, client), NOT_THERE)?;
+    require(is_client(table, client), WRONG_NODE)?;
+    require(size <= get(table, client, DEPTH), DEPTH_ABOVE)?;
+    require(waiting_count(table, client) < QUEUE_LEN, WAITING_FULL)?;
+    require(table[ACCEPTED] < MAX_ACCEPTED, COUNT_AT_END)?;
+    table[ACCEPTED] += 1;
+    let arrival = table[ACCEPTED];
+    append_waiting(table, client, Waiting { tag, size, arrival });
+    Ok(arrival)
+}
+
+/// Look: rate, balance and waiting count.
+pub(crate) fn look(table: &[i64], node: i64) -> Answer<[i64; 3]> {
+    let node = existing_number(node)?;
+    require(is_used(table, node), NOT_THERE)?;
+    Ok([RATE, BALANCE, WAITING].map(|place| get(table, node, place)))
+}
+
+/// Same: both tables have the same nodes with equal sorts and places 1 to 5,
+/// and equal disk rates.
+pub(crate) fn same(first: &[i64], second: &[i64]) -> bool {
+    let equal_rates = get(first, ROOT, RATE) == get(second, ROOT, RATE);
+    equal_rates
+        && (0..NODES)
+            .all(|node| record(first, node)[SORT..=DEPTH] == record(second, node)[SORT..=DEPTH])
+}
+
+/// A node number from 0 to 63, else cause 2.
+fn existing_number(number: i64) -> Answer<usize> {
+    node_number(number).ok_or(OUTSIDE_LIMITS)
+}
+
+fn share_within_limits(kind: i64, share: i64) -> Answer<()> {
+    require([FIXED, WEIGHTED].contains(&kind), OUTSIDE_LIMITS)?;
+    require((1..=MAX_SHARE).contains(&share), OUTSIDE_LIMITS)
+}
+
+/// Whether the fixed shares under `class` stay within 10,000 once `node` has
+/// this kind and share, whatever it had before.
+fn fixed_shares_fit(table: &[i64], class: usize, node: usize, kind: i64, share: i64) -> bool {
+    let others: i64 = children(table, class)
+        .filter(|&child| child != node)
+        .map(|child| share_of_kind(table, child, FIXED))
+        .sum();
+    let own = if kind == FIXED { share } else { 0 };
+    others + own <= MAX_SHARE
+}
+
+/// Whether a child of that depth fits under the class beside the others.
+fn depth_fits(table: &[i64], class: usize, depth: i64) -> bool {
+    let others: i64 = children(table, class).map(|child| get(table, child, DEPTH)).sum();
+    others + depth <= get(table, class, DEPTH)
+}

@@ -1,0 +1,315 @@
+//! Damage to the table: every clause of the in-order test broken alone, places
+//! written at random, wrong lengths, and lawful changes.
+
+use crate::order::{self, CLAUSES};
+use crate::random::Rng;
+use crate::rates;
+use crate::steps::Step;
+use crate::table::*;
+
+/// Steps that write a table in order from outside, in some way or other.
+pub fn any(rng: &mut Rng, table: &[i64]) -> Vec<Step> {
+    let clause = rng.below(CLAUSES.len());
+    match rng.below(10) {
+        0..=4 => isolated(rng, table, clause).unwrap_or_default(),
+        5 | 6 => random_pokes(rng, table),
+        7 => near_pokes(rng, table),
+        8 => extreme(rng, table),
+        _ => vec![Step::Resize { len: wrong_length(rng) }],
+    }
+}
+
+/// Steps after which exactly that clause fails, if the table has what it takes.
+pub fn isolated(rng: &mut Rng, table: &[i64], clause: usize) -> Option<Vec<Step>> {
+    for _ in 0..8 {
+        let mut broken = table.to_vec();
+        if break_clause(rng, &mut broken, clause).is_some() && failing(&broken) == [clause] {
+            return Some(pokes(table, &broken));
+        }
+    }
+    None
+}
+
+/// Steps that change one number of the tree, and the rates with it, so that
+/// the table stays in order. There are none if no try succeeds.
+pub fn other_tree(rng: &mut Rng, table: &[i64]) -> Vec<Step> {
+    for _ in 0..20 {
+        let mut changed = table.to_vec();
+        let node = some(rng, used_nodes(table)).unwrap_or(ROOT);
+        let place = rng.pick(&[SORT, PARENT, KIND, SHARE, DEPTH, RATE]);
+        let old = get(table, node, place);
+        let value = match place {
+            SORT => CLASS + CLIENT - old,
+            PARENT => rng.between(0, 63),
+            KIND => FIXED + WEIGHTED - old,
+            _ => old + rng.pick(&[-1, 1]),
+        };
+        set(&mut changed, node, place, value);
+        rates::renew(&mut changed);
+        if changed != table && order::in_order(&changed) {
+            return pokes(table, &changed);
+        }
+    }
+    Vec::new()
+}
+
+/// The numbers of the clauses that a table of right length fails.
+pub fn failing(table: &[i64]) -> Vec<usize> {
+    (0..CLAUSES.len()).filter(|&clause| !CLAUSES[clause].1(table)).collect()
+}
+
+/// The steps that make one table into the other, of equal length.
+fn pokes(from: &[i64], to: &[i64]) -> Vec<Step> {
+    (0..from.len())
+        .filter(|&place| from[place] != to[place])
+        .map(|place| Step::Poke { place, value: to[place] })
+        .collect()
+}
+
+fn wrong_length(rng: &mut Rng) -> usize {
+    let any = rng.below(2 * TABLE_LEN);
+    rng.pick(&[0, 1, HEADER_LEN, TABLE_LEN - 1, TABLE_LEN + 1, TABLE_LEN + RECORD_LEN, any])
+}
+
+/// Writes a few places anywhere, or in the fields of nodes that are there.
+fn random_pokes(rng: &mut Rng, table: &[i64]) -> Vec<Step> {
+    (0..1 + rng.below(3))
+        .map(|_| {
+            let anywhere = rng.below(TABLE_LEN);
+            let node = some(rng, used_nodes(table)).unwrap_or(ROOT);
+            let field = at(node, rng.below(SPARE));
+            Step::Poke { place: rng.pick(&[anywhere, field]), value: rng.edge(0, MAX_SHARE) }
+        })
+        .collect()
+}
+
+/// Writes a place of a node that is there, with a value close to the old one.
+fn near_pokes(rng: &mut Rng, table: &[i64]) -> Vec<Step> {
+    let Some(node) = some(rng, used_nodes(table)) else {
+        return Vec::new();
+    };
+    let place = at(node, rng.below(RECORD_LEN));
+    let value = table[place].saturating_add(rng.pick(&[-2, -1, 1, 2]));
+    vec![Step::Poke { place, value }]
+}
+
+/// Takes the header's count to its end, or a balance to one of its ends. Where
+/// other balances stand in the way the table falls out of order.
+fn extreme(rng: &mut Rng, table: &[i64]) -> Vec<Step> {
+    let mut changed = table.to_vec();
+    let node = some(rng, used_nodes(table)).unwrap_or(ROOT);
+    let full = get(table, node, DEPTH) * GRAINS;
+    match rng.below(4) {
+        0 => changed[ACCEPTED] = MAX_ACCEPTED - rng.between(0, 2),
+        1 => set(&mut changed, node, BALANCE, full),
+        2 if is_class(table, node) => {
+            let lowest = lowest_balance(table, node);
+            set(&mut changed, node, BALANCE, lowest);
+        }
+        2 => set(&mut changed, node, BALANCE, 0),
+        _ => {
+            let balance = rng.between(lowest_balance(table, node), full);
+            set(&mut changed, node, BALANCE, balance);
+        }
+    }
+    pokes(table, &changed)
+}
+
+/// The lowest balance that a node may have.
+fn lowest_balance(table: &[i64], node: usize) -> i64 {
+    if is_client(table, node) {
+        return 0;
+    }
+    let sum: i64 = children(table, node).map(|child| get(table, child, BALANCE)).sum();
+    sum - get(table, node, DEPTH) * GRAINS
+}
+
+/// One of some nodes, if there are any.
+fn some(rng: &mut Rng, nodes: impl Iterator<Item = usize>) -> Option<usize> {
+    let nodes: Vec<usize> = nodes.collect();
+    (!nodes.is_empty()).then(|| rng.pick(&nodes))
+}
+
+/// A client that has at least so many waiting.
+fn some_waiting(rng: &mut Rng, table: &[i64], least: usize) -> Option<usize> {
+    some(rng, clients(table).filter(|&client| waiting_count(table, client) >= least))
+}
+
+/// Tries to break one clause of a table in order and no other.
+fn break_clause(rng: &mut Rng, table: &mut [i64], clause: usize) -> Option<()> {
+    match clause {
+        0 => table[ACCEPTED] = rng.pick(&[i64::MIN, -1, MAX_ACCEPTED + 1, i64::MAX]),
+        1 => table[1 + rng.below(HEADER_LEN - 1)] = rng.pick(&[i64::MIN, -1, 1, i64::MAX]),
+        2 => break_root(rng, table),
+        3 => {
+            let node = some(rng, used_nodes(table))?;
+            set(table, node, SORT, rng.pick(&[i64::MIN, -1, 3, i64::MAX]));
+        }
+        4 => break_zeros(rng, table)?,
+        5 => break_limits(rng, table)?,
+        6 => break_parent(rng, table)?,
+        7 => break_class_level(rng, table)?,
+        8 => break_waiting_count(rng, table)?,
+        9 => {
+            let class = some(rng, classes(table))?;
+            set(table, class, WAITING, 1);
+            set(table, class, QUEUE, rng.pick(&[0, 1]));
+        }
+        10 => break_fixed_sum(rng, table)?,
+        11 => break_depth_sum(rng, table)?,
+        12 => {
+            let node = some(rng, used_nodes(table).filter(|&node| node != ROOT))?;
+            let rate = get(table, node, RATE);
+            set(table, node, RATE, rng.pick(&[rate - 1, rate + 1, i64::MIN, i64::MAX]));
+        }
+        13 => {
+            let node = some(rng, used_nodes(table))?;
+            let above = get(table, node, DEPTH) * GRAINS + 1;
+            set(table, node, BALANCE, rng.pick(&[above, above, i64::MAX]));
+        }
+        14 => {
+            let client = some(rng, clients(table))?;
+            set(table, client, BALANCE, rng.pick(&[i64::MIN, -1]));
+        }
+        15 => {
+            let class = some(rng, classes(table))?;
+            let below = lowest_balance(table, class) - 1;
+            set(table, class, BALANCE, rng.pick(&[below, below, i64::MIN]));
+        }
+        16 => {
+            let client = some_waiting(rng, table, 1)?;
+            let place = QUEUE + QUEUE_STEP * rng.below(waiting_count(table, client)) + 1;
+            let above = get(table, client, DEPTH) + 1;
+            set(table, client, place, rng.pick(&[i64::MIN, -1, 0, above, i64::MAX]));
+        }
+        17 => break_arrivals(rng, table)?,
+        _ => return None,
+    }
+    Some(())
+}
+
+fn break_root(rng: &mut Rng, table: &mut [i64]) {
+    match rng.below(5) {
+        0 => set(table, ROOT, KIND, WEIGHTED),
+        1 => set(table, ROOT, SHARE, rng.pick(&[1, MAX_SHARE - 1])),
+        2 => set(table, ROOT, PARENT, rng.pick(&[-1, 1, 63, 64])),
+        // Only where the root is alone, else its children's clauses fail too.
+        3 => set(table, ROOT, LEVEL, rng.pick(&[1, 3])),
+        _ => {
+            set(table, ROOT, RATE, rng.pick(&[-1, 0, MAX_RATE + 1]));
+            rates::renew(table);
+        }
+    }
+}
+
+/// Writes a place that has to be zero.
+fn break_zeros(rng: &mut Rng, table: &mut [i64]) -> Option<()> {
+    let node = rng.below(NODES);
+    let place = if !is_used(table, node) {
+        1 + rng.below(RECORD_LEN - 1)
+    } else if rng.chance(40) {
+        SPARE + rng.below(QUEUE - SPARE)
+    } else {
+        let filled = QUEUE + QUEUE_STEP * waiting_count(table, node);
+        if filled == RECORD_LEN {
+            return None;
+        }
+        filled + rng.below(RECORD_LEN - filled)
+    };
+    set(table, node, place, rng.pick(&[i64::MIN, -1, 1, i64::MAX]));
+    Some(())
+}
+
+fn break_limits(rng: &mut Rng, table: &mut [i64]) -> Option<()> {
+    let node = some(rng, used_nodes(table))?;
+    match rng.below(3) {
+        0 => set(table, node, KIND, rng.pick(&[i64::MIN, -1, 2, i64::MAX])),
+        1 => set(table, node, SHARE, rng.pick(&[-1, 0, MAX_SHARE + 1])),
+        _ => set(table, node, DEPTH, rng.pick(&[-1, 0, MAX_DEPTH + 1])),
+    }
+    rates::renew(table);
+    Some(())
+}
+
+fn break_parent(rng: &mut Rng, table: &mut [i64]) -> Option<()> {
+    let node = some(rng, used_nodes(table).filter(|&node| node != ROOT))?;
+    if rng.chance(50) {
+        let level = get(table, node, LEVEL);
+        set(table, node, LEVEL, rng.pick(&[level - 1, level + 1, i64::MIN, i64::MAX]));
+    } else {
+        let other = rng.between(0, 63);
+        set(table, node, PARENT, rng.pick(&[other, other, -1, 64, i64::MIN, i64::MAX]));
+        rates::renew(table);
+    }
+    Some(())
+}
+
+/// Makes a class of a client on level 4, or of one on a level that no class has.
+fn break_class_level(rng: &mut Rng, table: &mut [i64]) -> Option<()> {
+    let deepest = clients(table).filter(|&client| get(table, client, LEVEL) == MAX_CLASS_LEVEL + 1);
+    let client = some(rng, deepest)?;
+    set(table, client, SORT, CLASS);
+    set(table, client, WAITING, 0);
+    table[at(client, QUEUE)..at(client, RECORD_LEN)].fill(0);
+    Some(())
+}
+
+fn break_waiting_count(rng: &mut Rng, table: &mut [i64]) -> Option<()> {
+    let full = clients(table).filter(|&client| waiting_count(table, client) == QUEUE_LEN);
+    if let Some(client) = some(rng, full) {
+        set(table, client, WAITING, rng.pick(&[QUEUE_LEN as i64 + 1, i64::MAX]));
+        return Some(());
+    }
+    let idle = used_nodes(table).filter(|&node| waiting_count(table, node) == 0);
+    let node = some(rng, idle)?;
+    set(table, node, WAITING, rng.pick(&[-1, i64::MIN]));
+    Some(())
+}
+
+/// Gives two children of a class fixed shares of 10,001 together.
+fn break_fixed_sum(rng: &mut Rng, table: &mut [i64]) -> Option<()> {
+    let several = classes(table).filter(|&class| children(table, class).count() >= 2);
+    let class = some(rng, several)?;
+    let pair: Vec<usize> = children(table, class).take(2).collect();
+    let share = rng.between(1, MAX_SHARE);
+    for (child, share) in [(pair[0], share), (pair[1], MAX_SHARE + 1 - share)] {
+        set(table, child, KIND, FIXED);
+        set(table, child, SHARE, share);
+    }
+    rates::renew(table);
+    Some(())
+}
+
+/// Makes a child's depth so large that the sum is one above the class's.
+fn break_depth_sum(rng: &mut Rng, table: &mut [i64]) -> Option<()> {
+    let node = some(rng, used_nodes(table).filter(|&node| node != ROOT))?;
+    let class = parent(table, node)?;
+    let sum: i64 = children(table, class).map(|child| get(table, child, DEPTH)).sum();
+    let missing = get(table, class, DEPTH) - sum + 1;
+    let depth = get(table, node, DEPTH);
+    set(table, node, DEPTH, depth + missing);
+    Some(())
+}
+
+fn break_arrivals(rng: &mut Rng, table: &mut [i64]) -> Option<()> {
+    let first = some_waiting(rng, table, 1)?;
+    let index = rng.below(waiting_count(table, first));
+    let arrival = QUEUE + 2 + QUEUE_STEP * index;
+    match rng.below(4) {
+        0 => set(table, first, arrival, rng.pick(&[i64::MIN, -1, 0])),
+        1 => {
+            let above = table[ACCEPTED] + 1;
+            set(table, first, arrival, rng.pick(&[above, i64::MAX]));
+        }
+        2 => {
+            let client = some_waiting(rng, table, 2)?;
+            table.swap(at(client, QUEUE + 2), at(client, QUEUE + 2 + QUEUE_STEP));
+        }
+        _ => {
+            let second = some_waiting(rng, table, 1)?;
+            let copied = waiting_at(table, second, 0).arrival;
+            set(table, first, arrival, copied);
+        }
+    }
+    Some(())
+}

@@ -1,0 +1,373 @@
+//! Controllers with one known fault each: the paper's slips, the fakes that
+//! document 01 names, and some more. The judge or the differential must object
+//! to every one of them.
+
+use crate::controller::{Controller, Engine, NewNode};
+use crate::damage::failing;
+use crate::plan::{Plan, MAX_COUNT};
+use crate::refusal::*;
+use crate::table::*;
+use crate::{calls, faulty_parts, order, plan, tick};
+
+/// A fault.
+#[derive(Clone, Copy, Debug, PartialEq, Eq)]
+pub enum Fault {
+    /// No fault at all: the measure for the others.
+    None,
+    /// Balances are cut before step 2, which robs a waiting client.
+    CutsFirst,
+    /// The client is charged for what a class supplied.
+    ChargesClient,
+    /// The charge stops below the root.
+    SparesRoot,
+    /// The larger of balance and depth is taken.
+    TakesLarger,
+    /// Weights are applied to the whole class rate.
+    WeighsWholeRate,
+    /// A full bucket at joining.
+    FullBucket,
+    /// A class in debt may leave.
+    ForgivesDebt,
+    /// A tick that lists nothing.
+    ListsNothing,
+    /// Dispatches everything in the first tick that has any, and idles later.
+    AllAtOnce,
+    /// A tick that invents its count.
+    InventsCount,
+    /// "Waiting full" with seven waiting.
+    FullTooEarly,
+    /// "List short" at just enough.
+    ShortTooEarly,
+    /// Requests are always refused.
+    RefusesRequests,
+    /// Requests are always answered 1.
+    AnswersAlike,
+    /// Requests leave the table untouched.
+    ForgetsRequests,
+    /// Step 2 dispatches one request at most for each client.
+    OwnOnce,
+    /// Step 4 ends when the oldest request of all has no supplier.
+    StopsAtOldest,
+    /// Step 4 goes by client number.
+    ByNumber,
+    /// The supplier is sought from the root down.
+    FromRootDown,
+    /// Balances are cut after step 4.
+    CutsLast,
+    /// Leave zeroes the sort only.
+    KeepsRecord,
+    /// Leave does not renew the rates.
+    KeepsRates,
+    /// Grains lost by rounding go to the lowest child of the root.
+    GivesRemainder,
+    /// Children's depths are judged before fixed shares.
+    DepthsBeforeShares,
+    /// Change share counts the node's old fixed share too.
+    CountsOldShare,
+    /// Plan entries' order is judged before the joins.
+    PlanOrderFirst,
+    /// Offsets in a plan are not looked at.
+    IgnoresOffsets,
+    /// Plans are written by number only.
+    WritesByNumber,
+    /// Same does not compare depths.
+    SameForgetsDepths,
+    /// The in-order test lacks the clause of that number.
+    LacksClause(usize),
+}
+
+/// All faults that are no lacking clause.
+pub const FAULTS: [Fault; 29] = [
+    Fault::CutsFirst,
+    Fault::ChargesClient,
+    Fault::SparesRoot,
+    Fault::TakesLarger,
+    Fault::WeighsWholeRate,
+    Fault::FullBucket,
+    Fault::ForgivesDebt,
+    Fault::ListsNothing,
+    Fault::AllAtOnce,
+    Fault::InventsCount,
+    Fault::FullTooEarly,
+    Fault::ShortTooEarly,
+    Fault::RefusesRequests,
+    Fault::AnswersAlike,
+    Fault::ForgetsRequests,
+    Fault::OwnOnce,
+    Fault::StopsAtOldest,
+    Fault::ByNumber,
+    Fault::FromRootDown,
+    Fault::CutsLast,
+    Fault::KeepsRecord,
+    Fault::KeepsRates,
+    Fault::GivesRemainder,
+    Fault::DepthsBeforeShares,
+    Fault::CountsOldShare,
+    Fault::PlanOrderFirst,
+    Fault::IgnoresOffsets,
+    Fault::WritesByNumber,
+    Fault::SameForgetsDepths,
+];
+
+impl Fault {
+    /// Whether only wild runs can show the fault. The others show in clean
+    /// runs too.
+    pub fn needs_wild_runs(self) -> bool {
+        matches!(
+            self,
+            Fault::PlanOrderFirst
+                | Fault::IgnoresOffsets
+                | Fault::WritesByNumber
+                | Fault::SameForgetsDepths
+                | Fault::LacksClause(_)
+        )
+    }
+}
+
+/// A controller with a fault.
+#[derive(Clone, Debug)]
+pub struct Faulty {
+    fault: Fault,
+    /// For [`Fault::AllAtOnce`]: it has dispatched.
+    fired: bool,
+    /// The table as this controller last left it.
+    own: Vec<i64>,
+}
+
+impl Faulty {
+    /// A controller with that fault.
+    pub fn new(fault: Fault) -> Faulty {
+        Faulty { fault, fired: false, own: Vec::new() }
+    }
+
+    fn has(&self, fault: Fault) -> bool {
+        self.fault == fault
+    }
+
+    /// Refusal 1. A table that this controller left itself is taken as it is:
+    /// many faults put it out of order, and must not stop there. A lacking
+    /// clause shows by a refusal that no call has.
+    fn check(&self, table: &[i64]) -> Answer<()> {
+        order::check_length(table)?;
+        match self.fault {
+            Fault::LacksClause(clause) if failing(table) == [clause] => Err(0),
+            _ if table == self.own => Ok(()),
+            _ => order::check(table),
+        }
+    }
+
+    /// A call that may change the table.
+    fn change(
+        &mut self,
+        table: &mut [i64],
+        body: impl FnOnce(&mut Faulty, &mut [i64]) -> Answer<i64>,
+    ) -> Answer<i64> {
+        self.check(table)?;
+        let answer = body(self, table);
+        self.own = table.to_vec();
+        answer
+    }
+
+    /// Renews the rates in the fault's way.
+    fn renew(&self, table: &mut [i64]) {
+        if self.has(Fault::WeighsWholeRate) {
+            faulty_parts::renew_on_whole_rate(table);
+        }
+        if self.has(Fault::GivesRemainder) {
+            faulty_parts::give_remainder(table);
+        }
+    }
+}
+
+/// The bodies of the calls that change the table.
+impl Faulty {
+    fn join_body(&mut self, table: &mut [i64], new: &NewNode) -> Answer<i64> {
+        let answer = calls::join(table, new);
+        if self.has(Fault::DepthsBeforeShares) && answer == Err(SHARES_ABOVE) {
+            let weighted = NewNode { kind: WEIGHTED, ..*new };
+            return calls::join(&mut table.to_vec(), &weighted).and(answer);
+        }
+        answer?;
+        if self.has(Fault::FullBucket) {
+            set(table, new.node as usize, BALANCE, new.depth * GRAINS);
+        }
+        self.renew(table);
+        answer
+    }
+
+    fn leave_body(&mut self, table: &mut [i64], node: i64) -> Answer<i64> {
+        let before = table.to_vec();
+        let mut answer = calls::leave(table, node);
+        if self.has(Fault::ForgivesDebt) && answer == Err(IN_DEBT) {
+            set(table, node as usize, BALANCE, 0);
+            answer = calls::leave(table, node);
+        }
+        answer?;
+        if self.has(Fault::KeepsRecord) {
+            table.copy_from_slice(&before);
+            set(table, node as usize, SORT, UNUSED);
+        }
+        if self.has(Fault::KeepsRates) {
+            for other in (0..NODES).filter(|&other| other != node as usize) {
+                table[at(other, RATE)] = before[at(other, RATE)];
+            }
+        }
+        self.renew(table);
+        answer
+    }
+
+    fn change_share_body(
+        &mut self,
+        table: &mut [i64],
+        node: i64,
+        kind: i64,
+        share: i64,
+    ) -> Answer<i64> {
+        let before = table.to_vec();
+        let answer = calls::change_share(table, node, kind, share);
+        if self.has(Fault::CountsOldShare) && answer.is_ok() && kind == FIXED {
+            let class = parent(&before, node as usize).unwrap_or(ROOT);
+            let shares = children(&before, class).map(|child| share_of_kind(&before, child, FIXED));
+            if shares.sum::<i64>() + share > MAX_SHARE {
+                table.copy_from_slice(&before);
+                return Err(SHARES_ABOVE);
+            }
+        }
+        answer?;
+        self.renew(table);
+        answer
+    }
+
+    fn request_body(&mut self, table: &mut [i64], client: i64, tag: i64, size: i64) -> Answer<i64> {
+        let before = table.to_vec();
+        let arrival = calls::request(table, client, tag, size)?;
+        let full = get(table, client as usize, WAITING) == QUEUE_LEN as i64;
+        let answer = match self.fault {
+            Fault::FullTooEarly if full => Err(WAITING_FULL),
+            Fault::RefusesRequests => Err(OUTSIDE_LIMITS),
+            Fault::AnswersAlike => Ok(1),
+            _ => Ok(arrival),
+        };
+        if answer.is_err() || self.has(Fault::ForgetsRequests) {
+            table.copy_from_slice(&before);
+        }
+        answer
+    }
+
+    fn tick_body(&mut self, table: &mut [i64], list: &mut [i64]) -> Answer<i64> {
+        let needed = tick::ENTRY_LEN * waiting_in_all(table);
+        let too_early = self.has(Fault::ShortTooEarly) && needed > 0;
+        require(list.len() >= needed + usize::from(too_early), BUFFER_SHORT)?;
+        match self.fault {
+            Fault::AllAtOnce if self.fired => Ok(0),
+            Fault::AllAtOnce => {
+                self.fired = needed > 0;
+                Ok(faulty_parts::dispatch_all(table, list))
+            }
+            fault => Ok(faulty_parts::tick(fault, table, list)),
+        }
+    }
+}
+
+impl Controller for Faulty {
+    fn start(&mut self) {
+        *self = Faulty::new(self.fault);
+    }
+
+    fn open(&mut self, table: &mut [i64], rate: i64, depth: i64) -> Answer<i64> {
+        Engine.open(table, rate, depth)
+    }
+
+    fn join(&mut self, table: &mut [i64], new: &NewNode) -> Answer<i64> {
+        self.change(table, |this, table| this.join_body(table, new))
+    }
+
+    fn leave(&mut self, table: &mut [i64], node: i64) -> Answer<i64> {
+        self.change(table, |this, table| this.leave_body(table, node))
+    }
+
+    fn change_share(&mut self, table: &mut [i64], node: i64, kind: i64, share: i64) -> Answer<i64> {
+        self.change(table, |this, table| this.change_share_body(table, node, kind, share))
+    }
+
+    fn change_rate(&mut self, table: &mut [i64], rate: i64) -> Answer<i64> {
+        self.change(table, |this, table| {
+            calls::change_rate(table, rate)?;
+            this.renew(table);
+            Ok(0)
+        })
+    }
+
+    fn request(&mut self, table: &mut [i64], client: i64, tag: i64, size: i64) -> Answer<i64> {
+        self.change(table, |this, table| this.request_body(table, client, tag, size))
+    }
+
+    fn tick(&mut self, table: &mut [i64], list: &mut [i64]) -> Answer<i64> {
+        self.change(table, |this, table| this.tick_body(table, list))
+    }
+
+    fn look(&mut self, table: &[i64], node: i64) -> Answer<[i64; 3]> {
+        self.check(table)?;
+        calls::look(table, node)
+    }
+
+    fn same(&mut self, first: &[i64], second: &[i64]) -> Answer<bool> {
+        self.check(first)?;
+        self.check(second)?;
+        if !self.has(Fault::SameForgetsDepths) {
+            return Ok(calls::same(first, second));
+        }
+        let mut first = first.to_vec();
+        for node in 0..NODES {
+            set(&mut first, node, DEPTH, get(second, node, DEPTH));
+        }
+        Ok(calls::same(&first, second))
+    }
+
+    fn plan_read(&mut self, bytes: &[u8], table: &mut [i64]) -> Answer<i64> {
+        let mut bytes = bytes.to_vec();
+        if self.has(Fault::IgnoresOffsets) {
+            repair_offsets(&mut bytes);
+        }
+        if let (Fault::PlanOrderFirst, Ok(plan)) = (self.fault, Plan::decode(&bytes)) {
+            order::check_length(table)?;
+            let rising = plan
+                .nodes
+                .windows(2)
+                .all(|pair| pair[0].parent != pair[1].parent || pair[0].node < pair[1].node);
+            require(rising, PLAN_ORDER)?;
+        }
+        Engine.plan_read(&bytes, table)
+    }
+
+    fn plan_write(&mut self, table: &[i64], buffer: &mut [u8]) -> Answer<i64> {
+        self.check(table)?;
+        if self.has(Fault::WritesByNumber) {
+            let mut plan = Plan::of_table(table);
+            plan.nodes.sort_by_key(|new| new.node);
+            let bytes = plan.encode();
+            require(buffer.len() >= bytes.len(), BUFFER_SHORT)?;
+            buffer[..bytes.len()].copy_from_slice(&bytes);
+            return Ok(bytes.len() as i64);
+        }
+        plan::write(table, buffer)
+    }
+
+    fn plan_check(&mut self, bytes: &[u8]) -> i64 {
+        let mut table = [0; TABLE_LEN];
+        self.plan_read(bytes, &mut table).err().unwrap_or(0)
+    }
+}
+
+/// Writes the right offsets into a plan that has the right length.
+fn repair_offsets(bytes: &mut [u8]) {
+    let count = bytes.get(plan::HEAD_LEN - 1).map_or(0, |&count| usize::from(count));
+    if count > MAX_COUNT || bytes.len() != plan::plan_len(count) {
+        return;
+    }
+    for index in 0..count {
+        let offset = plan::HEAD_LEN + plan::ENTRY_LEN * count + plan::BODY_LEN * index;
+        let place = plan::HEAD_LEN + plan::ENTRY_LEN * index + 2;
+        bytes[place..place + 2].copy_from_slice(&(offset as u16).to_le_bytes());
+    }
+}

@@ -1,0 +1,144 @@
+//! Parts of the controllers with faults: wrong rates, and a tick that can go
+//! wrong. Without a fault it is the tick of document 01 once more.
+
+use crate::faulty::Fault;
+use crate::rates;
+use crate::table::*;
+use crate::tick::{
+    cut, find_supplier, grains, grow, has_enough, oldest, path_to_root, DispatchList,
+};
+
+/// A tick with that fault, over a list that is long enough.
+pub(crate) fn tick(fault: Fault, table: &mut [i64], list: &mut [i64]) -> i64 {
+    let mut list = DispatchList::new(list);
+    grow(table);
+    if fault == Fault::CutsFirst {
+        cut(table);
+    }
+    if fault != Fault::ListsNothing {
+        serve_own(fault, table, &mut list);
+    }
+    match fault {
+        Fault::TakesLarger => take_larger(table),
+        Fault::CutsLast => {}
+        _ => cut(table),
+    }
+    if fault != Fault::ListsNothing {
+        serve_rest(fault, table, &mut list);
+    }
+    if fault == Fault::CutsLast {
+        cut(table);
+    }
+    list.count() + i64::from(fault == Fault::InventsCount)
+}
+
+/// Dispatches all that waits, and charges it to the root.
+pub(crate) fn dispatch_all(table: &mut [i64], list: &mut [i64]) -> i64 {
+    let mut list = DispatchList::new(list);
+    for client in 0..NODES {
+        while oldest(table, client).is_some() {
+            dispatch(Fault::AllAtOnce, table, &mut list, client, ROOT);
+        }
+    }
+    list.count()
+}
+
+fn serve_own(fault: Fault, table: &mut [i64], list: &mut DispatchList) {
+    for client in 0..NODES {
+        while oldest(table, client)
+            .is_some_and(|request| has_enough(table, client, grains(request.size)))
+        {
+            dispatch(fault, table, list, client, client);
+            if fault == Fault::OwnOnce {
+                break;
+            }
+        }
+    }
+}
+
+fn take_larger(table: &mut [i64]) {
+    for node in 0..NODES {
+        let full = grains(get(table, node, DEPTH));
+        let balance = get(table, node, BALANCE);
+        set(table, node, BALANCE, balance.max(full));
+    }
+}
+
+fn serve_rest(fault: Fault, table: &mut [i64], list: &mut DispatchList) {
+    while let Some((client, supplier)) = choose(fault, table) {
+        dispatch(fault, table, list, client, supplier);
+    }
+}
+
+/// The client that is served next, and its supplier.
+fn choose(fault: Fault, table: &[i64]) -> Option<(usize, usize)> {
+    let mut asking: Vec<(i64, usize, Option<usize>)> = clients(table)
+        .filter_map(|client| {
+            let request = oldest(table, client)?;
+            Some((request.arrival, client, seek(fault, table, client, grains(request.size))))
+        })
+        .collect();
+    if fault != Fault::ByNumber {
+        asking.sort_unstable();
+    }
+    if fault == Fault::StopsAtOldest {
+        asking.truncate(1);
+    }
+    asking.into_iter().find_map(|(_, client, supplier)| Some((client, supplier?)))
+}
+
+fn seek(fault: Fault, table: &[i64], client: usize, needed: i64) -> Option<usize> {
+    if fault == Fault::FromRootDown {
+        path_to_root(table, client).filter(|&node| has_enough(table, node, needed)).last()
+    } else {
+        find_supplier(table, client, needed)
+    }
+}
+
+fn dispatch(
+    fault: Fault,
+    table: &mut [i64],
+    list: &mut DispatchList,
+    client: usize,
+    supplier: usize,
+) {
+    let request = take_oldest(table, client);
+    list.add(client, request, supplier);
+    let lowest = if fault == Fault::ChargesClient { client } else { supplier };
+    let payers: Vec<usize> = path_to_root(table, lowest).collect();
+    for payer in payers {
+        if payer != ROOT || fault != Fault::SparesRoot {
+            table[at(payer, BALANCE)] -= grains(request.size);
+        }
+    }
+}
+
+/// Gives weighted children their part of the class's whole rate.
+pub(crate) fn renew_on_whole_rate(table: &mut [i64]) {
+    for level in 0..=MAX_CLASS_LEVEL {
+        let classes: Vec<usize> =
+            classes(table).filter(|&class| get(table, class, LEVEL) == level).collect();
+        for class in classes {
+            let children: Vec<usize> = children(table, class).collect();
+            let weights: i64 =
+                children.iter().map(|&child| share_of_kind(table, child, WEIGHTED)).sum();
+            for child in children {
+                let fixed = get(table, child, KIND) == FIXED;
+                let whole = if fixed { MAX_SHARE } else { weights };
+                let rate = get(table, class, RATE) * get(table, child, SHARE) / whole;
+                set(table, child, RATE, rate);
+            }
+        }
+    }
+}
+
+/// Gives the lowest child of the root what rounding lost among weights.
+pub(crate) fn give_remainder(table: &mut [i64]) {
+    rates::renew(table);
+    let fixed = children(table, ROOT).any(|child| get(table, child, KIND) == FIXED);
+    let sum: i64 = children(table, ROOT).map(|child| get(table, child, RATE)).sum();
+    let first = children(table, ROOT).next();
+    if let (false, Some(child)) = (fixed, first) {
+        table[at(child, RATE)] += get(table, ROOT, RATE) - sum;
+    }
+}

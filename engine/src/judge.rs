@@ -1,0 +1,358 @@
+//! Demand 3's judge.
+//!
+//! "Over every list of calls from a freshly opened table, and every stretch of
+//! it: a waiting client never falls below its reservation, and disk and classes
+//! never exceed theirs by more than five depths."
+//!
+//! The judge goes by the calls, their answers and the lists that ticks write,
+//! never by the table. Precisely, for every stretch:
+//!
+//! * a client that has a request waiting after every call of the stretch gets
+//!   more grains dispatched than the sum of its rates over the accepted ticks
+//!   of the stretch less depth × 1000;
+//! * to the root, and to every class joined throughout, at most the sum of its
+//!   rates over those ticks plus 5 × depth × 1000 grains are charged.
+//!
+//! # All stretches in one pass
+//!
+//! Give every node a running sum, its drift. For a client it is all its rates
+//! so far less all grains dispatched for it; for a class all grains charged
+//! less all its rates. What a stretch adds is then the drift at its end less
+//! the drift at its start, and both promises say that this stays under a bound.
+//! For one end the worst start is the one with the lowest drift among all
+//! allowed starts, so it is enough to keep that lowest drift and its position.
+//! Allowed starts of a class are all positions since its join. Those of a
+//! client are all positions since it last had nothing waiting, that one
+//! included: the call after it may be the request itself.
+
+use std::fmt;
+use std::ops::Range;
+
+use crate::controller::{Controller, NewNode};
+use crate::rates::Division;
+use crate::steps::{Call, Reply, Step, World};
+use crate::table::{node_number, CLASS, CLIENT, FIXED, GRAINS, MAX_SHARE, NODES, ROOT, WEIGHTED};
+
+/// Depths by which a class may exceed its rates.
+const CLASS_DEPTHS: i128 = 5;
+
+/// A broken promise.
+#[derive(Clone, Debug, PartialEq, Eq)]
+pub struct Violation {
+    /// Which promise it is.
+    pub promise: Promise,
+    /// The node.
+    pub node: usize,
+    /// The stretch, as positions in the list of calls after open. The call
+    /// right after open has position 0.
+    pub stretch: Range<usize>,
+    /// Grains of the stretch that count: rates less dispatched for a client,
+    /// charged less rates for a class.
+    pub grains: i128,
+    /// The bound: grains must stay under it (client) or not exceed it (class).
+    pub bound: i128,
+}
+
+/// The promises of demand 3.
+#[derive(Clone, Copy, Debug, PartialEq, Eq)]
+pub enum Promise {
+    /// A waiting client never falls below its reservation.
+    Client,
+    /// The disk never exceeds its rate by more than five depths.
+    Disk,
+    /// The same for a class.
+    Class,
+}
+
+impl fmt::Display for Violation {
+    fn fmt(&self, out: &mut fmt::Formatter) -> fmt::Result {
+        let Range { start, end } = self.stretch;
+        let (promise, node, grains, bound) = (self.promise, self.node, self.grains, self.bound);
+        match promise {
+            Promise::Client => {
+                write!(out, "client {node} lags {grains} grains, not under {bound}")?
+            }
+            _ => write!(out, "{promise:?} {node} exceeds by {grains} grains, more than {bound}")?,
+        }
+        write!(out, ", in calls {start}..{end} after open")
+    }
+}
+
+/// What the judge keeps of a joined node.
+#[derive(Clone, Debug)]
+struct Account {
+    parent: usize,
+    sort: i64,
+    kind: i64,
+    share: i64,
+    depth: i64,
+    /// Requests accepted and entries dispatched since its join.
+    accepted: u64,
+    dispatched: u64,
+    /// The running sum, its lowest value at an allowed start, and where.
+    drift: i128,
+    lowest: i128,
+    lowest_at: usize,
+    /// A violation of this node was reported already.
+    reported: bool,
+}
+
+impl Account {
+    fn new(
+        parent: usize,
+        sort: i64,
+        kind: i64,
+        share: i64,
+        depth: i64,
+        position: usize,
+    ) -> Account {
+        Account {
+            parent,
+            sort,
+            kind,
+            share,
+            depth,
+            accepted: 0,
+            dispatched: 0,
+            drift: 0,
+            lowest: 0,
+            lowest_at: position,
+            reported: false,
+        }
+    }
+
+    fn is_waiting(&self) -> bool {
+        self.accepted > self.dispatched
+    }
+
+    fn start_from(&mut self, position: usize) {
+        self.lowest = self.drift;
+        self.lowest_at = position;
+    }
+}
+
+/// The observer of one controller.
+#[derive(Clone, Debug, Default)]
+pub struct Judge {
+    /// The joined nodes by number; empty before the first accepted open.
+    tree: Vec<Option<Account>>,
+    disk_rate: i64,
+    /// Calls seen since open.
+    position: usize,
+    violations: Vec<Violation>,
+}
+
+/// Runs the calls of `steps` on a controller under the judge's eyes. Steps
+/// that write the table from outside end the list that is being judged.
+pub fn watch(controller: &mut dyn Controller, steps: &[Step]) -> Vec<Violation> {
+    let mut world = World::default();
+    let mut judge = Judge::default();
+    controller.start();
+    for step in steps {
+        let reply = world.run(controller, step);
+        match (step, reply) {
+            (Step::Call(call), Some(reply)) => judge.observe(call, reply, world.list.inner()),
+            (Step::Keep, _) => {}
+            _ => judge.end_list(),
+        }
+    }
+    judge.violations
+}
+
+impl Judge {
+    /// What was found so far: at most one violation for each joining of a node.
+    pub fn violations(&self) -> &[Violation] {
+        &self.violations
+    }
+
+    /// Forgets the list; nothing is judged until the next accepted open.
+    pub fn end_list(&mut self) {
+        self.tree.clear();
+    }
+
+    /// Takes in one call with its reply, and for a tick its list afterwards.
+    /// An accepted open starts a list; an accepted plan read, which leaves
+    /// another table, ends it; the other calls outside demand 3 do not count.
+    pub fn observe(&mut self, call: &Call, reply: Reply, list: &[i64]) {
+        let accepted = matches!(reply, Reply::Number(_));
+        match *call {
+            Call::Open { rate, depth } if accepted => self.start_list(rate, depth),
+            Call::PlanRead { .. } if accepted => self.end_list(),
+            Call::Join(_)
+            | Call::Leave { .. }
+            | Call::ChangeShare { .. }
+            | Call::ChangeRate { .. }
+            | Call::Request { .. }
+            | Call::Tick { .. }
+                if !self.tree.is_empty() =>
+            {
+                self.position += 1;
+                if let Reply::Number(answer) = reply {
+                    self.accept(call, answer, list);
+                }
+                self.settle();
+            }
+            _ => {}
+        }
+    }
+
+    fn start_list(&mut self, rate: i64, depth: i64) {
+        self.tree = vec![None; NODES];
+        self.tree[ROOT] = Some(Account::new(ROOT, CLASS, FIXED, MAX_SHARE, depth, 0));
+        self.disk_rate = rate;
+        self.position = 0;
+    }
+
+    /// An accepted call of the list. What no right controller accepts, such as
+    /// a node number of 64, counts for nothing.
+    fn accept(&mut self, call: &Call, answer: i64, list: &[i64]) {
+        match *call {
+            Call::Join(ref new) => self.add(new),
+            Call::Leave { node } => self.take_out(node),
+            Call::ChangeShare { node, kind, share } => {
+                if let Some(account) = self.account(node) {
+                    account.kind = kind;
+                    account.share = share;
+                }
+            }
+            Call::ChangeRate { rate } => self.disk_rate = rate,
+            Call::Request { client, .. } => {
+                if let Some(account) = self.account(client) {
+                    account.accepted += 1;
+                }
+            }
+            Call::Tick { .. } => self.tick(answer, list),
+            _ => {}
+        }
+    }
+
+    fn account(&mut self, node: i64) -> Option<&mut Account> {
+        self.tree[node_number(node)?].as_mut()
+    }
+
+    fn add(&mut self, new: &NewNode) {
+        if let (Some(node), Some(parent)) = (node_number(new.node), node_number(new.parent)) {
+            let NewNode { sort, kind, share, depth, .. } = *new;
+            let account = Account::new(parent, sort, kind, share, depth, self.position);
+            self.tree[node] = Some(account);
+        }
+    }
+
+    fn take_out(&mut self, node: i64) {
+        if let Some(node) = node_number(node).filter(|&node| node != ROOT) {
+            self.tree[node] = None;
+        }
+    }
+
+    /// An accepted tick: every node earns its rate, then the entries count.
+    fn tick(&mut self, answer: i64, list: &[i64]) {
+        let rates = self.rates();
+        for (account, rate) in self.tree.iter_mut().zip(rates) {
+            match account {
+                Some(client) if client.sort == CLIENT => client.drift += rate,
+                Some(class) => class.drift -= rate,
+                None => {}
+            }
+        }
+        let count = usize::try_from(answer).unwrap_or(0);
+        for entry in list.chunks_exact(4).take(count) {
+            let grains = i128::from(entry[2]) * i128::from(GRAINS);
+            self.count_for_client(entry[0], grains);
+            self.charge(entry[3], grains);
+        }
+    }
+
+    fn count_for_client(&mut self, client: i64, grains: i128) {
+        if let Some(account) = self.account(client).filter(|account| account.sort == CLIENT) {
+            account.dispatched += 1;
+            account.drift -= grains;
+        }
+    }
+
+    /// Charges the classes from the supplier up. The way is no longer than the
+    /// tree has nodes, also where a faulty controller let in a ring.
+    fn charge(&mut self, supplier: i64, grains: i128) {
+        let mut payer = node_number(supplier);
+        for _ in 0..NODES {
+            let Some(node) = payer else { return };
+            let Some(account) = self.tree[node].as_mut() else { return };
+            if account.sort == CLASS {
+                account.drift += grains;
+            }
+            payer = Some(account.parent).filter(|_| node != ROOT);
+        }
+    }
+
+    /// The rates of all nodes in the tree as it stands, from the root down. A
+    /// node off the tree, which only a faulty controller lets in, has rate 0.
+    fn rates(&self) -> [i128; NODES] {
+        let mut rates = [0; NODES];
+        rates[ROOT] = i128::from(self.disk_rate);
+        let mut classes = vec![ROOT];
+        while let Some(class) = classes.pop() {
+            let division = Division {
+                class_rate: rates[class],
+                fixed_sum: self.share_sum(class, FIXED),
+                weight_sum: self.share_sum(class, WEIGHTED),
+            };
+            for (node, account) in self.children(class) {
+                rates[node] = division.child_rate(account.kind, account.share);
+                if account.sort == CLASS {
+                    classes.push(node);
+                }
+            }
+        }
+        rates
+    }
+
+    fn children(&self, class: usize) -> impl Iterator<Item = (usize, &Account)> {
+        self.tree.iter().enumerate().skip(1).filter_map(move |(node, account)| {
+            let account = account.as_ref()?;
+            (account.parent == class).then_some((node, account))
+        })
+    }
+
+    fn share_sum(&self, class: usize, kind: i64) -> i128 {
+        self.children(class)
+            .filter(|(_, account)| account.kind == kind)
+            .map(|(_, account)| i128::from(account.share))
+            .sum()
+    }
+
+    /// Judges all stretches that end here, and takes this position in as a
+    /// start of later ones.
+    fn settle(&mut self) {
+        let position = self.position;
+        for (node, account) in self.tree.iter_mut().enumerate() {
+            let Some(account) = account else { continue };
+            if account.sort == CLIENT && !account.is_waiting() {
+                account.start_from(position);
+                continue;
+            }
+            if let Some(violation) = broken_promise(node, account, position) {
+                if !account.reported {
+                    account.reported = true;
+                    self.violations.push(violation);
+                }
+            }
+            // The latest of equally low starts gives the shortest stretch.
+            if account.drift <= account.lowest {
+                account.start_from(position);
+            }
+        }
+    }
+}
+
+/// The worst stretch that ends here, if it breaks the node's promise.
+fn broken_promise(node: usize, account: &Account, position: usize) -> Option<Violation> {
+    let grains = account.drift - account.lowest;
+    let depth = i128::from(account.depth) * i128::from(GRAINS);
+    let (promise, bound, broken) = if account.sort == CLIENT {
+        (Promise::Client, depth, grains >= depth)
+    } else {
+        let promise = if node == ROOT { Promise::Disk } else { Promise::Class };
+        (promise, CLASS_DEPTHS * depth, grains > CLASS_DEPTHS * depth)
+    };
+    let stretch = account.lowest_at..position;
+    broken.then_some(Violation { promise, node, stretch, grains, bound })
+}

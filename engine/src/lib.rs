@@ -1,0 +1,37 @@
+//! The second engine of the disk share controller.
+//!
+//! It is written from document 01 ("Hierarchical Disk Sharing: the account
+//! table and its calls") alone, to check another implementation of the same
+//! document call by call. Quoted words in the comments are the document's.
+//!
+//! * The engine: [`table`], [`order`], [`rates`], `calls`, `tick`,
+//!   [`plan`], [`mod@print`], behind the trait [`Controller`].
+//! * The checks: [`judge`] (demand 3), [`random`] with [`damage`] and
+//!   [`plans`] (whole runs of calls), [`steps`] and [`differential`] (two
+//!   controllers side by side), [`faulty`] (controllers with known faults).
+
+#![forbid(unsafe_code)]
+#![warn(missing_docs)]
+
+mod arguments;
+mod calls;
+pub mod controller;
+pub mod damage;
+pub mod differential;
+pub mod faulty;
+mod faulty_parts;
+pub mod judge;
+pub mod order;
+pub mod plan;
+pub mod plans;
+pub mod print;
+pub mod random;
+pub mod rates;
+pub mod refusal;
+mod rng;
+pub mod steps;
+pub mod table;
+mod tick;
+
+pub use controller::{Controller, Engine, NewNode};
+pub use refusal::Answer;

@@ -1,0 +1,175 @@
+//! "A table is in order when": one function for each clause.
+//!
+//! Every clause stands on its own: it takes any contents of a table of right
+//! length and neither panics nor overflows. What another clause forbids, a
+//! clause passes over.
+
+use crate::rates;
+use crate::refusal::{require, Answer, BAD_TABLE};
+use crate::table::*;
+
+/// One clause of the in-order test, over a table of right length.
+pub type Clause = fn(&[i64]) -> bool;
+
+/// All clauses, with their names.
+pub const CLAUSES: [(&str, Clause); 18] = [
+    ("header count within limits", header_count),
+    ("other header places zero", header_zeros),
+    ("root is the root", root),
+    ("sorts known", sorts),
+    ("unused records and places zero", unused_zero),
+    ("kinds, shares and depths within limits", limits),
+    ("parent a class one level above", parents),
+    ("classes on levels 0 to 3", class_levels),
+    ("waiting counts 0 to 8", waiting_counts),
+    ("classes have nothing waiting", classes_wait_for_nothing),
+    ("fixed shares at most 10,000", fixed_shares),
+    ("children's depths at most the class's", child_depths),
+    ("rates as the section on rates says", rates::are_obeyed),
+    ("no balance above the depth", balances_below_depth),
+    ("client balances at least 0", client_balances),
+    ("class balances not too low", class_balances),
+    ("waiting sizes 1 to the depth", waiting_sizes),
+    ("arrival numbers", arrivals),
+];
+
+/// Whether a slice is a table of right length that is in order.
+pub fn in_order(table: &[i64]) -> bool {
+    table.len() == TABLE_LEN && CLAUSES.iter().all(|(_, clause)| clause(table))
+}
+
+/// Refusal 1 for a table that is not in order.
+pub fn check(table: &[i64]) -> Answer<()> {
+    require(in_order(table), BAD_TABLE)
+}
+
+/// Refusal 1 for a table that has not the right length, whatever it holds.
+pub fn check_length(table: &[i64]) -> Answer<()> {
+    require(table.len() == TABLE_LEN, BAD_TABLE)
+}
+
+fn header_count(table: &[i64]) -> bool {
+    (0..=MAX_ACCEPTED).contains(&table[ACCEPTED])
+}
+
+fn header_zeros(table: &[i64]) -> bool {
+    all_zero(&table[ACCEPTED + 1..HEADER_LEN])
+}
+
+/// "Node 0 is the root: a class, its own parent, fixed, share 10,000, rate 1
+/// to 1,000,000,000", and "level (root 0)".
+fn root(table: &[i64]) -> bool {
+    is_class(table, ROOT)
+        && get(table, ROOT, PARENT) == ROOT as i64
+        && get(table, ROOT, LEVEL) == 0
+        && get(table, ROOT, KIND) == FIXED
+        && get(table, ROOT, SHARE) == MAX_SHARE
+        && (1..=MAX_RATE).contains(&get(table, ROOT, RATE))
+}
+
+fn sorts(table: &[i64]) -> bool {
+    (0..NODES).all(|node| [UNUSED, CLASS, CLIENT].contains(&get(table, node, SORT)))
+}
+
+fn unused_zero(table: &[i64]) -> bool {
+    (0..NODES).all(|node| {
+        let record = record(table, node);
+        if is_used(table, node) {
+            let first_empty = QUEUE + QUEUE_STEP * waiting_count(table, node);
+            all_zero(&record[SPARE..QUEUE]) && all_zero(&record[first_empty..])
+        } else {
+            all_zero(record)
+        }
+    })
+}
+
+fn limits(table: &[i64]) -> bool {
+    used_nodes(table).all(|node| {
+        [FIXED, WEIGHTED].contains(&get(table, node, KIND))
+            && (1..=MAX_SHARE).contains(&get(table, node, SHARE))
+            && (1..=MAX_DEPTH).contains(&get(table, node, DEPTH))
+    })
+}
+
+fn parents(table: &[i64]) -> bool {
+    used_nodes(table).filter(|&node| node != ROOT).all(|node| match parent(table, node) {
+        Some(parent) => {
+            let level = get(table, parent, LEVEL).checked_add(1);
+            is_class(table, parent) && level == Some(get(table, node, LEVEL))
+        }
+        None => false,
+    })
+}
+
+fn class_levels(table: &[i64]) -> bool {
+    classes(table).all(|class| (0..=MAX_CLASS_LEVEL).contains(&get(table, class, LEVEL)))
+}
+
+fn waiting_counts(table: &[i64]) -> bool {
+    used_nodes(table).all(|node| (0..=QUEUE_LEN as i64).contains(&get(table, node, WAITING)))
+}
+
+fn classes_wait_for_nothing(table: &[i64]) -> bool {
+    classes(table).all(|class| waiting_count(table, class) == 0)
+}
+
+fn fixed_shares(table: &[i64]) -> bool {
+    let sums = sums_over_children(table, |node| share_of_kind(table, node, FIXED));
+    classes(table).all(|class| sums[class] <= i128::from(MAX_SHARE))
+}
+
+fn child_depths(table: &[i64]) -> bool {
+    let sums = sums_over_children(table, |node| get(table, node, DEPTH));
+    classes(table).all(|class| sums[class] <= i128::from(get(table, class, DEPTH)))
+}
+
+fn balances_below_depth(table: &[i64]) -> bool {
+    used_nodes(table).all(|node| i128::from(get(table, node, BALANCE)) <= depth_grains(table, node))
+}
+
+fn client_balances(table: &[i64]) -> bool {
+    clients(table).all(|client| get(table, client, BALANCE) >= 0)
+}
+
+fn class_balances(table: &[i64]) -> bool {
+    let sums = sums_over_children(table, |node| get(table, node, BALANCE));
+    classes(table).all(|class| {
+        i128::from(get(table, class, BALANCE)) >= sums[class] - depth_grains(table, class)
+    })
+}
+
+fn waiting_sizes(table: &[i64]) -> bool {
+    clients(table).all(|client| {
+        let depth = get(table, client, DEPTH);
+        waiting(table, client).all(|request| (1..=depth).contains(&request.size))
+    })
+}
+
+/// "Arrival numbers are 1 to the header's count, rising within a client and
+/// different everywhere."
+fn arrivals(table: &[i64]) -> bool {
+    let mut all = Vec::new();
+    for client in clients(table) {
+        let own: Vec<i64> = waiting(table, client).map(|request| request.arrival).collect();
+        if !is_rising(&own) {
+            return false;
+        }
+        all.extend(own);
+    }
+    all.sort_unstable();
+    is_rising(&all) && all.iter().all(|arrival| (1..=table[ACCEPTED]).contains(arrival))
+}
+
+/// A node's depth in grains, wide enough for any contents.
+fn depth_grains(table: &[i64], node: usize) -> i128 {
+    i128::from(get(table, node, DEPTH)) * i128::from(GRAINS)
+}
+
+fn all_zero(numbers: &[i64]) -> bool {
+    numbers.iter().fold(0, |bits, number| bits | number) == 0
+}
+
+/// Each number is above the one before it.
+fn is_rising(numbers: &[i64]) -> bool {
+    numbers.windows(2).all(|pair| pair[0] < pair[1])
+}

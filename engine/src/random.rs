@@ -1,0 +1,326 @@
+//! Random runs: whole lists of steps, made from a seed.
+//!
+//! The generator plays its own steps on a shadow world with the engine, so
+//! that it knows which nodes are there, who waits and what is left. Most
+//! arguments make sense; some are bent to and beyond their limits.
+
+use crate::controller::{Engine, NewNode};
+use crate::plan::{plan_len, Plan};
+use crate::steps::{Call, Step, World};
+use crate::table::*;
+use crate::{arguments, damage, order, plans};
+
+pub use crate::rng::Rng;
+
+/// What a run is made of.
+#[derive(Clone, Copy, Debug, PartialEq, Eq)]
+pub enum Profile {
+    /// An accepted open, then only the calls of demand 3, with any arguments.
+    Clean,
+    /// Every call, with damage to the table and to plans.
+    Wild,
+}
+
+/// A run of at least `length` steps.
+pub fn run(seed: u64, length: usize, profile: Profile) -> Vec<Step> {
+    let mut generator = Generator::new(seed, profile);
+    generator.begin();
+    while generator.steps.len() < length {
+        generator.go_on();
+    }
+    generator.steps
+}
+
+struct Generator {
+    rng: Rng,
+    profile: Profile,
+    /// The shadow world, and whether its table is damaged just now.
+    world: World,
+    damaged: bool,
+    steps: Vec<Step>,
+    /// Percentage of arguments that are bent.
+    bent: usize,
+    /// Percentage of requests among requests and ticks.
+    busy: usize,
+    /// Into how many parts joining children divide the depth that is left.
+    spread: i64,
+}
+
+impl Generator {
+    fn new(seed: u64, profile: Profile) -> Generator {
+        let mut rng = Rng::new(seed);
+        let bent = rng.pick(&[0, 1, 3, 10]);
+        let busy = rng.pick(&[30, 50, 65, 80]);
+        let spread = rng.pick(&[2, 5, 30, 200]);
+        let world = World::default();
+        Generator { rng, profile, world, damaged: false, steps: Vec::new(), bent, busy, spread }
+    }
+
+    /// Opens the table and joins some nodes.
+    fn begin(&mut self) {
+        if self.profile == Profile::Wild && self.rng.chance(10) {
+            self.any_call();
+        }
+        while !order::in_order(self.world.table.inner()) {
+            self.open();
+        }
+        self.join_many();
+    }
+
+    fn join_many(&mut self) {
+        let joins = self.rng.pick(&[3, 20, 60, 150]);
+        for _ in 0..joins / 2 + self.rng.below(joins) {
+            self.join();
+        }
+    }
+
+    fn go_on(&mut self) {
+        if self.profile == Profile::Clean || self.rng.chance(70) {
+            self.tree_or_queue_call();
+        } else if self.rng.chance(40) {
+            self.other_call();
+        } else {
+            match self.rng.below(10) {
+                0..=5 => self.damage_episode(),
+                6 => self.twin_episode(),
+                _ => self.push(Step::Keep),
+            }
+        }
+    }
+
+    /// One of demand 3's calls, or a few of them.
+    fn tree_or_queue_call(&mut self) {
+        match self.rng.below(100) {
+            0..=14 => self.join(),
+            15..=19 => self.leave(),
+            20..=25 => self.change_share(),
+            26..=28 => self.change_rate(),
+            _ if self.rng.chance(self.busy) => self.request(),
+            _ => {
+                self.tick();
+                self.clear_out_debtor();
+            }
+        }
+    }
+
+    /// One of the calls outside demand 3.
+    fn other_call(&mut self) {
+        match self.rng.below(100) {
+            0..=24 => self.look(),
+            25..=44 => self.same(),
+            45..=64 => self.plan_write(),
+            65..=87 => self.plan_check(),
+            88..=97 => self.plan_read(),
+            _ => {
+                self.open();
+                if !self.damaged {
+                    self.join_many();
+                }
+            }
+        }
+    }
+
+    fn any_call(&mut self) {
+        if self.rng.chance(50) {
+            self.tree_or_queue_call();
+        } else {
+            self.other_call();
+        }
+    }
+
+    /// Some calls on a table that was written from outside, which is put back
+    /// afterwards. Now and then one that is in order goes on.
+    fn damage_episode(&mut self) {
+        self.push(Step::Keep);
+        self.damaged = true;
+        for step in damage::any(&mut self.rng, self.world.kept.inner()) {
+            self.push(step);
+        }
+        for _ in 0..1 + self.rng.below(4) {
+            self.any_call();
+        }
+        let table = self.world.table.inner();
+        let usable = order::in_order(table) && table[ACCEPTED] < MAX_ACCEPTED / 2;
+        if !usable || self.rng.chance(50) {
+            self.push(Step::Restore);
+        }
+        self.damaged = false;
+    }
+
+    /// Same of two tables that differ in one number of the tree, both ways.
+    fn twin_episode(&mut self) {
+        self.push(Step::Keep);
+        for step in damage::other_tree(&mut self.rng, self.world.kept.inner()) {
+            self.push(step);
+        }
+        self.call(Call::Same { swapped: false });
+        self.call(Call::Same { swapped: true });
+    }
+
+    fn open(&mut self) {
+        let depth = self.rng.pick(&[1, 2, 3, 10, 40, 200, 5_000, 100_000, MAX_DEPTH]);
+        let per_tick = depth * GRAINS;
+        let few = self.rng.pick(&[1, 7, 1000, MAX_RATE]);
+        let parts = self.rng.pick(&[50, 10, 3, 1]);
+        let rate = self.rng.pick(&[few, per_tick / parts, per_tick / parts, 3 * per_tick]);
+        let rate = self.bend(rate.clamp(1, MAX_RATE), 1, MAX_RATE);
+        let depth = self.bend(depth, 1, MAX_DEPTH);
+        self.call(Call::Open { rate, depth });
+    }
+
+    fn join(&mut self) {
+        let spread = self.spread;
+        let (rng, view) = self.rng_and_view();
+        let mut class = arguments::class(rng, view);
+        if arguments::depth_left(view, class) == 0 {
+            class = arguments::class(rng, view);
+        }
+        let mut new = NewNode {
+            node: arguments::unused_node(rng, view),
+            parent: class as i64,
+            sort: rng.pick(&[CLASS, CLIENT, CLIENT]),
+            kind: rng.pick(&[FIXED, WEIGHTED]),
+            share: arguments::share(rng, view, class, None),
+            depth: arguments::depth(rng, view, class, spread),
+        };
+        if rng.chance(2) {
+            new.node = arguments::any_node(rng, view);
+        }
+        if rng.chance(2) {
+            new.parent = arguments::any_node(rng, view);
+        }
+        let new = NewNode {
+            node: self.bend(new.node, 1, 63),
+            parent: self.bend(new.parent, 0, 63),
+            sort: self.bend(new.sort, CLASS, CLIENT),
+            kind: self.bend(new.kind, FIXED, WEIGHTED),
+            share: self.bend(new.share, 1, MAX_SHARE),
+            depth: self.bend(new.depth, 1, MAX_DEPTH),
+        };
+        self.call(Call::Join(new));
+    }
+
+    fn leave(&mut self) {
+        let (rng, view) = self.rng_and_view();
+        let node = arguments::leaving_node(rng, view);
+        let node = self.bend(node, 0, 63);
+        self.call(Call::Leave { node });
+    }
+
+    /// If a class is in debt and nothing waits below it: at times all below it
+    /// leave, from the lowest level up, and then the class tries to.
+    fn clear_out_debtor(&mut self) {
+        if !self.rng.chance(30) {
+            return;
+        }
+        let (rng, view) = self.rng_and_view();
+        if let Some(class) = arguments::quiet_debtor(rng, view) {
+            for node in arguments::family(view, class).into_iter().rev() {
+                self.call(Call::Leave { node: node as i64 });
+            }
+        }
+    }
+
+    fn change_share(&mut self) {
+        let (rng, view) = self.rng_and_view();
+        let node = arguments::any_node(rng, view) as usize;
+        let class = parent(view, node).unwrap_or(ROOT);
+        let share = arguments::share(rng, view, class, Some(node));
+        let kind = rng.pick(&[FIXED, WEIGHTED]);
+        let node = self.bend(node as i64, 0, 63);
+        let kind = self.bend(kind, FIXED, WEIGHTED);
+        let share = self.bend(share, 1, MAX_SHARE);
+        self.call(Call::ChangeShare { node, kind, share });
+    }
+
+    fn change_rate(&mut self) {
+        let (rng, view) = self.rng_and_view();
+        let rate = get(view, ROOT, RATE);
+        let rate = rng.pick(&[1, 10, 1000, rate / 3, rate * 2, MAX_RATE]);
+        let rate = self.bend(rate.clamp(1, MAX_RATE), 1, MAX_RATE);
+        self.call(Call::ChangeRate { rate });
+    }
+
+    fn request(&mut self) {
+        let (rng, view) = self.rng_and_view();
+        let client = arguments::client(rng, view);
+        let depth = get(view, client as usize, DEPTH);
+        let size = arguments::size(rng, depth);
+        let tag = rng.number() >> rng.below(63);
+        let client = self.bend(client, 0, 63);
+        let tag = self.bend(tag, i64::MIN, i64::MAX);
+        let size = self.bend(size, 1, depth);
+        self.call(Call::Request { client, tag, size });
+    }
+
+    fn tick(&mut self) {
+        let (rng, view) = self.rng_and_view();
+        let needed = 4 * waiting_in_all(view);
+        let more = rng.below(9);
+        let mut list_len = rng.pick(&[needed, needed, needed + more]);
+        if rng.chance(4) {
+            list_len = rng.pick(&[0, needed / 2, needed.saturating_sub(1)]);
+        }
+        self.call(Call::Tick { list_len });
+    }
+
+    fn look(&mut self) {
+        let (rng, view) = self.rng_and_view();
+        let node = arguments::any_node(rng, view);
+        let node = self.bend(node, 0, 63);
+        self.call(Call::Look { node });
+    }
+
+    fn same(&mut self) {
+        let swapped = self.rng.chance(50);
+        self.call(Call::Same { swapped });
+    }
+
+    fn plan_write(&mut self) {
+        let (rng, view) = self.rng_and_view();
+        let needed = plan_len(Plan::of_table(view).nodes.len());
+        let more = rng.below(20);
+        let buffer_len = rng.pick(&[needed, needed + more, needed - 1, more]);
+        self.call(Call::PlanWrite { buffer_len });
+    }
+
+    fn plan_read(&mut self) {
+        let plan = self.plan();
+        self.call(Call::PlanRead { plan });
+    }
+
+    fn plan_check(&mut self) {
+        let plan = self.plan();
+        self.call(Call::PlanCheck { plan });
+    }
+
+    fn plan(&mut self) -> Vec<u8> {
+        let (rng, view) = self.rng_and_view();
+        plans::any(rng, &Plan::of_table(view))
+    }
+
+    /// The argument itself, or now and then one at or beyond its limits.
+    fn bend(&mut self, value: i64, low: i64, high: i64) -> i64 {
+        if self.rng.chance(self.bent) {
+            self.rng.edge(low, high)
+        } else {
+            value
+        }
+    }
+
+    /// The random numbers, and a table in order (or all zero) to take
+    /// arguments from.
+    fn rng_and_view(&mut self) -> (&mut Rng, &[i64]) {
+        let table = if self.damaged { &self.world.kept } else { &self.world.table };
+        (&mut self.rng, table.inner())
+    }
+
+    fn call(&mut self, call: Call) {
+        self.push(Step::Call(call));
+    }
+
+    fn push(&mut self, step: Step) {
+        self.world.run(&mut Engine, &step);
+        self.steps.push(step);
+    }
+}

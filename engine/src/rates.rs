@@ -1,0 +1,86 @@
+//! Rates: how a class's rate is divided among its children.
+
+use crate::table::*;
+
+/// What a class has to divide, and among how much.
+///
+/// In a table in order all of these are small. On other contents nothing
+/// panics, and the rate that comes out means nothing.
+#[derive(Clone, Copy, Debug)]
+pub struct Division {
+    /// The class's own rate.
+    pub class_rate: i128,
+    /// Sum of the fixed shares of its children.
+    pub fixed_sum: i128,
+    /// Sum of the weights of its children.
+    pub weight_sum: i128,
+}
+
+impl Division {
+    /// The rate of a child with that kind and share.
+    pub fn child_rate(&self, kind: i64, share: i64) -> i128 {
+        let whole = i128::from(MAX_SHARE);
+        if kind == FIXED {
+            part(self.class_rate, i128::from(share), whole)
+        } else {
+            let left = part(self.class_rate, whole - self.fixed_sum, whole);
+            part(left, i128::from(share), self.weight_sum)
+        }
+    }
+}
+
+/// `rate` × `share` / `whole`, rounded down.
+fn part(rate: i128, share: i128, whole: i128) -> i128 {
+    rate.saturating_mul(share).checked_div(whole).unwrap_or(0)
+}
+
+/// The share sums of every class, from which divisions are made.
+struct Sums {
+    fixed: [i128; NODES],
+    weights: [i128; NODES],
+}
+
+impl Sums {
+    fn of(table: &[i64]) -> Sums {
+        Sums {
+            fixed: sums_over_children(table, |node| share_of_kind(table, node, FIXED)),
+            weights: sums_over_children(table, |node| share_of_kind(table, node, WEIGHTED)),
+        }
+    }
+
+    /// The rate of a node that the stored rate of its parent gives it.
+    fn rate(&self, table: &[i64], node: usize, parent: usize) -> i128 {
+        let division = Division {
+            class_rate: i128::from(get(table, parent, RATE)),
+            fixed_sum: self.fixed[parent],
+            weight_sum: self.weights[parent],
+        };
+        division.child_rate(get(table, node, KIND), get(table, node, SHARE))
+    }
+}
+
+/// Renews every rate below the root, level by level.
+pub(crate) fn renew(table: &mut [i64]) {
+    let sums = Sums::of(table);
+    for level in 1..=MAX_CLASS_LEVEL + 1 {
+        for node in 0..NODES {
+            if !is_used(table, node) || get(table, node, LEVEL) != level {
+                continue;
+            }
+            if let Some(parent) = parent(table, node) {
+                let rate = sums.rate(table, node, parent);
+                set(table, node, RATE, rate as i64);
+            }
+        }
+    }
+}
+
+/// Whether every rate below the root is the one that its parent's rate gives.
+/// Nodes without a parent in 0 to 63 are left to the clause on parents.
+pub(crate) fn are_obeyed(table: &[i64]) -> bool {
+    let sums = Sums::of(table);
+    used_nodes(table).all(|node| match parent(table, node) {
+        Some(parent) => i128::from(get(table, node, RATE)) == sums.rate(table, node, parent),
+        None => true,
+    })
+}

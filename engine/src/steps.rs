@@ -1,0 +1,270 @@
+//! Calls as data, and the world of buffers that they run in.
+
+use std::panic::{catch_unwind, AssertUnwindSafe};
+
+use crate::controller::{Controller, NewNode};
+use crate::refusal::Answer;
+use crate::table::TABLE_LEN;
+
+/// One call with its arguments.
+#[derive(Clone, Debug, PartialEq, Eq)]
+pub enum Call {
+    /// Open the table.
+    Open {
+        /// Disk rate.
+        rate: i64,
+        /// Root depth.
+        depth: i64,
+    },
+    /// Join a node.
+    Join(NewNode),
+    /// Leave.
+    Leave {
+        /// The leaving node.
+        node: i64,
+    },
+    /// Change share.
+    ChangeShare {
+        /// The node.
+        node: i64,
+        /// Its new kind.
+        kind: i64,
+        /// Its new share.
+        share: i64,
+    },
+    /// Change rate.
+    ChangeRate {
+        /// The new disk rate.
+        rate: i64,
+    },
+    /// Request.
+    Request {
+        /// The client.
+        client: i64,
+        /// The caller's tag.
+        tag: i64,
+        /// Size in tokens.
+        size: i64,
+    },
+    /// Tick, with a list of that length.
+    Tick {
+        /// Numbers in the dispatch list.
+        list_len: usize,
+    },
+    /// Look at a node.
+    Look {
+        /// The node.
+        node: i64,
+    },
+    /// Same, of the table and the kept table.
+    Same {
+        /// The kept table comes first.
+        swapped: bool,
+    },
+    /// Read a plan into the table.
+    PlanRead {
+        /// The plan's bytes.
+        plan: Vec<u8>,
+    },
+    /// Write the table's plan to a buffer of that length.
+    PlanWrite {
+        /// Bytes in the buffer.
+        buffer_len: usize,
+    },
+    /// Check a plan.
+    PlanCheck {
+        /// The plan's bytes.
+        plan: Vec<u8>,
+    },
+}
+
+/// One step of a run: a call, or something done to the tables from outside.
+#[derive(Clone, Debug, PartialEq, Eq)]
+pub enum Step {
+    /// A call.
+    Call(Call),
+    /// Keeps a copy of the table, in place of the last one.
+    Keep,
+    /// Puts the kept table back.
+    Restore,
+    /// Writes one number of the table, if it is that long.
+    Poke {
+        /// Index in the table.
+        place: usize,
+        /// The number.
+        value: i64,
+    },
+    /// Makes the table shorter, or longer with zeros.
+    Resize {
+        /// The new length.
+        len: usize,
+    },
+}
+
+/// What a call gave back.
+#[derive(Clone, Copy, Debug, PartialEq, Eq)]
+pub enum Reply {
+    /// A number.
+    Number(i64),
+    /// Rate, balance and waiting count.
+    Look([i64; 3]),
+    /// Yes or no.
+    Same(bool),
+    /// A refusal, with its number.
+    Refused(i64),
+    /// The controller panicked. This is never right.
+    Panicked,
+}
+
+/// A buffer with guard values before and behind it.
+#[derive(Clone, Debug, PartialEq, Eq)]
+pub struct Guarded<T> {
+    cells: Vec<T>,
+    guard: T,
+}
+
+const GUARD_LEN: usize = 16;
+const NUMBER_GUARD: i64 = -6_172_839_450_617;
+const BYTE_GUARD: u8 = 0xA5;
+
+impl<T: Copy + PartialEq> Guarded<T> {
+    fn new(contents: &[T], guard: T) -> Guarded<T> {
+        let wall = [guard; GUARD_LEN];
+        Guarded { cells: [&wall, contents, &wall].concat(), guard }
+    }
+
+    /// The buffer itself.
+    pub fn inner(&self) -> &[T] {
+        &self.cells[GUARD_LEN..self.cells.len() - GUARD_LEN]
+    }
+
+    fn inner_mut(&mut self) -> &mut [T] {
+        let end = self.cells.len() - GUARD_LEN;
+        &mut self.cells[GUARD_LEN..end]
+    }
+
+    fn replace(&mut self, contents: &[T]) {
+        *self = Guarded::new(contents, self.guard);
+    }
+
+    /// Whether all guard values are as they were.
+    pub fn is_intact(&self) -> bool {
+        let walls = [&self.cells[..GUARD_LEN], &self.cells[self.cells.len() - GUARD_LEN..]];
+        walls.concat().iter().all(|value| *value == self.guard)
+    }
+}
+
+/// Every buffer that a run of steps lends to a controller.
+#[derive(Clone, Debug, PartialEq, Eq)]
+pub struct World {
+    /// The account table.
+    pub table: Guarded<i64>,
+    /// The table kept by [`Step::Keep`], and the other one of a same.
+    pub kept: Guarded<i64>,
+    /// The list of the last tick.
+    pub list: Guarded<i64>,
+    /// The plan or the plan buffer of the last call that had one.
+    pub plan: Guarded<u8>,
+}
+
+impl Default for World {
+    /// Two zeroed tables, no list and no plan.
+    fn default() -> World {
+        World {
+            table: Guarded::new(&[0; TABLE_LEN], NUMBER_GUARD),
+            kept: Guarded::new(&[0; TABLE_LEN], NUMBER_GUARD),
+            list: Guarded::new(&[], NUMBER_GUARD),
+            plan: Guarded::new(&[], BYTE_GUARD),
+        }
+    }
+}
+
+impl World {
+    /// Runs one step. Only a call has a reply.
+    pub fn run(&mut self, controller: &mut dyn Controller, step: &Step) -> Option<Reply> {
+        match step {
+            Step::Call(call) => return Some(self.call(controller, call)),
+            Step::Keep => self.kept = self.table.clone(),
+            Step::Restore => self.table = self.kept.clone(),
+            Step::Poke { place, value } => {
+                if let Some(number) = self.table.inner_mut().get_mut(*place) {
+                    *number = *value;
+                }
+            }
+            Step::Resize { len } => {
+                let mut numbers = self.table.inner().to_vec();
+                numbers.resize(*len, 0);
+                self.table.replace(&numbers);
+            }
+        }
+        None
+    }
+
+    /// Makes one call. A panic of the controller is a reply of its own.
+    pub fn call(&mut self, controller: &mut dyn Controller, call: &Call) -> Reply {
+        self.lend(call);
+        catch_unwind(AssertUnwindSafe(|| self.make_call(controller, call)))
+            .unwrap_or(Reply::Panicked)
+    }
+
+    /// Whether the guards of every buffer are as they were.
+    pub fn is_intact(&self) -> bool {
+        let lists = [&self.table, &self.kept, &self.list];
+        lists.iter().all(|buffer| buffer.is_intact()) && self.plan.is_intact()
+    }
+
+    /// Makes the list or the plan buffer ready that a call needs.
+    fn lend(&mut self, call: &Call) {
+        match call {
+            Call::Tick { list_len } => {
+                let list: Vec<i64> =
+                    (0..*list_len as i64).map(|place| -7_000_000 - place).collect();
+                self.list.replace(&list);
+            }
+            Call::PlanWrite { buffer_len } => {
+                let buffer: Vec<u8> =
+                    (0..*buffer_len).map(|place| 200 - (place % 100) as u8).collect();
+                self.plan.replace(&buffer);
+            }
+            Call::PlanRead { plan } | Call::PlanCheck { plan } => self.plan.replace(plan),
+            _ => {}
+        }
+    }
+
+    fn make_call(&mut self, controller: &mut dyn Controller, call: &Call) -> Reply {
+        let kept = self.kept.inner();
+        let list = self.list.inner_mut();
+        let plan = self.plan.inner_mut();
+        let table = self.table.inner_mut();
+        match *call {
+            Call::Open { rate, depth } => number(controller.open(table, rate, depth)),
+            Call::Join(ref new) => number(controller.join(table, new)),
+            Call::Leave { node } => number(controller.leave(table, node)),
+            Call::ChangeShare { node, kind, share } => {
+                number(controller.change_share(table, node, kind, share))
+            }
+            Call::ChangeRate { rate } => number(controller.change_rate(table, rate)),
+            Call::Request { client, tag, size } => {
+                number(controller.request(table, client, tag, size))
+            }
+            Call::Tick { .. } => number(controller.tick(table, list)),
+            Call::Look { node } => reply(controller.look(table, node), Reply::Look),
+            Call::Same { swapped: false } => reply(controller.same(table, kept), Reply::Same),
+            Call::Same { swapped: true } => reply(controller.same(kept, table), Reply::Same),
+            Call::PlanRead { .. } => number(controller.plan_read(plan, table)),
+            Call::PlanWrite { .. } => number(controller.plan_write(table, plan)),
+            Call::PlanCheck { .. } => Reply::Number(controller.plan_check(plan)),
+        }
+    }
+}
+
+fn number(answer: Answer<i64>) -> Reply {
+    reply(answer, Reply::Number)
+}
+
+fn reply<T>(answer: Answer<T>, accepted: impl Fn(T) -> Reply) -> Reply {
+    match answer {
+        Ok(value) => accepted(value),
+        Err(number) => Reply::Refused(number),
+    }
+}

@@ -1,0 +1,171 @@
+//! Controllers with faults: the judge or the differential objects to each.
+
+use crate::support::*;
+use hds_engine::differential::{differential, differential_runs, first_difference};
+use hds_engine::faulty::{Fault, Faulty, FAULTS};
+use hds_engine::judge::{watch, Promise};
+use hds_engine::order::CLAUSES;
+use hds_engine::random::{run, Profile};
+use hds_engine::steps::{Call, Step};
+use hds_engine::table::*;
+use hds_engine::Engine;
+
+/// Faults that the judge must object to, with the promise that is broken.
+pub const LOUD: [(Fault, Promise); 11] = [
+    (Fault::CutsFirst, Promise::Client),
+    (Fault::ChargesClient, Promise::Client),
+    (Fault::SparesRoot, Promise::Disk),
+    (Fault::TakesLarger, Promise::Disk),
+    (Fault::WeighsWholeRate, Promise::Disk),
+    (Fault::WeighsWholeRate, Promise::Class),
+    (Fault::FullBucket, Promise::Disk),
+    (Fault::ForgivesDebt, Promise::Disk),
+    (Fault::ListsNothing, Promise::Client),
+    (Fault::AllAtOnce, Promise::Disk),
+    (Fault::OwnOnce, Promise::Client),
+];
+
+/// A list of calls that brings a fault out.
+pub fn scenario(fault: Fault) -> Vec<Step> {
+    steps(&match fault {
+        Fault::ChargesClient => sleeper_wakes(),
+        Fault::WeighsWholeRate => weight_beside_the_whole(),
+        Fault::FullBucket => comes_and_goes(),
+        Fault::ForgivesDebt => class_in_debt_leaves(),
+        Fault::SparesRoot | Fault::TakesLarger | Fault::AllAtOnce => one_client(1000, 10),
+        _ => one_client(3500, 1),
+    })
+}
+
+/// One client that always asks for as much as it may.
+fn one_client(rate: i64, depth: i64) -> Vec<Call> {
+    let mut calls = vec![open(rate, depth), Call::Join(client(1, 0, WEIGHTED, 1, depth))];
+    for _ in 0..12 {
+        calls.extend(vec![request(1, depth); 8]);
+        calls.push(tick());
+    }
+    calls
+}
+
+/// Client 5 wakes and takes its own and the root's balance at once; then it
+/// waits while 6 asks all the time.
+fn sleeper_wakes() -> Vec<Call> {
+    let mut calls = vec![open(1000, 40)];
+    calls.extend([5, 6].map(|node| Call::Join(client(node, 0, WEIGHTED, 1, 16))));
+    calls.extend(vec![tick(); 40]);
+    calls.extend([16, 16, 8].map(|size| request(5, size)));
+    calls.push(tick());
+    calls.push(request(5, 16));
+    for _ in 0..33 {
+        calls.extend([request(6, 1), request(6, 1), tick()]);
+    }
+    calls
+}
+
+/// In a class, a weight beside a fixed share of 10,000; all ask all the time.
+fn weight_beside_the_whole() -> Vec<Call> {
+    let mut calls = vec![
+        open(1000, 2),
+        Call::Join(class(1, 0, FIXED, 10_000, 2)),
+        Call::Join(client(2, 1, FIXED, 10_000, 1)),
+        Call::Join(client(3, 1, WEIGHTED, 1, 1)),
+    ];
+    for _ in 0..15 {
+        calls.extend([request(2, 1), request(3, 1), tick()]);
+    }
+    calls
+}
+
+/// A client comes, takes its depth and leaves, again and again.
+fn comes_and_goes() -> Vec<Call> {
+    let mut calls = vec![open(1, 10)];
+    for _ in 0..8 {
+        let join = Call::Join(client(1, 0, WEIGHTED, 1, 10));
+        calls.extend([join, request(1, 10), tick(), Call::Leave { node: 1 }]);
+    }
+    calls
+}
+
+/// Clients 2 and 3 bring their class into debt, and all leave and come back.
+fn class_in_debt_leaves() -> Vec<Call> {
+    let mut calls = vec![open(1000, 2)];
+    for _ in 0..12 {
+        calls.push(Call::Join(class(1, 0, WEIGHTED, 1, 2)));
+        calls.extend([2, 3].map(|node| Call::Join(client(node, 1, WEIGHTED, 1, 1))));
+        calls.extend([request(3, 1), tick(), request(3, 1), tick(), request(3, 1), tick()]);
+        calls.extend([request(2, 1), request(3, 1), tick()]);
+        calls.extend([2, 3, 1].map(|node| Call::Leave { node }));
+    }
+    calls
+}
+
+#[test]
+fn the_judge_is_loud_on_faults() {
+    for (fault, promise) in LOUD {
+        let steps = scenario(fault);
+        let found = watch(&mut Faulty::new(fault), &steps);
+        assert!(found.iter().any(|found| found.promise == promise), "{fault:?}: {found:?}");
+        for found in found {
+            assert!(found.stretch.end < steps.len());
+            assert!(found.to_string().contains("in calls"));
+        }
+        assert_eq!(watch(&mut Engine, &steps), [], "{fault:?}");
+        assert_eq!(watch(&mut Faulty::new(Fault::None), &steps), []);
+    }
+}
+
+#[test]
+fn all_at_once_breaks_the_other_promise_later() {
+    let found = watch(&mut Faulty::new(Fault::AllAtOnce), &scenario(Fault::AllAtOnce));
+    assert!(found.iter().any(|found| found.promise == Promise::Client));
+}
+
+#[test]
+fn the_differential_finds_every_fault() {
+    for fault in FAULTS {
+        let profile = if fault.needs_wild_runs() { Profile::Wild } else { Profile::Clean };
+        assert!(is_found(fault, profile, 60), "{fault:?}");
+    }
+}
+
+#[test]
+fn the_differential_finds_every_lacking_clause() {
+    for (clause, (name, _)) in CLAUSES.iter().enumerate() {
+        assert!(is_found(Fault::LacksClause(clause), Profile::Wild, 200), "{name}");
+    }
+}
+
+fn is_found(fault: Fault, profile: Profile, seeds: u64) -> bool {
+    (0..seeds).any(|seed| {
+        let steps = run(seed, 400, profile);
+        first_difference(&mut Engine, &mut Faulty::new(fault), &steps).is_some()
+    })
+}
+
+#[test]
+fn without_a_fault_there_is_no_difference() {
+    let faultless = &mut Faulty::new(Fault::None);
+    if let Err(difference) = differential_runs(&mut Engine, faultless, 0..40, 400, Profile::Clean) {
+        panic!("{difference}");
+    }
+}
+
+#[test]
+fn a_difference_comes_with_a_short_list_of_calls() {
+    for (fault, most) in [
+        (Fault::FullBucket, 2),
+        (Fault::CutsFirst, 8),
+        (Fault::KeepsRecord, 4),
+        (Fault::InventsCount, 2),
+    ] {
+        let mut seeds = (0..60).map(|seed| (seed, run(seed, 400, Profile::Clean)));
+        let difference = seeds.find_map(|(seed, steps)| {
+            differential(&mut Engine, &mut Faulty::new(fault), seed, &steps).err()
+        });
+        let difference = difference.expect("a difference");
+        assert!(difference.steps.len() <= most, "{fault:?}: {difference}");
+        assert!(matches!(difference.steps[0], Step::Call(Call::Open { .. })));
+        let again = first_difference(&mut Engine, &mut Faulty::new(fault), &difference.steps);
+        assert_eq!(again.unwrap().0, difference.steps.len() - 1);
+    }
+}

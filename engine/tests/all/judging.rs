@@ -1,0 +1,355 @@
+//! Demand 3's judge: its bounds, and all pairs against running extremes.
+
+use std::collections::BTreeMap;
+
+use crate::faults::{scenario, LOUD};
+use crate::support::*;
+use hds_engine::faulty::{Fault, Faulty};
+use hds_engine::judge::{watch, Judge, Promise, Violation};
+use hds_engine::random::{run, Profile, Rng};
+use hds_engine::steps::{Call, Reply, Step, World};
+use hds_engine::table::*;
+use hds_engine::{Controller, Engine, NewNode};
+
+/// A judge that is told calls, accepted or not, and lists.
+struct Told(Judge);
+
+impl Told {
+    fn new(rate: i64, depth: i64) -> Told {
+        let mut told = Told(Judge::default());
+        told.accepted(open(rate, depth));
+        told
+    }
+
+    fn accepted(&mut self, call: Call) {
+        self.0.observe(&call, Reply::Number(0), &[]);
+    }
+
+    fn tick(&mut self, entries: &[Entry]) {
+        let list = entries.concat();
+        self.0.observe(&tick(), Reply::Number(entries.len() as i64), &list);
+    }
+
+    fn found(&self) -> Vec<(Promise, usize, std::ops::Range<usize>)> {
+        let violations = self.0.violations().iter();
+        violations.map(|found| (found.promise, found.node, found.stretch.clone())).collect()
+    }
+}
+
+#[test]
+fn a_waiting_client_gets_more_than_its_rates_less_its_depth() {
+    // After three ticks of 333 the client lags 999 grains of a depth of 1000.
+    let mut told = Told::new(333, 10);
+    told.accepted(Call::Join(client(5, 0, WEIGHTED, 1, 1)));
+    told.accepted(request(5, 1));
+    (0..3).for_each(|_| told.tick(&[]));
+    assert_eq!(told.found(), []);
+    told.tick(&[]);
+    assert_eq!(told.found(), [(Promise::Client, 5, 2..6)]);
+    // Lagging by just the depth is too much.
+    let mut told = Told::new(500, 10);
+    told.accepted(Call::Join(client(5, 0, WEIGHTED, 1, 1)));
+    told.accepted(request(5, 1));
+    told.tick(&[]);
+    assert_eq!(told.found(), []);
+    told.tick(&[]);
+    assert_eq!(told.found(), [(Promise::Client, 5, 2..4)]);
+}
+
+#[test]
+fn a_client_counts_only_while_it_waits() {
+    let mut told = Told::new(900, 10);
+    told.accepted(Call::Join(client(5, 0, WEIGHTED, 1, 1)));
+    for _ in 0..5 {
+        told.tick(&[]);
+        told.accepted(request(5, 1));
+        told.tick(&[]);
+        told.tick(&[[5, 7, 1, 5]]);
+    }
+    assert_eq!(told.found(), []);
+    // Refused requests do not make it wait.
+    for _ in 0..5 {
+        told.0.observe(&request(5, 1), Reply::Refused(11), &[]);
+        told.tick(&[]);
+    }
+    assert_eq!(told.found(), []);
+    // Refused ticks bring no rate.
+    told.accepted(request(5, 1));
+    (0..5).for_each(|_| told.0.observe(&tick(), Reply::Refused(13), &[]));
+    assert_eq!(told.found(), []);
+}
+
+#[test]
+fn a_client_starts_anew_when_it_comes_back() {
+    let mut told = Told::new(900, 10);
+    for _ in 0..5 {
+        told.accepted(Call::Join(client(5, 0, WEIGHTED, 1, 1)));
+        told.accepted(request(5, 1));
+        told.tick(&[]);
+        told.accepted(Call::Leave { node: 5 });
+    }
+    assert_eq!(told.found(), []);
+}
+
+#[test]
+fn the_disk_may_exceed_its_rate_by_five_depths() {
+    for (rate, found) in [(1000, vec![]), (999, vec![(Promise::Disk, 0, 2..4)])] {
+        let mut told = Told::new(rate, 1);
+        told.accepted(Call::Join(client(5, 0, WEIGHTED, 1, 1)));
+        told.tick(&[]);
+        told.tick(&[[5, 0, 1, 0]; 4]);
+        told.tick(&[[5, 0, 1, 5]; 3]);
+        assert_eq!(told.found(), found);
+    }
+}
+
+#[test]
+fn a_class_may_exceed_its_rate_by_five_depths() {
+    for (share, found) in [(5000, vec![]), (4999, vec![(Promise::Class, 1, 2..3)])] {
+        let mut told = Told::new(2000, 9);
+        told.accepted(Call::Join(class(1, 0, FIXED, share, 1)));
+        told.accepted(Call::Join(client(5, 1, WEIGHTED, 1, 1)));
+        // What the root supplies does not count for the class.
+        told.tick(&[[5, 0, 3, 5], [5, 0, 3, 1], [5, 0, 3, 0]]);
+        assert_eq!(told.found(), found);
+    }
+}
+
+#[test]
+fn a_class_starts_anew_when_it_comes_back() {
+    let mut told = Told::new(1, 1000);
+    for _ in 0..4 {
+        told.accepted(Call::Join(class(1, 0, FIXED, 1, 1)));
+        told.tick(&[[5, 0, 5, 1]]);
+        told.accepted(Call::Leave { node: 1 });
+    }
+    assert_eq!(told.found(), []);
+    told.accepted(Call::Join(class(1, 0, FIXED, 1, 1)));
+    told.tick(&[[5, 0, 5, 1]]);
+    told.tick(&[[5, 0, 1, 1]]);
+    assert_eq!(told.found(), [(Promise::Class, 1, 13..15)]);
+}
+
+#[test]
+fn rates_are_those_of_the_tree_before_the_tick() {
+    let mut told = Told::new(1000, 100);
+    told.accepted(Call::Join(client(5, 0, WEIGHTED, 1, 1)));
+    told.accepted(Call::Join(client(6, 0, FIXED, 9000, 1)));
+    told.accepted(request(5, 1));
+    (0..9).for_each(|_| told.tick(&[]));
+    assert_eq!(told.found(), []);
+    told.accepted(Call::ChangeShare { node: 6, kind: FIXED, share: 9001 });
+    told.tick(&[]);
+    assert_eq!(told.found(), []);
+    told.accepted(Call::ChangeRate { rate: 10 });
+    told.tick(&[]);
+    assert_eq!(told.found(), [], "900 and 99 and 0 grains");
+    told.accepted(Call::Leave { node: 6 });
+    told.tick(&[]);
+    assert_eq!(told.found(), [(Promise::Client, 5, 3..18)]);
+}
+
+#[test]
+fn a_list_starts_at_open_and_ends_at_a_write_from_outside() {
+    let mut told = Told::new(1000, 10);
+    told.accepted(Call::Join(client(5, 0, WEIGHTED, 1, 10)));
+    told.accepted(request(5, 1));
+    (0..9).for_each(|_| told.tick(&[]));
+    told.accepted(open(1000, 10));
+    (0..9).for_each(|_| told.tick(&[]));
+    assert_eq!(told.found(), []);
+    let waits = [open(1000, 10), Call::Join(client(5, 0, WEIGHTED, 1, 1)), request(5, 1)];
+    let mut list = steps(&waits);
+    list.push(Step::Poke { place: at(5, WAITING), value: 1 });
+    list.extend(steps(&vec![tick(); 20]));
+    let silent = &mut Faulty::new(Fault::ListsNothing);
+    assert_eq!(watch(silent, &list), []);
+    list.remove(3);
+    assert_eq!(watch(silent, &list).len(), 1);
+}
+
+#[test]
+fn the_judge_is_quiet_on_the_engine() {
+    for seed in 0..120 {
+        let steps = run(seed, 400, Profile::Clean);
+        assert_eq!(watch(&mut Engine, &steps), [], "seed {seed}");
+    }
+}
+
+#[test]
+fn the_judge_takes_any_nonsense() {
+    let mut rng = Rng::new(5);
+    for seed in 0..20 {
+        let mut judge = Judge::default();
+        judge.observe(&open(1000, 40), Reply::Number(0), &[]);
+        for step in run(seed, 300, Profile::Wild) {
+            let Step::Call(mut call) = step else { continue };
+            if let Call::Join(new) = &mut call {
+                let ring = rng.between(0, 8);
+                *new = NewNode {
+                    node: rng.between(0, 8),
+                    parent: rng.pick(&[ring, new.parent]),
+                    ..*new
+                };
+            }
+            let list: Vec<i64> = (0..40).map(|_| rng.edge(0, 8)).collect();
+            let answer = rng.edge(0, 10);
+            judge.observe(&call, Reply::Number(answer), &list);
+        }
+    }
+}
+
+/// Earliest end of a violation, for each node that has one.
+type Ends = BTreeMap<usize, usize>;
+
+#[test]
+fn running_extremes_find_what_all_pairs_find() {
+    let mut loud = 0;
+    for fault in LOUD.map(|(fault, _)| fault).into_iter().chain([Fault::None]) {
+        let mut runs: Vec<Vec<Step>> = (0..8).map(|seed| run(seed, 110, Profile::Clean)).collect();
+        runs.push(scenario(fault));
+        for mut steps in runs {
+            steps.truncate(150);
+            let quick = earliest(&watch(&mut Faulty::new(fault), &steps));
+            assert_eq!(quick, all_pairs(&mut Faulty::new(fault), &steps), "{fault:?}");
+            loud += quick.len();
+        }
+    }
+    assert!(loud > 15, "{loud}");
+}
+
+fn earliest(violations: &[Violation]) -> Ends {
+    let mut ends = Ends::new();
+    for found in violations {
+        ends.entry(found.node).or_insert(found.stretch.end);
+    }
+    ends
+}
+
+/// What one call of the list did, and the tree and the waiting after it.
+#[derive(Clone, Default)]
+struct Moment {
+    tree: BTreeMap<usize, NewNode>,
+    disk_rate: i64,
+    open_requests: BTreeMap<usize, i64>,
+    rates: BTreeMap<usize, i64>,
+    dispatched: BTreeMap<usize, i64>,
+    charged: BTreeMap<usize, i64>,
+    left: Option<usize>,
+}
+
+/// The promises over all pairs of a start and an end, straight from the words
+/// of document 01.
+fn all_pairs(controller: &mut dyn Controller, steps: &[Step]) -> Ends {
+    let moments = history(controller, steps);
+    let mut ends = Ends::new();
+    for end in 0..moments.len() {
+        for start in 0..=end {
+            let calls = &moments[start + 1..=end];
+            for (&node, new) in &moments[end].tree {
+                if is_broken(&moments[start], calls, node, new) {
+                    ends.entry(node).or_insert(end);
+                }
+            }
+        }
+    }
+    ends
+}
+
+fn is_broken(before: &Moment, calls: &[Moment], node: usize, new: &NewNode) -> bool {
+    let sum = |of: fn(&Moment) -> &BTreeMap<usize, i64>| -> i64 {
+        calls.iter().map(|call| of(call).get(&node).copied().unwrap_or(0)).sum()
+    };
+    let rates = sum(|call| &call.rates);
+    if new.sort == CLIENT {
+        let waits = calls.iter().all(|call| call.open_requests.get(&node).is_some_and(|&n| n > 0));
+        waits && sum(|call| &call.dispatched) <= rates - new.depth * 1000
+    } else {
+        let throughout =
+            before.tree.contains_key(&node) && calls.iter().all(|call| call.left != Some(node));
+        throughout && sum(|call| &call.charged) > rates + 5 * new.depth * 1000
+    }
+}
+
+fn history(controller: &mut dyn Controller, steps: &[Step]) -> Vec<Moment> {
+    let mut world = World::default();
+    let mut moments: Vec<Moment> = Vec::new();
+    controller.start();
+    for step in steps {
+        let reply = world.run(controller, step);
+        let Step::Call(call) = step else { continue };
+        if let Call::Open { rate, depth } = *call {
+            if matches!(reply, Some(Reply::Number(_))) {
+                let tree = BTreeMap::from([(0, class(0, 0, FIXED, 10_000, depth))]);
+                moments = vec![Moment { tree, disk_rate: rate, ..Moment::default() }];
+            }
+        } else if let Some(last) = moments.last() {
+            let next = next_moment(last, call, reply, world.list.inner());
+            moments.push(next);
+        }
+    }
+    moments
+}
+
+fn next_moment(last: &Moment, call: &Call, reply: Option<Reply>, list: &[i64]) -> Moment {
+    let mut next = Moment {
+        tree: last.tree.clone(),
+        disk_rate: last.disk_rate,
+        open_requests: last.open_requests.clone(),
+        ..Moment::default()
+    };
+    let Some(Reply::Number(answer)) = reply else { return next };
+    match *call {
+        Call::Join(new) => {
+            next.tree.insert(new.node as usize, new);
+            next.open_requests.insert(new.node as usize, 0);
+        }
+        Call::Leave { node } => {
+            next.tree.remove(&(node as usize));
+            next.open_requests.remove(&(node as usize));
+            next.left = Some(node as usize);
+        }
+        Call::ChangeShare { node, kind, share } => {
+            let new = next.tree.get_mut(&(node as usize)).unwrap();
+            (new.kind, new.share) = (kind, share);
+        }
+        Call::ChangeRate { rate } => next.disk_rate = rate,
+        Call::Request { client, .. } => {
+            *next.open_requests.get_mut(&(client as usize)).unwrap() += 1
+        }
+        Call::Tick { .. } => {
+            next.rates = last.tree.keys().map(|&node| (node, rate_of(last, node))).collect();
+            for entry in list.chunks(4).take(answer as usize) {
+                let (client, grains) = (entry[0] as usize, entry[2] * 1000);
+                *next.dispatched.entry(client).or_insert(0) += grains;
+                *next.open_requests.get_mut(&client).unwrap() -= 1;
+                let mut payer = entry[3] as usize;
+                *next.charged.entry(payer).or_insert(0) += grains;
+                while payer != 0 {
+                    payer = last.tree[&payer].parent as usize;
+                    *next.charged.entry(payer).or_insert(0) += grains;
+                }
+            }
+        }
+        _ => {}
+    }
+    next
+}
+
+/// The section on rates, for one node.
+fn rate_of(moment: &Moment, node: usize) -> i64 {
+    if node == 0 {
+        return moment.disk_rate;
+    }
+    let new = moment.tree[&node];
+    let class_rate = rate_of(moment, new.parent as usize);
+    let siblings =
+        moment.tree.iter().filter(|(&number, other)| number != 0 && other.parent == new.parent);
+    let (fixed, weighted): (Vec<&NewNode>, Vec<&NewNode>) =
+        siblings.map(|(_, other)| other).partition(|other| other.kind == FIXED);
+    let left = class_rate * (10_000 - fixed.iter().map(|other| other.share).sum::<i64>()) / 10_000;
+    match new.kind {
+        FIXED => class_rate * new.share / 10_000,
+        _ => left * new.share / weighted.iter().map(|other| other.share).sum::<i64>(),
+    }
+}

@@ -1,0 +1,12 @@
+//! All tests, by subject.
+
+mod edges;
+mod faults;
+mod judging;
+mod ordering;
+mod plan_files;
+mod refusals;
+mod runs;
+mod stuck;
+mod support;
+mod ticks;

@@ -1,0 +1,199 @@
+//! Helpers for the tests.
+
+use hds_engine::order;
+use hds_engine::steps::{Call, Step};
+use hds_engine::table::*;
+use hds_engine::{Answer, Controller, Engine, NewNode};
+
+/// A table under the engine, with short calls.
+pub struct Disk {
+    pub table: Vec<i64>,
+    engine: Watched<Engine>,
+}
+
+/// A dispatch as the list shows it: client, tag, size, supplier.
+pub type Entry = [i64; 4];
+
+impl Disk {
+    pub fn open(rate: i64, depth: i64) -> Disk {
+        let mut disk = Disk { table: vec![-1; TABLE_LEN], engine: Watched(Engine) };
+        assert_eq!(disk.engine.open(&mut disk.table, rate, depth), Ok(0));
+        disk
+    }
+
+    pub fn join(&mut self, new: NewNode) -> Answer<i64> {
+        self.engine.join(&mut self.table, &new)
+    }
+
+    pub fn leave(&mut self, node: i64) -> Answer<i64> {
+        self.engine.leave(&mut self.table, node)
+    }
+
+    pub fn change_share(&mut self, node: i64, kind: i64, share: i64) -> Answer<i64> {
+        self.engine.change_share(&mut self.table, node, kind, share)
+    }
+
+    pub fn change_rate(&mut self, rate: i64) -> Answer<i64> {
+        self.engine.change_rate(&mut self.table, rate)
+    }
+
+    pub fn request(&mut self, client: i64, tag: i64, size: i64) -> Answer<i64> {
+        self.engine.request(&mut self.table, client, tag, size)
+    }
+
+    pub fn look(&mut self, node: i64) -> Answer<[i64; 3]> {
+        self.engine.look(&self.table, node)
+    }
+
+    pub fn same(&mut self, other: &Disk) -> Answer<bool> {
+        self.engine.same(&self.table, &other.table)
+    }
+
+    pub fn plan_write(&mut self, buffer: &mut [u8]) -> Answer<i64> {
+        self.engine.plan_write(&self.table, buffer)
+    }
+
+    pub fn plan_read(&mut self, plan: &[u8]) -> Answer<i64> {
+        self.engine.plan_read(plan, &mut self.table)
+    }
+
+    pub fn tick_with(&mut self, list: &mut [i64]) -> Answer<i64> {
+        self.engine.tick(&mut self.table, list)
+    }
+
+    /// A tick with a list of just the needed length; gives the dispatches and
+    /// sees that the list beyond them stays untouched.
+    pub fn tick(&mut self) -> Vec<Entry> {
+        let mut list = vec![-77; 4 * waiting_in_all(&self.table)];
+        let count = self.tick_with(&mut list).unwrap() as usize;
+        assert!(list[4 * count..].iter().all(|&number| number == -77));
+        list[..4 * count].chunks(4).map(|entry| entry.try_into().unwrap()).collect()
+    }
+
+    pub fn rate(&mut self, node: i64) -> i64 {
+        self.look(node).unwrap()[0]
+    }
+
+    pub fn balance(&mut self, node: i64) -> i64 {
+        self.look(node).unwrap()[1]
+    }
+
+    /// Writes a place of a record from outside.
+    pub fn poke(&mut self, node: usize, place: usize, value: i64) {
+        self.table[at(node, place)] = value;
+    }
+}
+
+pub fn class(node: i64, parent: i64, kind: i64, share: i64, depth: i64) -> NewNode {
+    NewNode { node, parent, sort: CLASS, kind, share, depth }
+}
+
+pub fn client(node: i64, parent: i64, kind: i64, share: i64, depth: i64) -> NewNode {
+    NewNode { node, parent, sort: CLIENT, kind, share, depth }
+}
+
+/// A controller that is watched: a refusal must leave each buffer as it came,
+/// and an accepted call must leave a table in order.
+pub struct Watched<C>(pub C);
+
+impl<C: Controller> Watched<C> {
+    fn change<T>(
+        &mut self,
+        table: &mut [i64],
+        call: impl FnOnce(&mut C, &mut [i64]) -> Answer<T>,
+    ) -> Answer<T> {
+        let before = table.to_vec();
+        let answer = call(&mut self.0, table);
+        match answer {
+            Ok(_) => assert!(order::in_order(table), "out of order after an accepted call"),
+            Err(number) => {
+                assert!((1..=15).contains(&number));
+                assert!(table == before, "a refusal wrote the table");
+            }
+        }
+        answer
+    }
+}
+
+impl<C: Controller> Controller for Watched<C> {
+    fn open(&mut self, table: &mut [i64], rate: i64, depth: i64) -> Answer<i64> {
+        self.change(table, |inner, table| inner.open(table, rate, depth))
+    }
+
+    fn join(&mut self, table: &mut [i64], new: &NewNode) -> Answer<i64> {
+        self.change(table, |inner, table| inner.join(table, new))
+    }
+
+    fn leave(&mut self, table: &mut [i64], node: i64) -> Answer<i64> {
+        self.change(table, |inner, table| inner.leave(table, node))
+    }
+
+    fn change_share(&mut self, table: &mut [i64], node: i64, kind: i64, share: i64) -> Answer<i64> {
+        self.change(table, |inner, table| inner.change_share(table, node, kind, share))
+    }
+
+    fn change_rate(&mut self, table: &mut [i64], rate: i64) -> Answer<i64> {
+        self.change(table, |inner, table| inner.change_rate(table, rate))
+    }
+
+    fn request(&mut self, table: &mut [i64], client: i64, tag: i64, size: i64) -> Answer<i64> {
+        self.change(table, |inner, table| inner.request(table, client, tag, size))
+    }
+
+    fn tick(&mut self, table: &mut [i64], list: &mut [i64]) -> Answer<i64> {
+        let before = list.to_vec();
+        let answer = self.change(table, |inner, table| inner.tick(table, list));
+        let written = answer.map_or(0, |count| 4 * count as usize);
+        assert!(list[written..] == before[written..], "the list beyond the dispatches was written");
+        answer
+    }
+
+    fn look(&mut self, table: &[i64], node: i64) -> Answer<[i64; 3]> {
+        self.0.look(table, node)
+    }
+
+    fn same(&mut self, first: &[i64], second: &[i64]) -> Answer<bool> {
+        let answer = self.0.same(first, second);
+        assert_eq!(answer, self.0.same(second, first));
+        answer
+    }
+
+    fn plan_read(&mut self, plan: &[u8], table: &mut [i64]) -> Answer<i64> {
+        let check = self.0.plan_check(plan);
+        let answer = self.change(table, |inner, table| inner.plan_read(plan, table));
+        if table.len() == TABLE_LEN {
+            assert_eq!(answer.err().unwrap_or(0), check);
+        }
+        answer
+    }
+
+    fn plan_write(&mut self, table: &[i64], buffer: &mut [u8]) -> Answer<i64> {
+        let before = buffer.to_vec();
+        let answer = self.0.plan_write(table, buffer);
+        let written = answer.map_or(0, |length| length as usize);
+        assert!(buffer[written..] == before[written..], "the buffer beyond the plan was written");
+        answer
+    }
+
+    fn plan_check(&mut self, plan: &[u8]) -> i64 {
+        self.0.plan_check(plan)
+    }
+}
+
+/// Calls as steps.
+pub fn steps(calls: &[Call]) -> Vec<Step> {
+    calls.iter().cloned().map(Step::Call).collect()
+}
+
+pub fn open(rate: i64, depth: i64) -> Call {
+    Call::Open { rate, depth }
+}
+
+pub fn request(client: i64, size: i64) -> Call {
+    Call::Request { client, tag: 7, size }
+}
+
+/// A tick whose list is long enough for anything.
+pub fn tick() -> Call {
+    Call::Tick { list_len: 4 * 8 * 63 }
+}
