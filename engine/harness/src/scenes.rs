@@ -335,9 +335,10 @@ fn limits() -> Vec<Scene> {
     vec![("limits".into(), steps)]
 }
 
-/// Tables with one clause of "in order" broken and no other, and every call on each of them.
+/// Tables with one clause of "in order" broken and no other, and every call on each of them. Every clause is reached.
 fn damaged() -> Vec<Scene> {
     let mut scenes = Vec::new();
+    let mut reached = [false; CLAUSES.len()];
     for seed in 0..40 {
         let mut steps = if seed == 0 { sound() } else { run(seed, 150, Profile::Clean) };
         let mut world = World::default();
@@ -347,6 +348,7 @@ fn damaged() -> Vec<Scene> {
         let mut rng = Rng::new(seed);
         for clause in 0..CLAUSES.len() {
             if let Some(damage) = damage::isolated(&mut rng, world.table.inner(), clause) {
+                reached[clause] = true;
                 for call in every_call() {
                     steps.push(Step::Keep);
                     steps.extend(damage.iter().cloned());
@@ -356,5 +358,6 @@ fn damaged() -> Vec<Scene> {
         }
         scenes.push((format!("damage {seed}"), steps));
     }
+    assert!(reached.iter().all(|&clause| clause), "a clause is never broken alone: {reached:?}");
     scenes
 }
