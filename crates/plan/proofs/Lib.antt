@@ -1,4 +1,5 @@
 pub mod Shows
+pub mod Written
 pub mod Codec
 pub mod Rising
 pub mod Listing

@@ -3,3 +3,4 @@ pub mod Format
 pub mod Nodes
 pub mod Reading
 pub mod Writing
+pub mod Written

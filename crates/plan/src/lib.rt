@@ -6,6 +6,8 @@ ghost use Rattle.plan.specs.Reading.{checkAnswer};
 mod bodies;
 mod bytes;
 mod forms;
+mod nodes;
+mod putting;
 mod reading;
 
 pub use reading::check;
