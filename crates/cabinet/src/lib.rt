@@ -1,7 +1,6 @@
 // The calls of document 01 for hosts in C or Rust: one exported function for each. Numbers are i64, slices are pointer and
 // length. The answer is 0 or more where the call is accepted, else the negated number of the refusal.
 ghost use mathlib.Core.Path.{_≡_};
-ghost use Prim.Native.Nat.{_≤_};
 ghost use lib.IntN.{pos, _-ℤ_};
 ghost use Rattle.table.specs.Answers.{numberOf, told, toldCompared};
 ghost use Rattle.table.specs.Calls.{openAnswer, openTable, joinAnswer, joinTable, leaveAnswer, leaveTable, changeShareAnswer, changeShareTable, changeRateAnswer, changeRateTable, requestAnswer, requestTable, lookAnswer, sameAnswer};
@@ -13,35 +12,11 @@ use table::Refusal;
 use table::Seen;
 use table::Table;
 
-// The number of a refusal.
-fn number_of(why: Refusal) -> u64
-    ensures number { λ r. ⌜ r ≡ numberOf why ⌝ }
-    ensures small { λ r. ⌜ r ≤ 15 ⌝ }
-{
-    match why {
-        Refusal::NotInOrder => 1,
-        Refusal::OutsideLimits => 2,
-        Refusal::NotThere => 3,
-        Refusal::InUse => 4,
-        Refusal::WrongSort => 5,
-        Refusal::LevelTooLow => 6,
-        Refusal::SharesAbove => 7,
-        Refusal::DepthAbove => 8,
-        Refusal::NotEmpty => 9,
-        Refusal::InDebt => 10,
-        Refusal::QueueFull => 11,
-        Refusal::CountAtEnd => 12,
-        Refusal::ListShort => 13,
-        Refusal::PlanWrong => 14,
-        Refusal::PlanOutOfOrder => 15,
-    }
-}
-
 // The negated number of a refusal.
 fn negated(why: Refusal) -> i64
     ensures { λ r. ⌜ r ≡ pos 0 -ℤ pos (numberOf why) ⌝ }
 {
-    numbers::lowered(0, number_of(why))
+    numbers::lowered(0, table::number_of(why))
 }
 
 // The number of an answer.

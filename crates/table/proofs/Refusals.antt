@@ -1,14 +1,15 @@
 -- The first cause that is there: a call is accepted exactly when no cause is there, and then it leaves the new contents
 -- and its values; refused, it leaves the contents as they came and the number only.
 use Prim.Native.Nat.{ℕ}
-use mathlib.Core.Path.{_≡_, refl, sym, _∙_}
+use mathlib.Core.Path.{_≡_, refl, sym, ap, _∙_}
 use mathlib.Core.Bool.{Bool, true, false}
 use mathlib.Core.List.{List, [], _∷_}
+use native.Mathlib.Decide.{ℕ-discrete}
 use borrow.Author.Tests.{eq-eqb, ne-eqb}
 use lib.Dec.{eqb}
 use lib.IntN.{ℤ}
 use Rattle.numbers.proofs.Tests.{by-test, cond-true, cond-false}
-use Rattle.table.specs.Refusals.{Cause, cause, first, Outcome, accepted, refused, outcome, kept}
+use Rattle.table.specs.Refusals.{Cause, cause, first, Outcome, accepted, refused, outcome, numberTold, kept}
 
 pub first-here : (n : ℕ) (b : Bool) (cs : List Cause) → b ≡ true → first (cause n b ∷ cs) ≡ n
 unfolding first
@@ -47,3 +48,8 @@ outcome-accepted refusal values h = cond-true (eqb refusal 0) (accepted values) 
 pub outcome-refused : (refusal : ℕ) (values : List ℤ) → (refusal ≡ 0 → ⊥) → outcome refusal values ≡ refused refusal
 unfolding outcome
 outcome-refused refusal values h = cond-false (eqb refusal 0) (accepted values) (refused refusal) (ne-eqb refusal 0 h)
+
+pub number-outcome : (n : ℕ) (values : List ℤ) → numberTold (outcome n values) ≡ n
+unfolding numberTold
+number-outcome n values =
+    elim (ℕ-discrete n 0) [ yes e ↦ ap numberTold (outcome-accepted n values e) ∙ sym e | no ne ↦ ap numberTold (outcome-refused n values ne) ]

@@ -22,6 +22,11 @@ pub data Outcome : Type 0 where
 unfoldable pub outcome : ℕ → List ℤ → Outcome
 outcome refusal values = cond (eqb refusal 0) (accepted values) (refused refusal)
 
+-- The number of the refusal in what a call tells, and 0 where it is accepted.
+unfoldable pub numberTold : Outcome → ℕ
+numberTold (accepted values) = 0
+numberTold (refused number) = number
+
 -- What a call leaves: the new contents where it is accepted, else the contents as they came.
 unfoldable pub kept : ℕ → List ℤ → List ℤ → List ℤ
 kept refusal new old = cond (eqb refusal 0) new old

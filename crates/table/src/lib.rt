@@ -8,7 +8,7 @@ ghost use Rattle.numbers.specs.Whole.{plus, withinℤ};
 ghost use Rattle.numbers.specs.Tests.{every};
 ghost use Rattle.table.specs.Limits.{tableLength, headerLength, recordLength, nodes, greatestRate, greatestDepth};
 ghost use Rattle.table.specs.Places.{place, put, header, putHeader, count};
-ghost use Rattle.table.specs.Refusals.{outcome};
+ghost use Rattle.table.specs.Refusals.{outcome, numberTold};
 ghost use Rattle.table.specs.Calls.{blank, opened, openRefusal, openTable, openAnswer};
 ghost use Rattle.table.specs.Answers.{numberOf, told};
 
@@ -283,5 +283,40 @@ pub fn answered(number: u64, value: i64) -> Answer
         Answer::Accepted(value)
     } else {
         Answer::Refused(refusal_of(number))
+    }
+}
+
+// The number of a refusal.
+pub fn number_of(why: Refusal) -> u64
+    ensures number { λ r. ⌜ r ≡ numberOf why ⌝ }
+    ensures small { λ r. ⌜ r ≤ 15 ⌝ }
+{
+    match why {
+        Refusal::NotInOrder => 1,
+        Refusal::OutsideLimits => 2,
+        Refusal::NotThere => 3,
+        Refusal::InUse => 4,
+        Refusal::WrongSort => 5,
+        Refusal::LevelTooLow => 6,
+        Refusal::SharesAbove => 7,
+        Refusal::DepthAbove => 8,
+        Refusal::NotEmpty => 9,
+        Refusal::InDebt => 10,
+        Refusal::QueueFull => 11,
+        Refusal::CountAtEnd => 12,
+        Refusal::ListShort => 13,
+        Refusal::PlanWrong => 14,
+        Refusal::PlanOutOfOrder => 15,
+    }
+}
+
+// The number of the refusal in an answer, or 0.
+pub fn number_told(answer: Answer) -> u64
+    ensures number { λ r. ⌜ r ≡ numberTold (told answer) ⌝ }
+    ensures small { λ r. ⌜ r ≤ 15 ⌝ }
+{
+    match answer {
+        Answer::Accepted(_) => 0,
+        Answer::Refused(why) => number_of(why),
     }
 }

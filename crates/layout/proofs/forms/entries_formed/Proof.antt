@@ -1,0 +1,43 @@
+-- `layout::forms::entries_formed` meets its contract. The invariant: whether the entries so far are right.
+use Prim.Native.Nat.{ℕ, _≤_, _-_}
+use mathlib.Core.Path.{_≡_, refl, ap, _∙_}
+use native.Mathlib.Omega.{arith}
+use Rattle.numbers.specs.Below.{allBelow}
+use Rattle.numbers.proofs.All.{all-next}
+use Rattle.layout.specs.Format.{entryFormed}
+use borrow.Author.Needs.{needs}
+use Rattle.layout.proofs.forms.entries_formed.Statement.{statement}
+use Rattle.layout.proofs.forms.entries_formed.Tie as tie
+
+abbrev Inv-loop : tie.InvT-loop
+Inv-loop s n ok₀ i₀ ok i = (i ≤ n) × (ok ≡ allBelow i (entryFormed s))
+
+abbrev μ-loop : tie.MeasureT-loop
+μ-loop s n ok₀ i₀ ok i = n - i
+
+loop-holds : tie.Need-loop-holds Inv-loop μ-loop
+unfolding allBelow
+loop-holds c = (omega arith, refl)
+
+entry-formed-requires : tie.Need-entry-formed-requires Inv-loop μ-loop
+entry-formed-requires c κs = search needs
+
+add-i : tie.Need-add-i Inv-loop μ-loop
+add-i c = search needs
+
+loop-less : tie.Need-loop-less Inv-loop μ-loop
+loop-less c = search needs
+
+loop-again : tie.Need-loop-again Inv-loop μ-loop
+loop-again c = (omega arith, cc (all-next (c .before .before .loop .i) (entryFormed (c .before .before .before .before .args .s .now))))
+
+returns : tie.Need-returns Inv-loop μ-loop
+returns c =
+    let start = c .before .before .before in
+    let end : c .before .loop .i ≡ start .args .n = omega arith in
+    c .before .loop .inv .1 ∙ ap (λ (k : ℕ). allBelow k (entryFormed (start .args .s .now))) end
+
+pub entries-formed-spec : {M : Type 1} → statement M
+entries-formed-spec =
+    tie.close
+    (tie.spec Inv-loop μ-loop loop-holds entry-formed-requires add-i loop-less loop-again returns)

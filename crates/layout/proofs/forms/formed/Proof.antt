@@ -1,0 +1,54 @@
+-- `layout::forms::formed` meets its contract: a wrong length or count, or all entries.
+use Prim.Native.Nat.{ℕ, _+_, _*_, _≤_}
+use mathlib.Core.Path.{_≡_, sym}
+use mathlib.Core.Bool.{false}
+use mathlib.Core.List.{List}
+use native.Mathlib.Omega.{arith}
+use lib.ListN.{length}
+use Rattle.numbers.proofs.Tests.{by-test}
+use Rattle.layout.specs.Format.{countIn, formed}
+use Rattle.layout.proofs.Codec.{Formed, formed-facts, formed-rest}
+use borrow.Author.Needs.{needs}
+use Rattle.layout.proofs.forms.formed.Statement.{statement}
+use Rattle.layout.proofs.forms.formed.Tie as tie
+
+not-formed : (s : List ℕ) → (Formed s → ⊥) → false ≡ formed s
+not-formed s none = sym (by-test (formed s) (λ e. absurd (none (formed-facts s e))) (λ e. e))
+
+returns : tie.Need-returns
+returns c = not-formed _ (λ f. omega arith)
+
+count-in-requires : tie.Need-count-in-requires
+count-in-requires c κs = search needs
+
+returns-2 : tie.Need-returns-2
+returns-2 c = not-formed _ (λ f. omega arith)
+
+plan-length-requires : tie.Need-plan-length-requires
+plan-length-requires c κs = search needs
+
+returns-3 : tie.Need-returns-3
+returns-3 c = not-formed _ (λ f. omega arith)
+
+entries-formed-requires : tie.Need-entries-formed-requires
+entries-formed-requires c κs = search needs
+
+returns-4 : tie.Need-returns-4
+returns-4 c =
+    let start = c .before .before .before .before .before .before .before in
+    let s = start .args .s .now in
+    let few : countIn s ≤ 63 = omega arith in
+    let long : length s ≡ 9 + 11 * countIn s = omega arith in
+    cc (formed-rest s few long)
+
+pub formed-spec : {M : Type 1} → statement M
+formed-spec =
+    tie.close
+    (tie.spec
+    returns
+    count-in-requires
+    returns-2
+    plan-length-requires
+    returns-3
+    entries-formed-requires
+    returns-4)

@@ -1,0 +1,33 @@
+-- `layout::putting::put_pair` meets its contract: two bytes.
+use mathlib.Core.Path.{_≡_, refl}
+use mathlib.Core.List.{[], _∷_, _++_}
+use Prim.Native.Nat.{ℕ, _+_, _/_, _%_}
+use native.Mathlib.Omega.{arith}
+use Rattle.layout.specs.Bytes.{bytes2, bytes4}
+use Rattle.layout.proofs.Written.{written-more}
+use borrow.Author.Needs.{needs}
+use Rattle.layout.proofs.putting.put_pair.Statement.{statement}
+use Rattle.layout.proofs.putting.put_pair.Tie as tie
+
+put-byte-requires : tie.Need-put-byte-requires
+put-byte-requires c κs = search needs
+
+add-put-byte : tie.Need-add-put-byte
+add-put-byte c = search needs
+
+put-byte-requires-2 : tie.Need-put-byte-requires-2
+put-byte-requires-2 c κs = search needs
+
+same-length : tie.Need-same-length
+same-length c = search needs
+
+returns : tie.Need-returns
+unfolding bytes2
+returns c =
+    let x = c .before .before .before .before .before .before .before .before .before .args in
+    let b = x .buffer .now in
+    cc (written-more b (x .a) (x .n % 256 ∷ []) (omega arith) (x .a + 1) (x .n / 256 % 256 ∷ []) refl)
+
+pub put-pair-spec : {M : Type 1} → statement M
+put-pair-spec =
+    tie.close (tie.spec put-byte-requires add-put-byte put-byte-requires-2 same-length returns)

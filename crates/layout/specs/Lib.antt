@@ -1,0 +1,4 @@
+pub mod Bytes
+pub mod Format
+pub mod Nodes
+pub mod Written

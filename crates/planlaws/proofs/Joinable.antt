@@ -1,0 +1,142 @@
+-- A node of a table in order can join any part of that table's tree that has its parent and not yet the node itself. No
+-- cause is there: the node keeps its limits, and what the part's children sum up to is at most what the whole's do.
+use Prim.Native.Nat.{ℕ, zero, suc, _≤_, _<_}
+use mathlib.Core.Path.{_≡_, refl, sym, ap, _∙_}
+use mathlib.Core.Bool.{true, false, not}
+use mathlib.Core.List.{List, [], _∷_}
+use native.Mathlib.Omega.{arith}
+use native.Mathlib.Decide.{ℕ-discrete}
+use borrow.Author.Tests.{eqb-true, ne-eqb, le-ltb}
+use lib.Dec.{eqb}
+use lib.IntN.{ℤ, pos}
+use Rattle.numbers.specs.Whole.{plus, withinℤ}
+use Rattle.numbers.specs.Tests.{every}
+use Rattle.numbers.proofs.Tests.{by-test, true-false}
+use Rattle.numbers.proofs.Every.{none-left, holds-with, head-fails, rest-fail}
+use Rattle.numbers.proofs.Parts.{plus-pos, minus-pos, pos-of-within, zarith}
+use Rattle.table.specs.Places.{place}
+use Rattle.table.specs.Tree.{Tree, treeOf, there, isClass, isClient, sumUnder}
+use Rattle.table.specs.Rates.{fixedSum}
+use Rattle.table.specs.Calls.{joinRefusal, sharesAbove, depthsAbove}
+use Rattle.table.proofs.Facts.{InOrder, from-facts, Limits, Child}
+use Rattle.table.proofs.Refusals.{first-none, first-end}
+use Rattle.laws.specs.Joins.{Join, refusalOf, joinedBy}
+use Rattle.laws.proofs.Records.{Filled}
+use Rattle.laws.proofs.Joined.{givenBy, joined-by, same-there}
+use Rattle.keeps.proofs.Edits.{SameNode, same-node}
+use Rattle.keeps.proofs.Nodes.{class-same}
+use Rattle.planlaws.proofs.Part.{PartOf, part-shares, part-depths}
+
+-- The join that gives node k what table t shows of it.
+unfoldable pub joinAt : List ℤ → ℕ → Join
+joinAt t k = record { node = pos k; parent = place t k 1; sort = place t k 0; kind = place t k 3; share = place t k 4; depth = place t k 5 }
+
+same-twice : (a b c : Tree) (k : ℕ) → SameNode a b k → SameNode b c k → SameNode a c k
+same-twice a b c k m n =
+    record {
+      sort = m .sort ∙ n .sort;
+      parent = m .parent ∙ n .parent;
+      level = m .level ∙ n .level;
+      kind = m .kind ∙ n .kind;
+      share = m .share ∙ n .share;
+      depth = m .depth ∙ n .depth;
+    }
+
+no-client : (tree : Tree) (k : ℕ) → isClass tree k ≡ true → isClient tree k ≡ false
+unfolding isClass isClient
+no-client tree k e = ne-eqb (tree .sort k) 2 (λ two. omega (arith, eqb-true (tree .sort k) 1 e))
+
+pub limited-parent : (t : List ℤ) (k : ℕ) → Limits t k → treeOf t .parent k < 64
+unfolding treeOf
+limited-parent t k l = omega (arith, zarith, l .parent)
+
+-- The node k of t, and the table v that shows a part of t.
+pub record Next (t v : List ℤ) (k : ℕ) : Type 0 where
+  pub whole : InOrder t
+  pub order : InOrder v
+  pub part : PartOf (treeOf v) (treeOf t)
+  pub small : k < 64
+  pub below : k ≡ 0 → ⊥
+  pub here : there (treeOf t) k ≡ true
+  pub free : there (treeOf v) k ≡ false
+  pub above : there (treeOf v) (treeOf t .parent k) ≡ true
+
+module _ (t v : List ℤ) (k : ℕ) (x : Next t v k) where
+  limits : Limits t k
+  limits = x .whole .limits k (x .small) (x .here)
+
+  child : Child (treeOf t) k
+  child = x .whole .child k (x .small) (x .here) (x .below)
+
+  parent-small : treeOf t .parent k < 64
+  parent-small = limited-parent t k limits
+
+  -- The parent is the same class in both.
+  parent-same : SameNode (treeOf v) (treeOf t) (treeOf t .parent k)
+  parent-same = x .part .same (treeOf t .parent k) parent-small (x .above)
+
+  parent-class : isClass (treeOf v) (treeOf t .parent k) ≡ true
+  parent-class = class-same (treeOf v) (treeOf t) (treeOf t .parent k) (parent-same .sort) ∙ child .class
+
+  -- With the join written, the node shows what it shows in t.
+  given-same : (q : ℕ) → q < 6 → givenBy (joinAt t k) (suc (treeOf v .level (treeOf t .parent k))) q ≡ place t k q
+  unfolding givenBy joinAt treeOf
+  given-same zero hq = refl
+  given-same (suc zero) hq = pos-of-within 0 63 (place t k 1) (limits .parent)
+  given-same (suc (suc zero)) hq = ap pos (ap suc (parent-same .level) ∙ sym (child .level)) ∙ pos-of-within 0 4 (place t k 2) (limits .level)
+  given-same (suc (suc (suc zero))) hq = refl
+  given-same (suc (suc (suc (suc zero)))) hq = refl
+  given-same (suc (suc (suc (suc (suc zero))))) hq = refl
+  given-same (suc (suc (suc (suc (suc (suc q)))))) hq = absurd (omega arith)
+
+  written : Filled v k (givenBy (joinAt t k) (suc (treeOf v .level (treeOf t .parent k)))) 6 (joinedBy v (joinAt t k))
+  unfolding joinAt treeOf plus
+  written = joined-by v (joinAt t k)
+
+  joined-same : (j : ℕ) → j < 64 → there (treeOf (joinedBy v (joinAt t k))) j ≡ true → SameNode (treeOf (joinedBy v (joinAt t k))) (treeOf t) j
+  joined-same j hj e =
+      elim (ℕ-discrete j k) [
+        | yes same ↦ rw same (same-node t (joinedBy v (joinAt t k)) k (λ q hq. written .shown (x .order .long) (x .small) q hq ∙ given-same q hq))
+        | no ne ↦
+            let kept : (q : ℕ) → q < 40 → place (joinedBy v (joinAt t k)) j q ≡ place v j q = λ q hq. written .apart j q hq (λ same. absurd (ne same)) in
+            same-twice _ (treeOf v) _ j (same-node v (joinedBy v (joinAt t k)) j (λ q hq. kept q (omega arith)))
+            (x .part .same j hj (sym (same-there (joinedBy v (joinAt t k)) v j (kept 0 (omega arith))) ∙ e))
+      ]
+
+  joined-part : PartOf (treeOf (joinedBy v (joinAt t k))) (treeOf t)
+  joined-part = record { same = joined-same }
+
+  -- A class is not below level 3.
+  not-last : every (eqb (treeOf t .sort k) 1 ∷ eqb (treeOf v .level (treeOf t .parent k)) 3 ∷ []) ≡ false
+  unfolding isClass
+  not-last =
+      by-test (eqb (treeOf t .sort k) 1)
+      (λ e. let most = x .whole .class k (x .small) e .level in rest-fail _ _ (head-fails _ _ (ne-eqb (treeOf v .level (treeOf t .parent k)) 3 (λ three. omega (arith, parent-same .level, child .level)))))
+      (λ e. head-fails _ _ e)
+
+  shares-kept : fixedSum (treeOf (joinedBy v (joinAt t k))) (treeOf t .parent k) ≤ 10000
+  shares-kept = omega (arith, part-shares _ (treeOf t) joined-part (treeOf t .parent k), x .whole .class (treeOf t .parent k) parent-small (child .class) .shares)
+
+  parent-apart : treeOf t .parent k ≡ k → ⊥
+  parent-apart e = true-false (x .above) (rw e (x .free))
+
+  parent-depth : treeOf (joinedBy v (joinAt t k)) .depth (treeOf t .parent k) ≡ treeOf t .depth (treeOf t .parent k)
+  parent-depth =
+      same-node v (joinedBy v (joinAt t k)) (treeOf t .parent k) (λ q hq. written .apart (treeOf t .parent k) q (omega arith) (λ same. absurd (parent-apart same))) .depth
+      ∙ parent-same .depth
+
+  depths-kept : sumUnder (treeOf (joinedBy v (joinAt t k))) (treeOf t .parent k) (treeOf (joinedBy v (joinAt t k)) .depth) ≤ treeOf (joinedBy v (joinAt t k)) .depth (treeOf t .parent k)
+  depths-kept = omega (arith, parent-depth, part-depths _ (treeOf t) joined-part (treeOf t .parent k), x .whole .class (treeOf t .parent k) parent-small (child .class) .depths)
+
+  node-limits : withinℤ 1 63 (pos k) ≡ true
+  node-limits = omega (arith, zarith, x .small, x .below, plus-pos k, minus-pos k)
+
+  pub joinable : refusalOf v (joinAt t k) ≡ 0
+  unfolding refusalOf joinRefusal joinAt sharesAbove depthsAbove joinedBy treeOf plus
+  joinable =
+      first-none 1 _ _ (ap not (from-facts v (x .order)))
+      (first-none 2 _ _ (ap not (holds-with _ _ node-limits (holds-with _ _ (limits .parent) (holds-with _ _ (limits .sort) (holds-with _ _ (limits .kind) (holds-with _ _ (limits .share) (holds-with _ _ (limits .depth) none-left)))))))
+      (first-none 3 _ _ (ap not (x .above))
+      (first-none 4 _ _ (x .free)
+      (first-none 5 _ _ (no-client (treeOf v) (treeOf t .parent k) parent-class)
+      (first-none 6 _ _ not-last (first-none 7 _ _ (le-ltb _ _ shares-kept) (first-none 8 _ _ (le-ltb _ _ depths-kept) first-end)))))))

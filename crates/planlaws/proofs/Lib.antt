@@ -1,0 +1,12 @@
+pub mod Rising
+pub mod Listing
+pub mod Accepted
+pub mod Entered
+pub mod Stages
+pub mod Part
+pub mod Joinable
+pub mod Planned
+pub mod ReadWritten
+pub mod WrittenRead
+pub mod RoundTrips
+pub mod Example

@@ -1,0 +1,93 @@
+-- The plan of a table in order: its numbers fit their bytes, its entries ask for what the table shows, and the parent of
+-- each node is the root or stands before it.
+use Prim.Native.Nat.{ℕ, suc, _≤_, _<_}
+use mathlib.Core.Path.{_≡_, ap, _∙_}
+use mathlib.Core.Bool.{true}
+use mathlib.Core.List.{List}
+use native.Mathlib.Omega.{arith}
+use native.Mathlib.Decide.{decLt}
+use lib.ListN.{length}
+use lib.IntN.{ℤ, pos}
+use Rattle.numbers.specs.Whole.{plus}
+use Rattle.numbers.proofs.Parts.{pos-of-within, zarith}
+use Rattle.numbers.proofs.All.{below-cases}
+use Rattle.table.specs.Places.{place, rate}
+use Rattle.table.specs.Tree.{treeOf, there}
+use Rattle.table.proofs.Facts.{InOrder, Limits, Child}
+use Rattle.laws.proofs.Children.{class-there}
+use Rattle.keeps.proofs.Ready.{root-there}
+use Rattle.planlaws.specs.Reading.{sortOf, shareKindOf, joinOf, standing}
+use Rattle.planlaws.specs.Writing.{order, kindOf, entryOf, planOf}
+use Rattle.layout.proofs.Codec.{Fits}
+use Rattle.planlaws.proofs.Listing.{listed, listed-node, listed-found, listed-rises, level-listed, order-short}
+use Rattle.planlaws.proofs.Joinable.{joinAt, limited-parent}
+
+-- A level of a table in order is at most 4.
+pub level-small : (t : List ℤ) (k : ℕ) → InOrder t → k < 64 → there (treeOf t) k ≡ true → treeOf t .level k ≤ 4
+unfolding treeOf
+level-small t k f hk e = omega (arith, zarith, f .limits k hk e .level)
+
+-- Sort and share kind are those that the plan's kind stands for.
+pub kind-sort : (t : List ℤ) (k : ℕ) → Limits t k → sortOf (kindOf (treeOf t .sort k) (treeOf t .kind k)) ≡ treeOf t .sort k
+unfolding sortOf kindOf treeOf
+kind-sort t k l = omega (arith, zarith, l .sort, l .kind)
+
+pub kind-share : (t : List ℤ) (k : ℕ) → Limits t k → shareKindOf (kindOf (treeOf t .sort k) (treeOf t .kind k)) ≡ treeOf t .kind k
+unfolding shareKindOf kindOf treeOf
+kind-share t k l = omega (arith, zarith, l .sort, l .kind)
+
+-- The entry of a node asks for what the table shows.
+pub entry-join : (t : List ℤ) (k : ℕ) → Limits t k → joinOf (entryOf (treeOf t) k) ≡ joinAt t k
+unfolding joinOf entryOf joinAt treeOf
+entry-join t k l =
+    let parent : pos (plus (place t k 1)) ≡ place t k 1 = pos-of-within 0 63 (place t k 1) (l .parent) in
+    let sort : pos (sortOf (kindOf (plus (place t k 0)) (plus (place t k 3)))) ≡ place t k 0 = ap pos (kind-sort t k l) ∙ pos-of-within 1 2 (place t k 0) (l .sort) in
+    let kind : pos (shareKindOf (kindOf (plus (place t k 0)) (plus (place t k 3)))) ≡ place t k 3 = ap pos (kind-share t k l) ∙ pos-of-within 0 1 (place t k 3) (l .kind) in
+    let share : pos (plus (place t k 4)) ≡ place t k 4 = pos-of-within 1 10000 (place t k 4) (l .share) in
+    let depth : pos (plus (place t k 5)) ≡ place t k 5 = pos-of-within 1 1000000 (place t k 5) (l .depth) in
+    λ i. record { node = pos k; parent = parent i; sort = sort i; kind = kind i; share = share i; depth = depth i }
+
+module _ (t : List ℤ) (f : InOrder t) where
+  pub listed-limits : (i : ℕ) → i < length (order (treeOf t)) → Limits t (listed (treeOf t) i)
+  listed-limits i hi = let l = listed-node (treeOf t) i hi in f .limits (listed (treeOf t) i) (l .small) (l .there)
+
+  pub plan-fits : Fits (planOf t)
+  unfolding planOf entryOf kindOf rate treeOf listed
+  plan-fits =
+      record {
+        rate = omega (arith, zarith, f .root .rate);
+        depth = omega (arith, zarith, f .limits 0 (omega arith) (root-there t (f .root)) .depth);
+        count = order-short (treeOf t);
+        kind = λ i hi. omega (arith, zarith, listed-limits i hi .sort, listed-limits i hi .kind);
+        share = λ i hi. omega (arith, zarith, listed-limits i hi .share);
+        deep = λ i hi. omega (arith, zarith, listed-limits i hi .depth);
+      }
+
+  -- A parent stands before its children.
+  parent-standing : (c k : ℕ) → c < 64 → treeOf t .level k ≡ suc (treeOf t .level c) → standing (treeOf t) c < standing (treeOf t) k
+  unfolding standing
+  parent-standing c k hc e = omega arith
+
+  earlier : (l i : ℕ) → l < length (order (treeOf t)) → standing (treeOf t) (listed (treeOf t) l) < standing (treeOf t) (listed (treeOf t) i) → l < i
+  earlier l i hl h =
+      elim (decLt l i) [
+        | yes low ↦ low
+        | no high ↦ absurd (below-cases l i (omega arith) (λ low. omega (arith, listed-rises (treeOf t) .up i l low hl)) (λ e. omega (arith, ap (λ (j : ℕ). standing (treeOf t) (listed (treeOf t) j)) e)))
+      ]
+
+  pub listed-parent : (i : ℕ) → i < length (order (treeOf t)) → (treeOf t .parent (listed (treeOf t) i) ≡ 0 → ⊥) → (l : ℕ) × (l < i) × (listed (treeOf t) l ≡ treeOf t .parent (listed (treeOf t) i))
+  listed-parent i hi below =
+      let found = listed-found (treeOf t) c (level-listed (treeOf t) c small below (class-there (treeOf t) c (child .class)) (level-small t c f small (class-there (treeOf t) c (child .class)))) in
+      (found .0, earlier (found .0) i (found .1) (rw (found .2) (parent-standing c k small (child .level))), found .2)
+    where
+      k : ℕ
+      k = listed (treeOf t) i
+
+      c : ℕ
+      c = treeOf t .parent k
+
+      child : Child (treeOf t) k
+      child = let l = listed-node (treeOf t) i hi in f .child k (l .small) (l .there) (l .below)
+
+      small : c < 64
+      small = limited-parent t k (listed-limits i hi)

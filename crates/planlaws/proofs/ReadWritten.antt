@@ -1,0 +1,108 @@
+-- Reading an accepted plan and writing the table gives the same bytes. The nodes of the table are those of the plan's
+-- entries, and both the plan's order and the writer's rise by level, then by number: so they are one.
+use Prim.Native.Nat.{ℕ, suc, _-_, _<_}
+use mathlib.Core.Path.{_≡_, refl, sym, ap, _∙_}
+use mathlib.Core.Bool.{true}
+use mathlib.Core.List.{List}
+use native.Mathlib.Omega.{arith}
+use borrow.Author.Tests.{ltb-true}
+use lib.Dec.{ltb}
+use lib.ListN.{length}
+use lib.IntN.{ℤ}
+use Rattle.numbers.proofs.Tests.{true-false}
+use Rattle.numbers.proofs.All.{all-at}
+use Rattle.table.specs.Tree.{Tree, treeOf, there}
+use Rattle.table.specs.Order.{inOrder}
+use Rattle.table.proofs.Facts.{from-facts}
+use Rattle.layout.specs.Bytes.{byteAt}
+use Rattle.layout.specs.Format.{Entry, Plan, planIn}
+use Rattle.planlaws.specs.Reading.{sortOf, shareKindOf, joinedFor, standing, rising, planRefusal, planTable}
+use Rattle.planlaws.specs.Writing.{order, kindOf, entryOf, planOf, planBytes}
+use Rattle.layout.proofs.Codec.{SamePlan, same-entry, same-bytes, read-bytes}
+use Rattle.planlaws.proofs.Rising.{Rises, rises-by-steps, found-below, Within, rising-same, rising-short}
+use Rattle.planlaws.proofs.Listing.{listed, listed-node, listed-found, listed-rises, level-listed, standing-apart}
+use Rattle.planlaws.proofs.Planned.{level-small}
+use Rattle.planlaws.proofs.Accepted.{plan-accepted, plan-table, entries-each}
+use Rattle.planlaws.proofs.Entered.{Shown, shown-there, Entered, entered}
+
+-- A node that shows an entry is written as that entry.
+shown-entry : (tree : Tree) (e : Entry) → Shown tree e → entryOf tree (e .node) ≡ e
+unfolding entryOf kindOf sortOf shareKindOf
+shown-entry tree e s =
+    same-entry (entryOf tree (e .node)) e refl (s .parent) (omega (arith, s .sort, s .kind)) (s .share) (s .depth)
+
+-- A table that shows the entries of a plan, which rise, is written as that plan.
+module _ (p : Plan) (u : List ℤ) (en : Entered p (p .count) u) (r : rising (treeOf u) p ≡ true) where
+  -- The node of entry i.
+  entered-node : ℕ → ℕ
+  entered-node i = p .entry i .node
+
+  entered-rises : Rises (standing (treeOf u)) (p .count) entered-node
+  unfolding entered-node rising
+  entered-rises =
+      rises-by-steps (standing (treeOf u)) (p .count) entered-node
+      (λ i h. ltb-true _ _ (all-at (p .count - 1) (λ i. ltb (standing (treeOf u) (p .entry i .node)) (standing (treeOf u) (p .entry (suc i) .node))) r i (omega arith)))
+
+  listed-within : Within (length (order (treeOf u))) (p .count) (listed (treeOf u)) entered-node
+  unfolding entered-node
+  listed-within =
+      record {
+        member = λ i hi.
+            let l = listed-node (treeOf u) i hi in
+            elim (found-below (p .count) entered-node (listed (treeOf u) i)) [
+              | yes f ↦ f
+              | no nobody ↦ absurd (true-false (l .there) (en .free (listed (treeOf u) i) (l .small) (l .below) (λ j hj e. nobody (j, hj, e))))
+            ];
+      }
+
+  entered-within : Within (p .count) (length (order (treeOf u))) entered-node (listed (treeOf u))
+  unfolding entered-node
+  entered-within =
+      record {
+        member = λ i hi.
+            let s = en .node i hi in
+            let here = shown-there (treeOf u) (p .entry i) s in
+            listed-found (treeOf u) (p .entry i .node) (level-listed (treeOf u) (p .entry i .node) (s .small) (s .below) here (level-small u (p .entry i .node) (en .order) (s .small) here));
+      }
+
+  apart : (i j : ℕ) → i < length (order (treeOf u)) → j < p .count → standing (treeOf u) (listed (treeOf u) i) ≡ standing (treeOf u) (entered-node j) → listed (treeOf u) i ≡ entered-node j
+  unfolding entered-node
+  apart i j hi hj = standing-apart (treeOf u) (listed (treeOf u) i) (entered-node j) (listed-node (treeOf u) i hi .small) (en .node j hj .small)
+
+  same-count : length (order (treeOf u)) ≡ p .count
+  same-count =
+      let few = rising-short (standing (treeOf u)) (length (order (treeOf u))) (p .count) (listed (treeOf u)) entered-node (listed-rises (treeOf u)) entered-rises listed-within entered-within apart in
+      let many = rising-short (standing (treeOf u)) (p .count) (length (order (treeOf u))) entered-node (listed (treeOf u)) entered-rises (listed-rises (treeOf u)) entered-within listed-within (λ i j hi hj e. sym (apart j i hj hi (sym e))) in
+      omega arith
+
+  same-node : (i : ℕ) → i < p .count → listed (treeOf u) i ≡ entered-node i
+  same-node i hi =
+      rising-same (standing (treeOf u)) (length (order (treeOf u))) (p .count) (listed (treeOf u)) entered-node (listed-rises (treeOf u)) entered-rises listed-within entered-within apart i (omega (arith, same-count))
+
+  pub entered-plan : SamePlan (planOf u) p
+  unfolding planOf listed entered-node
+  entered-plan =
+      record {
+        rate = en .disk;
+        depth = en .depth;
+        count = same-count;
+        entry = λ i hi. ap (entryOf (treeOf u)) (same-node i hi) ∙ shown-entry (treeOf u) (p .entry i) (en .node i hi);
+      }
+
+-- What an accepted plan leaves.
+pub plan-entered : (t : List ℤ) (s : List ℕ) → planRefusal t s ≡ 0 → Entered (planIn s) (planIn s .count) (joinedFor t (planIn s))
+unfolding joinedFor
+plan-entered t s h =
+    let a = plan-accepted t s h in
+    entered t (planIn s) (a .opening) (planIn s .count) (entries-each _ (planIn s) (planIn s .count) (a .joining))
+
+pub plan-keeps : (t : List ℤ) (s : List ℕ) → planRefusal t s ≡ 0 → inOrder (planTable t s) ≡ true
+plan-keeps t s h = rw (plan-table t s h) (from-facts _ (plan-entered t s h .order))
+
+-- What is read from an accepted plan is written as that plan: as what it says, and to the byte.
+pub read-plan : (t : List ℤ) (s : List ℕ) → planRefusal t s ≡ 0 → SamePlan (planOf (planTable t s)) (planIn s)
+read-plan t s h = rw (plan-table t s h) (entered-plan (planIn s) (joinedFor t (planIn s)) (plan-entered t s h) (plan-accepted t s h .rising))
+
+pub read-written : (t : List ℤ) (s : List ℕ) → planRefusal t s ≡ 0 → ((i : ℕ) → i < length s → byteAt s i < 256) → planBytes (planTable t s) ≡ s
+unfolding planBytes
+read-written t s h small = same-bytes (planOf (planTable t s)) (planIn s) (read-plan t s h) ∙ read-bytes s (plan-accepted t s h .formed) small

@@ -1,0 +1,23 @@
+-- `reading::join_entry` meets its contract.
+use mathlib.Core.Path.{_≡_}
+use native.Mathlib.Omega.{arith}
+use Rattle.layout.specs.Format.{planIn}
+use borrow.Author.Needs.{needs}
+use Rattle.reading.proofs.join_entry.Statement.{statement}
+use Rattle.reading.proofs.join_entry.Tie as tie
+
+node-at-requires : tie.Need-node-at-requires
+node-at-requires c κs = search needs
+
+join-node-requires : tie.Need-join-node-requires
+join-node-requires c κs = search needs
+
+same-length : tie.Need-same-length
+same-length c = search needs
+
+returns : tie.Need-returns
+unfolding planIn
+returns c = (cc, (omega arith, cc))
+
+pub join-entry-spec : {M : Type 1} → statement M
+join-entry-spec = tie.close (tie.spec node-at-requires join-node-requires same-length returns)

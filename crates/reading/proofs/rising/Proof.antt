@@ -1,0 +1,85 @@
+-- `reading::rising` meets its contract. The invariant: whether the entries so far rise.
+use Prim.Native.Nat.{ℕ, suc, _+_, _≤_, _-_}
+use mathlib.Core.Path.{_≡_, refl, ap, _∙_}
+use mathlib.Core.Bool.{Bool}
+use mathlib.Core.List.{List}
+use native.Mathlib.Numerals.{add-one}
+use native.Mathlib.Omega.{arith}
+use lib.Dec.{ltb}
+use lib.IntN.{ℤ}
+use Rattle.numbers.specs.Below.{allBelow}
+use Rattle.numbers.proofs.All.{all-next}
+use Rattle.table.specs.Tree.{treeOf}
+use Rattle.layout.specs.Format.{countIn, planIn}
+use Rattle.planlaws.specs.Reading.{standing, rising}
+use borrow.Author.Needs.{needs}
+use Rattle.reading.proofs.rising.Statement.{statement}
+use Rattle.reading.proofs.rising.Tie as tie
+
+-- Whether entry j stands before the next one.
+abbrev rises : List ℤ → List ℕ → ℕ → Bool
+rises t s j = ltb (standing (treeOf t) (planIn s .entry j .node)) (standing (treeOf t) (planIn s .entry (suc j) .node))
+
+abbrev Inv-loop : tie.InvT-loop
+Inv-loop table s n ok₀ i₀ ok i =
+    (i ≤ n - 1) × (ok ≡ allBelow i (rises table s))
+
+abbrev μ-loop : tie.MeasureT-loop
+μ-loop table s n ok₀ i₀ ok i = n - i
+
+loop-holds : tie.Need-loop-holds Inv-loop μ-loop
+unfolding allBelow
+loop-holds c = (omega arith, refl)
+
+add-loop : tie.Need-add-loop Inv-loop μ-loop
+add-loop c = search needs
+
+standing-of-requires : tie.Need-standing-of-requires Inv-loop μ-loop
+standing-of-requires c κs =
+    let start = c .before .before .before in
+    let each = start .pre .4 (c .before .loop .i) (omega arith) in
+    (omega arith, omega arith, omega arith, each .0, each .1)
+
+add-standing-of : tie.Need-add-standing-of Inv-loop μ-loop
+add-standing-of c = search needs
+
+standing-of-requires-2 : tie.Need-standing-of-requires-2 Inv-loop μ-loop
+standing-of-requires-2 c κs =
+    let start = c .before .before .before .before in
+    let each = start .pre .4 (c .before .before .loop .i + 1) (omega arith) in
+    (omega arith, omega arith, omega arith, each .0, each .1)
+
+add-i : tie.Need-add-i Inv-loop μ-loop
+add-i c = search needs
+
+loop-less : tie.Need-loop-less Inv-loop μ-loop
+loop-less c = search needs
+
+loop-again : tie.Need-loop-again Inv-loop μ-loop
+loop-again c =
+    let at = c .before .before .before in
+    let start = at .before .before in
+    (omega arith, cc (add-one (at .loop .i), all-next (at .loop .i) (rises (start .args .table .now) (start .args .s .now))))
+
+returns : tie.Need-returns Inv-loop μ-loop
+unfolding rising planIn
+returns c =
+    let start = c .before .before .before in
+    let end : c .before .loop .i ≡ countIn (start .args .s .now) - 1 = omega arith in
+    c .before .loop .inv .1 ∙ ap (λ (k : ℕ). allBelow k (rises (start .args .table .now) (start .args .s .now))) end
+
+pub rising-spec : {M : Type 1} → statement M
+rising-spec =
+    tie.close
+    (tie.spec
+    Inv-loop
+    μ-loop
+    loop-holds
+    add-loop
+    standing-of-requires
+    add-standing-of
+    standing-of-requires-2
+    add-i
+    loop-less
+    loop-again
+    returns)

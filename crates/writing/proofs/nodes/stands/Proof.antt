@@ -1,0 +1,29 @@
+-- `writing::nodes::stands` meets its contract: the tests together.
+use mathlib.Core.Bool.{not, _&&_}
+use mathlib.Core.List.{[], _∷_}
+use Prim.Native.Nat.{ℕ, _/_, _%_}
+use lib.Dec.{eqb}
+use Rattle.numbers.proofs.Every.{every-two, every-next}
+use Rattle.table.specs.Tree.{treeOf, there}
+use Rattle.planlaws.specs.Writing.{stands}
+use borrow.Author.Needs.{needs}
+use Rattle.writing.proofs.nodes.stands.Statement.{statement}
+use Rattle.writing.proofs.nodes.stands.Tie as tie
+
+there-requires : tie.Need-there-requires
+there-requires c κs = search needs
+
+natural-requires : tie.Need-natural-requires
+natural-requires c κs = search needs
+
+returns : tie.Need-returns
+unfolding stands treeOf
+returns c =
+    let a = c .before .before .args in
+    let k = a .m % 64 in
+    let tree = treeOf (a .table .now) in
+    let up = eqb (tree .level k) (a .m / 64) in
+    cc (every-next (there tree k) (not (eqb k 0)) (up ∷ []), every-two (there tree k && not (eqb k 0)) up)
+
+pub stands-spec : {M : Type 1} → statement M
+stands-spec = tie.close (tie.spec there-requires natural-requires returns)
