@@ -2,7 +2,7 @@
 ghost use mathlib.Core.Path.{_≡_};
 ghost use mathlib.Core.Bool.{true};
 ghost use Prim.Native.Nat.{ℕ, _+_, _*_, _^_, _≤_, _<_};
-ghost use lib.ListN.{length};
+ghost use lib.ListN.{length, getD};
 ghost use lib.IntN.{pos};
 ghost use Rattle.table.specs.Limits.{tableLength, nodes, lastLevel};
 ghost use Rattle.table.specs.Tree.{treeOf};
@@ -167,8 +167,29 @@ pub fn check(s: &[u8]) -> u64
     build(&mut built, s)
 }
 
-// Reads a plan into a table. The plan is judged in a table of its own first, so that a refused one leaves the lent table as
-// it came. Document 01, "Same tree, and the plan file".
+// The number at place i.
+fn number_at(from: &[i64], i: usize) -> i64
+    requires { ⌜ i < length (now from) ⌝ }
+    ensures { λ r. ⌜ r ≡ getD (now (from .entry)) i (pos 0) ⌝ }
+{
+    from[i]
+}
+
+// Copies a table.
+fn copy(table: &mut [i64], from: &[i64])
+    requires { ⌜ length (now table) ≡ length (now from) ⌝ }
+    ensures { λ _. ⌜ now (table .exit) ≡ now (from .entry) ⌝ }
+{
+    let mut i: usize = 0;
+    while i < table.len() {
+        let number = number_at(from, i);
+        table[i] = number;
+        i += 1;
+    }
+}
+
+// Reads a plan into a table. It is built in a table of its own and copied at the end, so that a refused one leaves the lent
+// table as it came. Document 01, "Same tree, and the plan file".
 pub fn read(table: &mut [i64], s: &[u8]) -> Answer
     ensures answer { λ r. ⌜ told r ≡ planAnswer (now (table .entry)) (now (s .entry)) ⌝ }
     ensures table { λ _. ⌜ now (table .exit) ≡ planTable (now (table .entry)) (now (s .entry)) ⌝ }
@@ -176,10 +197,11 @@ pub fn read(table: &mut [i64], s: &[u8]) -> Answer
     if table.len() != Table::LENGTH {
         return table::answered(1, 0);
     }
-    let number = check(s);
+    let mut built: [i64; 2568] = [0; 2568];
+    let number = build(&mut built, s);
     if number != 0 {
         return table::answered(number, 0);
     }
-    build(table, s);
+    copy(table, &built);
     Answer::Accepted(0)
 }

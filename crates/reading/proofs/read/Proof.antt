@@ -1,20 +1,24 @@
--- `reading::read` meets its contract: a plan that passes the check is built in the lent table.
+-- `reading::read` meets its contract: an accepted plan is built in a table of its own and copied.
 use Prim.Native.Nat.{ℕ}
 use mathlib.Core.Path.{_≡_, sym, ap, _∙_}
 use native.Mathlib.Omega.{arith}
+use lib.ListN.{length-replicate}
+use lib.IntN.{pos}
 use borrow.Author.Needs.{needs}
 use Rattle.table.specs.Answers.{told}
 use Rattle.table.specs.Refusals.{outcome}
-use Rattle.table.specs.Calls.{done}
-use Rattle.table.proofs.Refusals.{kept-new, kept-old, outcome-accepted}
-use Rattle.planlaws.specs.Reading.{planRefusal, planTable, planAnswer}
+use Rattle.table.specs.Calls.{blank, done}
+use Rattle.table.proofs.Refusals.{kept-old, outcome-accepted}
+use Rattle.planlaws.specs.Reading.{planRefusal, planTable, planAnswer, checkAnswer}
+use Rattle.planlaws.proofs.Accepted.{plan-table, plan-table-any}
 use Rattle.planlaws.proofs.Stages.{wrong-length, check-any}
 use Rattle.reading.proofs.read.Statement.{statement}
 use Rattle.reading.proofs.read.Tie as tie
 
--- The check gives the number of the lent table.
-number : (c : tie.After-check) → c .check .result ≡ planRefusal (c .before .before .before .args .table .now) (c .before .before .before .args .s .now)
-number c = c .check .ensures .0 ∙ check-any _ _ (c .before .if1 .left)
+-- The table of zeros gives the number of the lent table.
+number : (c : tie.After-build) → c .build .result ≡ planRefusal (c .before .before .before .before .args .table .now) (c .before .before .before .before .args .s .now)
+unfolding checkAnswer blank
+number c = c .build .ensures .0 ∙ check-any _ _ (c .before .before .if1 .left)
 
 answered-requires : tie.Need-answered-requires
 answered-requires c κs = search needs
@@ -28,31 +32,43 @@ returns c =
       sym (kept-old _ _ _ (omega (arith, one))),
     )
 
-check-requires : tie.Need-check-requires
-check-requires c κs = search needs
+slice-aggregate-build : tie.Need-slice-aggregate-build
+slice-aggregate-build c = search needs
+
+build-requires : tie.Need-build-requires
+build-requires c κs = search needs
 
 answered-requires-2 : tie.Need-answered-requires-2
 answered-requires-2 c κs = search needs
 
 returns-2 : tie.Need-returns-2
 unfolding planAnswer planTable
-returns-2 c = (
-  c .answered2 .ensures ∙ ap (λ (n : ℕ). outcome n done) (number (c .before .before)),
-  sym (kept-old _ _ _ (λ z. c .before .if2 .taken (number (c .before .before) ∙ z))),
-)
+returns-2 c =
+    let number = number (c .before .before .before) in (
+      c .answered2 .ensures ∙ ap (λ (n : ℕ). outcome n done) number,
+      sym (kept-old _ _ _ (λ z. c .before .if2 .taken (number ∙ z))),
+    )
 
-build-requires : tie.Need-build-requires
-build-requires c κs = search needs
+slice-aggregate-copy : tie.Need-slice-aggregate-copy
+slice-aggregate-copy c = search needs
+
+copy-requires : tie.Need-copy-requires
+copy-requires c κs = search needs
 
 same-length : tie.Need-same-length
 same-length c = search needs
 
 returns-3 : tie.Need-returns-3
-unfolding told planAnswer planTable
+unfolding told planAnswer blank
 returns-3 c =
-    let zero = sym (number (c .before .before .before .before)) ∙ c .before .before .before .if2 .left in (
+    let built = c .before .before .before .before .before .before in
+    let start = built .before .before .before .before in
+    let zero = sym (number built) ∙ c .before .before .before .before .if2 .left in (
       sym (outcome-accepted _ _ zero),
-      c .before .build .ensures .1 .1 (c .before .build .ensures .0 ∙ zero) ∙ sym (kept-new _ _ _ zero),
+      c .before .copy .ensures
+          ∙ built .build .ensures .1 .1 (c .before .before .before .before .if2 .left)
+          ∙ sym (plan-table blank (start .args .s .now) (sym (built .build .ensures .0) ∙ c .before .before .before .before .if2 .left))
+          ∙ sym (plan-table-any (start .args .table .now) blank (start .args .s .now) (built .before .before .if1 .left ∙ sym (length-replicate 2568 (pos 0))) zero),
     )
 
 pub read-spec : {M : Type 1} → statement M
@@ -61,9 +77,11 @@ read-spec =
     (tie.spec
     answered-requires
     returns
-    check-requires
+    slice-aggregate-build
+    build-requires
     answered-requires-2
     returns-2
-    build-requires
+    slice-aggregate-copy
+    copy-requires
     same-length
     returns-3)
