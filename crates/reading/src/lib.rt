@@ -198,9 +198,9 @@ pub fn read(table: &mut [i64], s: &[u8]) -> Answer
         return table::answered(1, 0);
     }
     let mut built: [i64; 2568] = [0; 2568];
-    let number = build(&mut built, s);
-    if number != 0 {
-        return table::answered(number, 0);
+    let refusal = build(&mut built, s);
+    if refusal != 0 {
+        return table::answered(refusal, 0);
     }
     copy(table, &built);
     Answer::Accepted(0)
