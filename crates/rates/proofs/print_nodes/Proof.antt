@@ -1,9 +1,9 @@
--- `sample::print_nodes` meets its contract: it ends, since k rises to 64.
+-- `rates::print_nodes` meets its contract: it ends, since k rises to 64.
 use Prim.Native.Nat.{_≤_, _-_}
 use borrow.Author.Needs.{needs}
 use native.Mathlib.Omega.{arith}
-use Rattle.sample.proofs.print_nodes.Statement.{statement}
-use Rattle.sample.proofs.print_nodes.Tie as tie
+use Rattle.rates.proofs.print_nodes.Statement.{statement}
+use Rattle.rates.proofs.print_nodes.Tie as tie
 
 abbrev Inv-loop : tie.InvT-loop
 Inv-loop table k₀ k = k ≤ 64

@@ -1,21 +1,10 @@
-// Opens a table, joins a tree that shows all levels, and prints a line for each node in rising number: node, sort, rate.
+// Prints, for a plan on standard input, a line for each node in rising number: node, sort, rate. A refused plan prints one
+// line with the number of the refusal. Document 01, "Same tree, and the plan file".
+use libc::STDIN_FILENO;
 use libc::STDOUT_FILENO;
+use table::Answer;
 use table::Seen;
 use table::Table;
-
-// Two clients share by weight what the fixed part leaves of the disk.
-fn join_clients(table: &mut [i64]) {
-    accounts::join(table, 5, 0, 2, 1, 2, 8);
-    accounts::join(table, 6, 0, 2, 1, 3, 8);
-}
-
-// A class with half of the disk, with a fixed client and two by weight in it.
-fn join_class(table: &mut [i64]) {
-    accounts::join(table, 1, 0, 1, 0, 5000, 20);
-    accounts::join(table, 2, 1, 2, 0, 4000, 6);
-    accounts::join(table, 3, 1, 2, 1, 4, 6);
-    accounts::join(table, 4, 1, 2, 1, 6, 6);
-}
 
 fn print_line(k: usize, class: bool, rate: i64) {
     io::print_decimal(STDOUT_FILENO, k as u64);
@@ -54,10 +43,24 @@ fn print_nodes(table: &[i64]) {
     }
 }
 
-fn main() {
+fn print_refusal(number: u64) {
+    io::write_all(STDOUT_FILENO, b"refused ");
+    io::print_decimal(STDOUT_FILENO, number);
+    io::write_all(STDOUT_FILENO, b"\n");
+}
+
+fn print_plan(contents: &[u8]) {
     let mut table = [0i64; 2568];
-    Table::open(&mut table, 1000, 40);
-    join_class(&mut table);
-    join_clients(&mut table);
-    print_nodes(&table);
+    let answer = plan::read(&mut table, contents);
+    match answer {
+        Answer::Accepted(_) => print_nodes(&table),
+        Answer::Refused(why) => print_refusal(table::number_of(why)),
+    }
+}
+
+// The buffer is longer than any plan, so what does not fit into it is refused as reading refuses it.
+fn main() {
+    let mut contents = io::buffer();
+    let n = io::read_full(STDIN_FILENO, &mut contents);
+    print_plan(&contents[..n]);
 }
