@@ -5,6 +5,7 @@ ghost use lib.IntN.{pos, _-ℤ_};
 ghost use Rattle.table.specs.Answers.{numberOf, told, toldCompared};
 ghost use Rattle.table.specs.Calls.{openAnswer, openTable, joinAnswer, joinTable, leaveAnswer, leaveTable, changeShareAnswer, changeShareTable, changeRateAnswer, changeRateTable, requestAnswer, requestTable, lookAnswer, sameAnswer};
 ghost use Rattle.table.specs.Tick.{tickAnswer, tickTable, tickList};
+ghost use Rattle.planlaws.specs.Reading.{planAnswer, planTable};
 ghost use Rattle.cabinet.specs.Exported.{exported, exportedBare, shown};
 use table::Answer;
 use table::Compared;
@@ -138,4 +139,13 @@ pub extern "C" fn hds_same(first: &[i64], second: &[i64]) -> i64
     ensures { λ r. ⌜ r ≡ exported (sameAnswer (now (first .entry)) (now (second .entry))) ⌝ }
 {
     compared_number(accounts::same(first, second))
+}
+
+// Reads a plan into a table.
+#[no_mangle]
+pub extern "C" fn hds_plan_read(table: &mut [i64], contents: &[u8]) -> i64
+    ensures answer { λ r. ⌜ r ≡ exported (planAnswer (now (table .entry)) (now (contents .entry))) ⌝ }
+    ensures table { λ _. ⌜ now (table .exit) ≡ planTable (now (table .entry)) (now (contents .entry)) ⌝ }
+{
+    answer_number(plan::read(table, contents))
 }
