@@ -12,7 +12,7 @@ use Rattle.table.specs.Rates.{renewed}
 use Rattle.table.specs.Order.{inOrder}
 use Rattle.table.specs.Calls.{reshared, changeShareRefusal, changeShareTable}
 use Rattle.table.proofs.Facts.{InOrder, facts}
-use Rattle.keeps.proofs.Edits.{reshared-node, reshared-others, reshared-rest}
+use Rattle.table.proofs.Edits.{reshared-node, reshared-others, reshared-rest}
 use Rattle.keeps.proofs.ChangeShare.{ChangeSharePassed, change-share-passed, change-share-keeps}
 use Rattle.bounds.specs.Events.{changeShare}
 use Rattle.bounds.specs.Observer.{Observer, withShare, afterAccepted}

@@ -16,8 +16,9 @@ use Rattle.table.specs.Order.{inOrder}
 use Rattle.table.specs.Calls.{joined, joinRefusal, joinTable}
 use Rattle.table.proofs.Facts.{InOrder, facts}
 use Rattle.laws.proofs.Children.{class-there}
-use Rattle.keeps.proofs.Edits.{joined-edit, joined-node, joined-others, joined-rest}
-use Rattle.keeps.proofs.Join.{JoinPassed, join-passed, join-keeps}
+use Rattle.table.proofs.Edits.{joined-edit, joined-node, joined-others, joined-rest}
+use Rattle.table.proofs.Passed.{JoinPassed, join-passed}
+use Rattle.keeps.proofs.Join.{join-keeps}
 use Rattle.bounds.specs.Events.{join}
 use Rattle.bounds.specs.Observer.{Observer, setAt, withNode, afterAccepted}
 use Rattle.bounds.specs.Counts.{leaves, waits}

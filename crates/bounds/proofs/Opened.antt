@@ -1,6 +1,6 @@
 -- The table that an accepted open leaves agrees with the observer at the start: both show the root alone.
 use Prim.Native.Nat.{ℕ, _+_, _*_, _≤_, _<_}
-use mathlib.Core.Path.{_≡_, sym, ap, _∙_}
+use mathlib.Core.Path.{_≡_, ap, _∙_}
 use mathlib.Core.List.{List}
 use native.Mathlib.Omega.{arith}
 use native.Mathlib.Decide.{decLt, ℕ-discrete}
@@ -12,7 +12,7 @@ use Rattle.table.specs.Places.{place, rate as rateOf, waiting}
 use Rattle.table.specs.Tree.{treeOf}
 use Rattle.table.specs.Calls.{blank, opened, openRefusal, openTable}
 use Rattle.table.proofs.Refusals.{kept-new}
-use Rattle.keeps.proofs.Edits.{opened-edit, opened-node, opened-place, blank-place}
+use Rattle.table.proofs.Edits.{opened-edit, opened-node, opened-place, blank-place}
 use Rattle.keeps.proofs.Open.{open-passed, opened-in-order}
 use Rattle.bounds.specs.Observer.{start}
 use Rattle.bounds.proofs.Simulation.{Agrees}

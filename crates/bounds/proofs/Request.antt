@@ -8,7 +8,7 @@ use Rattle.numbers.specs.Whole.{plus}
 use Rattle.table.specs.Places.{place, rate as rateOf, balance, waiting}
 use Rattle.table.specs.Calls.{requested, requestRefusal, requestTable}
 use Rattle.table.proofs.Facts.{InOrder, facts}
-use Rattle.keeps.proofs.Edits.{Requested, requested-edit}
+use Rattle.table.proofs.Edits.{Requested, requested-edit}
 use Rattle.keeps.proofs.Nodes.{ready, most-waiting}
 use Rattle.keeps.proofs.Request.{RequestPassed, request-passed, request-keeps, before, next-waiting, requested-tree}
 use Rattle.bounds.specs.Events.{request}

@@ -1,6 +1,6 @@
 -- The table agrees with the observer: the same tree and disk rate, the table in order, and at each client as many requests
 -- waiting as were asked and not yet sent.
-use Prim.Native.Nat.{ℕ, suc, _+_, _*_, _≤_, _<_}
+use Prim.Native.Nat.{ℕ, _+_, _*_, _≤_, _<_}
 use mathlib.Core.Path.{_≡_}
 use mathlib.Core.Bool.{true, false}
 use mathlib.Core.Logic.{_⊎_}

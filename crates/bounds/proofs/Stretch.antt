@@ -1,33 +1,33 @@
 -- The three claims over a stretch, from the laws of one call. Five depths are one at the start and four at the end.
-use Prim.Native.Nat.{ℕ, suc, _+_, _*_, _≤_, _<_}
-use mathlib.Core.Path.{_≡_, refl, sym, ap, _∙_, subst}
+use Prim.Native.Nat.{ℕ, _+_, _*_, _≤_, _<_}
+use mathlib.Core.Path.{_≡_, refl, ap, _∙_}
 use mathlib.Core.Bool.{true, false, not}
 use mathlib.Core.Logic.{⊎-elim}
 use mathlib.Core.List.{List, [], _∷_}
 use native.Mathlib.Omega.{arith}
 use native.Mathlib.Decide.{decLt}
-use borrow.Author.Tests.{eqb-true, eqb-false, eq-eqb, ne-eqb, not-true}
+use borrow.Author.Tests.{eqb-true, eq-eqb, ne-eqb}
 use lib.ListN.{length}
 use lib.IntN.{ℤ, pos}
-use Rattle.numbers.specs.Whole.{plus, minus}
+use Rattle.numbers.specs.Whole.{plus}
 use Rattle.numbers.specs.Tests.{every}
 use Rattle.numbers.proofs.Tests.{by-test, true-false}
-use Rattle.numbers.proofs.Every.{head-holds, rest-hold, none-left, holds-with, head-fails, rest-fail}
+use Rattle.numbers.proofs.Every.{none-left, holds-with, head-fails, rest-fail}
 use Rattle.numbers.proofs.Parts.{zarith, plus-pos, minus-pos, within-parts}
-use Rattle.table.specs.Places.{place, balance, depthGrains}
+use Rattle.table.specs.Places.{place, depthGrains}
 use Rattle.table.specs.Tree.{Tree, treeOf, there, isClass, isClient}
-use Rattle.table.specs.Refusals.{Outcome, accepted, refused, outcome}
+use Rattle.table.specs.Refusals.{refused}
 use Rattle.table.specs.Calls.{leaveRefusal, leaveAnswer}
 use Rattle.table.proofs.Facts.{InOrder, facts}
 use Rattle.table.proofs.Refusals.{none-first, outcome-refused}
 use Rattle.laws.proofs.Children.{class-there}
 use Rattle.laws.proofs.Floors.{grounds, node-floor}
 use Rattle.bounds.specs.Events.{Call, join, leave, changeShare, changeRate, request, tick, tableAfter, answerOf, eventOf, events, tableAfterAll}
-use Rattle.bounds.specs.Observer.{Observer, observed, observedAll}
+use Rattle.bounds.specs.Observer.{Observer, observedAll}
 use Rattle.bounds.specs.Counts.{accepts, leaves, ratesOver, dispatchedOver, chargedOver, waitsThroughout, staysThroughout}
 use Rattle.bounds.specs.Demand.{Bounds}
 use Rattle.bounds.proofs.Simulation.{Agrees, Steps}
-use Rattle.bounds.proofs.Telescope.{agrees-all, ClassOver, class-over, ClientOver, client-over}
+use Rattle.bounds.proofs.Telescope.{agrees-all, class-over, client-over}
 
 -- A node that is there has a number below 64.
 pub there-below : (t : List ℤ) (k : ℕ) → length t ≡ 2568 → there (treeOf t) k ≡ true → k < 64

@@ -1,23 +1,22 @@
 -- Over a stretch the balances telescope. A class: what is charged and the balance at the end are at most its rates and the
 -- balance at the start; at the start it is at most one depth, at the end at least minus four. A waiting client: its rates
 -- are at most what is dispatched and the balance at the end, which is below its depth.
-use Prim.Native.Nat.{ℕ, suc, _+_, _*_, _≤_, _<_}
-use mathlib.Core.Path.{_≡_, refl, sym, ap, _∙_}
-use mathlib.Core.Bool.{true, false, not}
+use Prim.Native.Nat.{ℕ, _+_, _*_, _≤_, _<_}
+use mathlib.Core.Path.{_≡_, refl, ap, _∙_}
+use mathlib.Core.Bool.{true}
 use mathlib.Core.Logic.{_⊎_, inl, inr, ⊎-elim}
 use mathlib.Core.List.{List, [], _∷_}
 use native.Mathlib.Omega.{arith}
 use borrow.Author.Tests.{not-true}
 use lib.IntN.{ℤ}
 use Rattle.numbers.specs.Whole.{plus, minus}
-use Rattle.numbers.specs.Tests.{every}
 use Rattle.numbers.proofs.Every.{head-holds, rest-hold}
 use Rattle.table.specs.Places.{balance}
 use Rattle.table.specs.Tree.{isClass, isClient}
-use Rattle.bounds.specs.Events.{Call, Event, tableAfter, answerOf, eventOf, events, tableAfterAll}
-use Rattle.bounds.specs.Observer.{Observer, entries, observed, observedAll}
-use Rattle.bounds.specs.Counts.{accepts, leaves, rateAt, ratesOver, grainsFor, dispatchedOver, grainsCharged, chargedOver, waits, waitsThroughout, staysThroughout}
-use Rattle.bounds.proofs.Simulation.{Agrees, ClassStep, ClientStep, Steps}
+use Rattle.bounds.specs.Events.{Call, tableAfter, eventOf, events, tableAfterAll}
+use Rattle.bounds.specs.Observer.{Observer, observed, observedAll}
+use Rattle.bounds.specs.Counts.{ratesOver, dispatchedOver, chargedOver, waitsThroughout, staysThroughout}
+use Rattle.bounds.proofs.Simulation.{Agrees, Steps}
 
 pub agrees-all : Steps → (t : List ℤ) (o : Observer) (calls : List Call) → Agrees t o → Agrees (tableAfterAll t calls) (observedAll o (events t calls))
 unfolding tableAfterAll observedAll events

@@ -17,7 +17,7 @@ use Rattle.numbers.proofs.Parts.{within-parts}
 use Rattle.table.specs.Places.{place}
 use Rattle.table.proofs.Facts.{InOrder}
 use Rattle.laws.proofs.Children.{ChildOf, child-facts, child-of, child-le-sum}
-use Rattle.keeps.proofs.Edits.{NodeIs, joined-edit, joined-node, joined-others, reshared-edit, reshared-node}
+use Rattle.table.proofs.Edits.{NodeIs, joined-edit, joined-node, joined-others, reshared-edit, reshared-node}
 use Rattle.keeps.proofs.OneNode.{count-none, shares-changed, depths-changed}
 use Rattle.rating.proofs.Under.{counted}
 

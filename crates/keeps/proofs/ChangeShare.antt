@@ -19,7 +19,7 @@ use Rattle.table.specs.Order.{inOrder}
 use Rattle.table.specs.Calls.{sharesAbove, reshared, changeShareRefusal, changeShareTable}
 use Rattle.table.proofs.Facts.{Child, Class, facts}
 use Rattle.table.proofs.Refusals.{none-first}
-use Rattle.keeps.proofs.Edits.{Edited, reshared-edit, reshared-rest}
+use Rattle.table.proofs.Edits.{Edited, reshared-edit, reshared-rest}
 use Rattle.keeps.proofs.Nodes.{Ready, ready, Sums, node-limited, child-kept, most-waiting}
 use Rattle.keeps.proofs.OneNode.{child-same, no-child, count-same, count-none, shares-changed, depths-changed, balances-changed, edited-ready}
 use Rattle.keeps.proofs.Ready.{ready-renewed, kept-in-order}

@@ -6,76 +6,24 @@ use mathlib.Core.Bool.{true, false, not}
 use mathlib.Core.List.{List}
 use native.Mathlib.Omega.{arith}
 use native.Mathlib.Decide.{ℕ-discrete}
-use borrow.Author.Tests.{not-false, eq-eqb, eqb-true, ne-eqb, ltb-false}
+use borrow.Author.Tests.{eqb-true, ne-eqb}
 use lib.IntN.{ℤ, pos}
-use Rattle.numbers.specs.Whole.{plus, minus, withinℤ}
+use Rattle.numbers.specs.Whole.{plus, minus}
 use Rattle.numbers.proofs.Tests.{true-false}
-use Rattle.numbers.proofs.Every.{head-holds, rest-hold, holds-with, none-left}
 use Rattle.numbers.proofs.Parts.{zarith, plus-pos, minus-pos}
 use Rattle.table.specs.Places.{place, balance, waiting, arrival}
-use Rattle.table.specs.Tree.{treeOf, there, isClass, isClient, childOf, sumUnder}
-use Rattle.table.specs.Rates.{fixedSum, renewed}
+use Rattle.table.specs.Tree.{treeOf, there, isClass, childOf}
+use Rattle.table.specs.Rates.{renewed}
 use Rattle.table.specs.Order.{inOrder}
-use Rattle.table.specs.Calls.{sharesAbove, depthsAbove, joined, joinRefusal, joinTable}
+use Rattle.table.specs.Calls.{joined, joinRefusal, joinTable}
 use Rattle.table.proofs.Facts.{Limits, Child, Class, facts}
-use Rattle.table.proofs.Refusals.{none-first}
-use Rattle.laws.proofs.Children.{ChildOf}
-use Rattle.laws.proofs.Children.{class-there}
-use Rattle.keeps.proofs.Edits.{Edited, SameNode, NodeIs, joinedPlace, joined-edit, joined-node, joined-others, joined-rest}
+use Rattle.table.proofs.Passed.{JoinPassed, join-passed}
+use Rattle.laws.proofs.Children.{ChildOf, class-there}
+use Rattle.table.proofs.Edits.{Edited, SameNode, NodeIs, joinedPlace, joined-edit, joined-node, joined-others, joined-rest}
 use Rattle.keeps.proofs.Nodes.{Ready, ready, Sums, there-same, class-same, child-kept, most-waiting, client-or-class}
 use Rattle.keeps.proofs.OneNode.{no-child, count-none, count-zero, balances-changed, sums-fall, edited-ready}
 use Rattle.keeps.proofs.Fresh.{fresh-node}
 use Rattle.keeps.proofs.Ready.{ready-renewed, kept-in-order}
-
--- What an accepted call has passed, for node k under class c.
-pub record JoinPassed (t : List ℤ) (k c : ℕ) (sort kind share depth : ℤ) : Type 0 where
-  pub order : inOrder t ≡ true
-  pub node : k < 64
-  pub below : k ≡ 0 → ⊥
-  pub parent : c < 64
-  pub sorts : withinℤ 1 2 sort ≡ true
-  pub kinds : withinℤ 0 1 kind ≡ true
-  pub within : withinℤ 1 10000 share ≡ true
-  pub deep : withinℤ 1 1000000 depth ≡ true
-  pub unused : there (treeOf t) k ≡ false
-  pub there : there (treeOf t) c ≡ true
-  pub no-client : isClient (treeOf t) c ≡ false
-  pub levels : plus sort ≡ 1 → treeOf t .level c ≡ 3 → ⊥
-  pub shares : fixedSum (treeOf (joined t k c sort kind share depth)) c ≤ 10000
-  pub depths : sumUnder (treeOf (joined t k c sort kind share depth)) c (treeOf (joined t k c sort kind share depth) .depth) ≤ treeOf (joined t k c sort kind share depth) .depth c
-
-pub join-passed : (t : List ℤ) (node parent sort kind share depth : ℤ) → joinRefusal t node parent sort kind share depth ≡ 0 → JoinPassed t (plus node) (plus parent) sort kind share depth
-unfolding joinRefusal sharesAbove depthsAbove
-join-passed t node parent sort kind share depth h =
-    let p1 = none-first 1 _ _ (omega arith) h in
-    let p2 = none-first 2 _ _ (omega arith) (p1 .1) in
-    let p3 = none-first 3 _ _ (omega arith) (p2 .1) in
-    let p4 = none-first 4 _ _ (omega arith) (p3 .1) in
-    let p5 = none-first 5 _ _ (omega arith) (p4 .1) in
-    let p6 = none-first 6 _ _ (omega arith) (p5 .1) in
-    let p7 = none-first 7 _ _ (omega arith) (p6 .1) in
-    let p8 = none-first 8 _ _ (omega arith) (p7 .1) in
-    let l1 = not-false _ (p2 .0) in
-    let l2 = rest-hold _ _ l1 in
-    let l3 = rest-hold _ _ l2 in
-    let l4 = rest-hold _ _ l3 in
-    let l5 = rest-hold _ _ l4 in
-    record {
-      order = not-false _ (p1 .0);
-      node = omega (arith, zarith, head-holds _ _ l1);
-      below = λ e. omega (arith, zarith, head-holds _ _ l1);
-      parent = omega (arith, zarith, head-holds _ _ l2);
-      sorts = head-holds _ _ l3;
-      kinds = head-holds _ _ l4;
-      within = head-holds _ _ l5;
-      deep = head-holds _ _ (rest-hold _ _ l5);
-      unused = p4 .0;
-      there = not-false _ (p3 .0);
-      no-client = p5 .0;
-      levels = λ class last. true-false (holds-with _ _ (eq-eqb (plus sort) 1 class) (holds-with _ _ (eq-eqb (treeOf t .level (plus parent)) 3 last) none-left)) (p6 .0);
-      shares = ltb-false 10000 _ (p7 .0);
-      depths = ltb-false _ _ (p8 .0);
-    }
 
 -- Node k joins under class c.
 module _ (t : List ℤ) (k c : ℕ) (sort kind share depth : ℤ) (passed : JoinPassed t k c sort kind share depth) (r : Ready t) where

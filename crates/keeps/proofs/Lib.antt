@@ -1,4 +1,3 @@
-pub mod Edits
 pub mod Nodes
 pub mod Ready
 pub mod ChangeRate

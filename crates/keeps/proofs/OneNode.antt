@@ -19,7 +19,7 @@ use Rattle.table.specs.Rates.{fixedShare, fixedSum}
 use Rattle.table.specs.Order.{childBalances}
 use Rattle.table.proofs.Facts.{Child, Class}
 use Rattle.laws.proofs.Children.{ChildOf, child-facts, balances-parts}
-use Rattle.keeps.proofs.Edits.{Edited, SameNode, edited-others}
+use Rattle.table.proofs.Edits.{Edited, SameNode, edited-others}
 use Rattle.keeps.proofs.Nodes.{Node, Ready, Sums, there-same, node-kept, differ-kept, root-kept, most-waiting}
 
 pub child-same : (new old : Tree) (c j : ℕ) → new .sort j ≡ old .sort j → new .parent j ≡ old .parent j → childOf new c j ≡ childOf old c j

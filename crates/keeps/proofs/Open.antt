@@ -19,7 +19,7 @@ use Rattle.table.specs.Calls.{opened, openRefusal, openTable}
 use Rattle.table.proofs.Facts.{Limits, Root, from-facts}
 use Rattle.table.proofs.Refusals.{none-first, kept-new}
 use Rattle.laws.proofs.Renewed.{rate-at-root}
-use Rattle.keeps.proofs.Edits.{opened-edit, opened-place, opened-others, blank-header}
+use Rattle.table.proofs.Edits.{opened-edit, opened-place, opened-others, blank-header}
 use Rattle.keeps.proofs.Nodes.{Node, Ready, ready-in-order}
 use Rattle.keeps.proofs.Fresh.{zero-unused, unused-node, fresh-node}
 use Rattle.keeps.proofs.Ready.{root-there, root-level, kept-in-order}

@@ -22,7 +22,7 @@ use Rattle.table.specs.Calls.{requested, requestRefusal, requestTable}
 use Rattle.table.proofs.Facts.{Limits, Spare, Request, facts, from-facts}
 use Rattle.table.proofs.Refusals.{none-first}
 use Rattle.laws.proofs.Renewed.{same-tree}
-use Rattle.keeps.proofs.Edits.{Requested, requested-edit}
+use Rattle.table.proofs.Edits.{Requested, requested-edit}
 use Rattle.keeps.proofs.Nodes.{Node, Ready, ready, ready-in-order, balance-kept, request-kept, node-kept, root-kept, most-waiting, class-or-client}
 use Rattle.keeps.proofs.Ready.{same-sums, kept-in-order}
 

@@ -17,11 +17,10 @@ use Rattle.table.specs.Places.{place, header, rate}
 use Rattle.table.specs.Tree.{treeOf, there}
 use Rattle.table.specs.Rates.{rateIn}
 use Rattle.table.proofs.Places.{same-places}
-use Rattle.table.proofs.Facts.{InOrder}
+use Rattle.table.proofs.Facts.{InOrder, facts}
 use Rattle.laws.specs.Joins.{Join, refusalOf, afterJoin, afterJoins, AllAccepted, none, next}
 use Rattle.laws.proofs.Renewed.{same-tree}
-use Rattle.laws.proofs.Accepted.{JoinAccepted, join-accepted}
-use Rattle.laws.proofs.Joined.{givenBy, same-there, level-by-place, JoinLeaves, join-leaves}
+use Rattle.laws.proofs.Joined.{JoinAccepted, join-accepted, givenBy, same-there, level-by-place, JoinLeaves, join-leaves}
 
 -- A join of the list has node k.
 abbrev pub HasNode : List Join → ℕ → Type 0
@@ -62,7 +61,7 @@ next-leave t j v joins u a s r =
       rest = λ k p low hp. r .rest k p low hp ∙ s .rest k p low hp;
       kept = λ k p hp nobody. r .kept k p hp (λ h. nobody (h .0, among-rest (h .1), h .2)) ∙ s .kept k p hp (λ e. nobody (j, among-first refl, sym e));
       written = λ i m p hp. ⊎-elim (λ e. rw e (first p hp)) (λ n. r .written i n p hp) (among-cases m);
-      free = λ i m. ⊎-elim (λ e. rw e (a .free)) (λ n. earlier (plus (i .node)) (r .free i n)) (among-cases m);
+      free = λ i m. ⊎-elim (λ e. rw e (a .unused)) (λ n. earlier (plus (i .node)) (r .free i n)) (among-cases m);
       disk = r .disk ∙ s .disk;
       rates = r .rates;
       unused = λ k e. r .unused k e ∙ s .unused k (later k e);
@@ -70,7 +69,7 @@ next-leave t j v joins u a s r =
   where
     -- A node that is there stays as it is.
     apart : (k : ℕ) → there (treeOf t) k ≡ true → k ≡ plus (j .node) → ⊥
-    apart k e same = true-false e (rw same (a .free))
+    apart k e same = true-false e (rw same (a .unused))
 
     there-still : (k : ℕ) → there (treeOf t) k ≡ true → there (treeOf v) k ≡ true
     there-still k e = same-there v t k (s .kept k 0 (omega arith) (apart k e)) ∙ e
@@ -87,7 +86,7 @@ next-leave t j v joins u a s r =
     level : treeOf t .level (plus (j .parent)) ≡ treeOf u .level (plus (j .parent))
     level =
         level-by-place t (plus (j .parent))
-        ∙ ap plus (sym (still (plus (j .parent)) 2 (omega arith) (there-still (plus (j .parent)) (a .above)) ∙ s .kept (plus (j .parent)) 2 (omega arith) (apart (plus (j .parent)) (a .above))))
+        ∙ ap plus (sym (still (plus (j .parent)) 2 (omega arith) (there-still (plus (j .parent)) (a .there)) ∙ s .kept (plus (j .parent)) 2 (omega arith) (apart (plus (j .parent)) (a .there))))
         ∙ sym (level-by-place u (plus (j .parent)))
 
     first : (p : ℕ) → p < 6 → place u (plus (j .node)) p ≡ givenBy j (suc (treeOf u .level (plus (j .parent)))) p
@@ -165,7 +164,7 @@ join-order t (i ∷ joins) (j ∷ others) same a b =
     same-left t (i ∷ joins) (j ∷ others) (afterJoins t (i ∷ joins)) (afterJoins t (j ∷ others)) same (joins-leave a (f .long) (f .rates)) (joins-leave b (f .long) (f .rates))
   where
     first-order : {t : List ℤ} {j : Join} {joins : List Join} → AllAccepted t (j ∷ joins) → InOrder t
-    first-order {t} {j} (next h all) = join-accepted t j h .order
+    first-order {t} {j} (next h all) = facts t (join-accepted t j h .order)
 
     f : InOrder t
     f = first-order a

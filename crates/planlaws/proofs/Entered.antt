@@ -9,16 +9,14 @@ use borrow.Author.Tests.{ne-eqb}
 use lib.IntN.{ℤ, pos}
 use Rattle.numbers.specs.Whole.{plus}
 use Rattle.numbers.proofs.Tests.{true-false}
-use Rattle.numbers.proofs.Parts.{zarith}
 use Rattle.numbers.proofs.All.{below-cases}
 use Rattle.table.specs.Places.{place, rate}
 use Rattle.table.specs.Tree.{Tree, treeOf, there}
 use Rattle.table.specs.Calls.{opened, openRefusal}
 use Rattle.table.proofs.Facts.{InOrder, facts}
 use Rattle.laws.specs.Joins.{Join, refusalOf, afterJoin}
-use Rattle.laws.proofs.Accepted.{JoinAccepted, join-accepted}
-use Rattle.laws.proofs.Joined.{givenBy, same-there, JoinLeaves, join-leaves}
-use Rattle.keeps.proofs.Edits.{same-node, opened-edit, opened-node, opened-others}
+use Rattle.laws.proofs.Joined.{JoinAccepted, join-accepted, givenBy, same-there, JoinLeaves, join-leaves}
+use Rattle.table.proofs.Edits.{same-node, opened-edit, opened-node, opened-others}
 use Rattle.keeps.proofs.Fresh.{zero-unused}
 use Rattle.keeps.proofs.Open.{open-passed, opened-in-order}
 use Rattle.keeps.proofs.Join.{join-keeps}
@@ -81,8 +79,8 @@ joined-shown : (t u : List ℤ) (e : Entry) → JoinAccepted t (joinOf e) → Jo
 unfolding joinOf plus givenBy treeOf
 joined-shown t u e a s =
     record {
-      small = omega (arith, zarith, a .node);
-      below = omega (arith, zarith, a .node);
+      small = a .node;
+      below = a .below;
       sort = ap plus (s .written 0 (omega arith));
       parent = ap plus (s .written 1 (omega arith));
       kind = ap plus (s .written 3 (omega arith));
@@ -96,7 +94,7 @@ joined-apart t u e s k ne q hq = s .kept k q hq ne
 
 joined-free : (t : List ℤ) (e : Entry) → JoinAccepted t (joinOf e) → there (treeOf t) (e .node) ≡ false
 unfolding joinOf plus
-joined-free t e a = a .free
+joined-free t e a = a .unused
 
 pub entered-next : (p : Plan) (n : ℕ) (t : List ℤ) → Entered p n t → refusalOf t (joinOf (p .entry n)) ≡ 0 → Entered p (suc n) (afterJoin t (joinOf (p .entry n)))
 entered-next p n t before h =

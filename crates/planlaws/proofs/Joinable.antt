@@ -21,9 +21,8 @@ use Rattle.table.specs.Calls.{joinRefusal, sharesAbove, depthsAbove}
 use Rattle.table.proofs.Facts.{InOrder, from-facts, Limits, Child}
 use Rattle.table.proofs.Refusals.{first-none, first-end}
 use Rattle.laws.specs.Joins.{Join, refusalOf, joinedBy}
-use Rattle.laws.proofs.Records.{Filled}
-use Rattle.laws.proofs.Joined.{givenBy, joined-by, same-there}
-use Rattle.keeps.proofs.Edits.{SameNode, same-node}
+use Rattle.laws.proofs.Joined.{givenBy, joined-shown, joined-apart, same-there}
+use Rattle.table.proofs.Edits.{SameNode, same-node}
 use Rattle.keeps.proofs.Nodes.{class-same}
 use Rattle.planlaws.proofs.Part.{PartOf, part-shares, part-depths}
 
@@ -89,18 +88,21 @@ module _ (t v : List ℤ) (k : ℕ) (x : Next t v k) where
   given-same (suc (suc (suc (suc (suc zero))))) hq = refl
   given-same (suc (suc (suc (suc (suc (suc q)))))) hq = absurd (omega arith)
 
-  written : Filled v k (givenBy (joinAt t k) (suc (treeOf v .level (treeOf t .parent k)))) 6 (joinedBy v (joinAt t k))
+  written : (q : ℕ) → q < 6 → place (joinedBy v (joinAt t k)) k q ≡ place t k q
   unfolding joinAt treeOf plus
-  written = joined-by v (joinAt t k)
+  written q hq = joined-shown v (joinAt t k) (x .order .long) (x .small) q hq ∙ given-same q hq
+
+  kept : (j q : ℕ) → q < 40 → (j ≡ k → ⊥) → place (joinedBy v (joinAt t k)) j q ≡ place v j q
+  unfolding joinAt plus
+  kept j q hq ne = joined-apart v (joinAt t k) (x .order .long) (x .small) j q hq (λ same. absurd (ne same))
 
   joined-same : (j : ℕ) → j < 64 → there (treeOf (joinedBy v (joinAt t k))) j ≡ true → SameNode (treeOf (joinedBy v (joinAt t k))) (treeOf t) j
   joined-same j hj e =
       elim (ℕ-discrete j k) [
-        | yes same ↦ rw same (same-node t (joinedBy v (joinAt t k)) k (λ q hq. written .shown (x .order .long) (x .small) q hq ∙ given-same q hq))
+        | yes same ↦ rw same (same-node t (joinedBy v (joinAt t k)) k written)
         | no ne ↦
-            let kept : (q : ℕ) → q < 40 → place (joinedBy v (joinAt t k)) j q ≡ place v j q = λ q hq. written .apart j q hq (λ same. absurd (ne same)) in
-            same-twice _ (treeOf v) _ j (same-node v (joinedBy v (joinAt t k)) j (λ q hq. kept q (omega arith)))
-            (x .part .same j hj (sym (same-there (joinedBy v (joinAt t k)) v j (kept 0 (omega arith))) ∙ e))
+            same-twice _ (treeOf v) _ j (same-node v (joinedBy v (joinAt t k)) j (λ q hq. kept j q (omega arith) ne))
+            (x .part .same j hj (sym (same-there (joinedBy v (joinAt t k)) v j (kept j 0 (omega arith) ne)) ∙ e))
       ]
 
   joined-part : PartOf (treeOf (joinedBy v (joinAt t k))) (treeOf t)
@@ -122,7 +124,7 @@ module _ (t v : List ℤ) (k : ℕ) (x : Next t v k) where
 
   parent-depth : treeOf (joinedBy v (joinAt t k)) .depth (treeOf t .parent k) ≡ treeOf t .depth (treeOf t .parent k)
   parent-depth =
-      same-node v (joinedBy v (joinAt t k)) (treeOf t .parent k) (λ q hq. written .apart (treeOf t .parent k) q (omega arith) (λ same. absurd (parent-apart same))) .depth
+      same-node v (joinedBy v (joinAt t k)) (treeOf t .parent k) (λ q hq. kept (treeOf t .parent k) q (omega arith) parent-apart) .depth
       ∙ parent-same .depth
 
   depths-kept : sumUnder (treeOf (joinedBy v (joinAt t k))) (treeOf t .parent k) (treeOf (joinedBy v (joinAt t k)) .depth) ≤ treeOf (joinedBy v (joinAt t k)) .depth (treeOf t .parent k)

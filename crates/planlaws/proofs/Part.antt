@@ -9,7 +9,7 @@ use Rattle.numbers.proofs.Sums.{sum-mono}
 use Rattle.table.specs.Tree.{Tree, there, isFixed, childOf, countIf, sumUnder}
 use Rattle.table.specs.Rates.{fixedShare, fixedSum}
 use Rattle.laws.proofs.Children.{ChildOf, child-facts, child-of}
-use Rattle.keeps.proofs.Edits.{SameNode}
+use Rattle.table.proofs.Edits.{SameNode}
 use Rattle.keeps.proofs.Nodes.{there-same}
 
 pub record PartOf (part whole : Tree) : Type 0 where

@@ -24,7 +24,7 @@ use Rattle.table.proofs.Facts.{InOrder, Limits, facts}
 use Rattle.table.proofs.Refusals.{first-none, first-end}
 use Rattle.laws.specs.Joins.{refusalOf}
 use Rattle.laws.proofs.Renewed.{same-tree-below}
-use Rattle.keeps.proofs.Edits.{SameNode}
+use Rattle.table.proofs.Edits.{SameNode}
 use Rattle.keeps.proofs.Nodes.{there-same}
 use Rattle.keeps.proofs.Ready.{root-there}
 use Rattle.layout.specs.Format.{Entry, Plan, planIn, formed}

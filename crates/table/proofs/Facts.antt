@@ -1,23 +1,22 @@
 -- What a table in order satisfies, as plain facts by node, and that these facts make a table in order: `facts` and
 -- `from-facts` go between the test of specs/Order and the record `InOrder`.
 use Prim.Native.Nat.{ℕ, zero, suc, _+_, _*_, _-_, _≤_, _<_}
-use mathlib.Core.Path.{_≡_, refl, sym, ap, _∙_, subst}
-use mathlib.Core.Bool.{Bool, true, false, not, cond, _||_}
+use mathlib.Core.Path.{_≡_, refl, sym, ap, _∙_}
+use mathlib.Core.Bool.{Bool, true, false, not, _||_}
 use mathlib.Core.Logic.{⊎-elim}
 use mathlib.Core.List.{List}
 use native.Mathlib.Omega.{arith}
-use borrow.Author.Tests.{eqb-true, eqb-false, eq-eqb, ne-eqb, leb-true, le-leb, ltb-true, ltb-false, lt-ltb, le-ltb, not-true, not-false}
+use borrow.Author.Tests.{eqb-true, eqb-false, eq-eqb, ne-eqb, leb-true, le-leb, ltb-true, ltb-false, lt-ltb, le-ltb, not-true}
 use lib.ListN.{length}
-use lib.Dec.{eqb, leb, ltb}
+use lib.Dec.{eqb, ltb}
 use lib.IntN.{ℤ, pos, _+ℤ_}
 use lib.Signed.{leZ}
-use Rattle.numbers.specs.Whole.{plus, minus, sameℤ, withinℤ}
+use Rattle.numbers.specs.Whole.{plus, withinℤ}
 use Rattle.numbers.specs.Below.{allBelow}
-use Rattle.numbers.proofs.Tests.{by-test, or-cases, or-true-left, or-true-right, cond-true, cond-false, true-false, true-or-false}
+use Rattle.numbers.proofs.Tests.{by-test, or-cases, or-true-left, or-true-right, cond-true, cond-false, true-false}
 use Rattle.numbers.proofs.Every.{head-holds, rest-hold, none-left, holds-with}
 use Rattle.numbers.proofs.Parts.{same-eq, eq-same, zarith}
 use Rattle.numbers.proofs.All.{all-at, all-intro}
-use Rattle.table.specs.Limits.{tableLength}
 use Rattle.table.specs.Places.{place, header, count, rate, balance, waiting, depthGrains, arrival}
 use Rattle.table.specs.Tree.{Tree, treeOf, there, isClass, isClient, sumUnder, testIf, eachNode, eachClass, eachClient}
 use Rattle.table.specs.Rates.{fixedSum, rateIn}
@@ -294,3 +293,11 @@ from-facts t f =
     (λ j hj. all-intro (waiting t j) (λ l. not (eqb (arrival t k i) (arrival t j l)))
     (λ l hl. ap not (ne-eqb _ _ (f .differ k hk i hi j hj l hl)))))))
     none-left)))))))))))
+
+-- A node of a table in order that is no client is a class.
+pub class-or-client : (t : List ℤ) (k : ℕ) → InOrder t → k < 64 → there (treeOf t) k ≡ true → isClient (treeOf t) k ≡ false → isClass (treeOf t) k ≡ true
+unfolding treeOf isClass isClient
+class-or-client t k f hk e no-client =
+    let limits = f .limits k hk e .sort in
+    let other : plus (place t k 0) ≡ 2 → ⊥ = eqb-false (plus (place t k 0)) 2 no-client in
+    eq-eqb (plus (place t k 0)) 1 (omega (arith, zarith))

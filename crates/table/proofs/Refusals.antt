@@ -9,7 +9,7 @@ use borrow.Author.Tests.{eq-eqb, ne-eqb}
 use lib.Dec.{eqb}
 use lib.IntN.{ℤ}
 use Rattle.numbers.proofs.Tests.{by-test, cond-true, cond-false}
-use Rattle.table.specs.Refusals.{Cause, cause, first, Outcome, accepted, refused, outcome, numberTold, kept}
+use Rattle.table.specs.Refusals.{Cause, cause, first, accepted, refused, outcome, numberTold, kept}
 
 pub first-here : (n : ℕ) (b : Bool) (cs : List Cause) → b ≡ true → first (cause n b ∷ cs) ≡ n
 unfolding first

@@ -16,7 +16,8 @@ use Rattle.table.specs.Order.{inOrder}
 use Rattle.table.specs.Rates.{renewed}
 use Rattle.table.specs.Calls.{done, joinRefusal, joinTable, joinAnswer, joined}
 use Rattle.table.proofs.Refusals.{kept-new, kept-old, outcome-accepted}
-use Rattle.keeps.proofs.Join.{join-keeps, JoinPassed, join-passed}
+use Rattle.table.proofs.Passed.{JoinPassed, join-passed}
+use Rattle.keeps.proofs.Join.{join-keeps}
 use Rattle.rating.specs.Rated.{Rated}
 use Rattle.changes.proofs.Before.{rated-before}
 use lib.ListN.{length}
@@ -24,7 +25,7 @@ use Rattle.numbers.proofs.Parts.{within-parts}
 use Rattle.table.specs.Places.{place}
 use Rattle.table.specs.Tree.{treeOf}
 use Rattle.table.proofs.Facts.{facts}
-use Rattle.keeps.proofs.Edits.{joined-edit}
+use Rattle.table.proofs.Edits.{joined-edit}
 use Rattle.changes.proofs.Passed.{long}
 use Rattle.changes.proofs.joining.join.Statement.{statement}
 use Rattle.changes.proofs.joining.join.Tie as tie

@@ -26,8 +26,7 @@ use Rattle.numbers.proofs.Parts.{within-parts}
 use Rattle.table.specs.Tree.{isClient, sumUnder}
 use Rattle.table.specs.Rates.{fixedSum}
 use Rattle.table.specs.Calls.{joined, sharesAbove, depthsAbove}
-use Rattle.table.proofs.Facts.{InOrder, facts}
-use Rattle.laws.proofs.Accepted.{class-or-client}
+use Rattle.table.proofs.Facts.{InOrder, facts, class-or-client}
 use Rattle.rating.proofs.Summable.{in-order-summable}
 use Rattle.changes.proofs.Passed.{six}
 use Rattle.changes.proofs.Sums.{join-shares-above, join-depths-above}

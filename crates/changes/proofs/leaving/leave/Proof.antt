@@ -16,11 +16,12 @@ use Rattle.table.specs.Order.{inOrder}
 use Rattle.table.specs.Rates.{renewed}
 use Rattle.table.specs.Calls.{done, leaveRefusal, leaveTable, leaveAnswer, cleared}
 use Rattle.table.proofs.Refusals.{kept-new, kept-old, outcome-accepted}
-use Rattle.keeps.proofs.Leave.{leave-keeps, LeavePassed, leave-passed}
+use Rattle.table.proofs.Passed.{LeavePassed, leave-passed}
+use Rattle.keeps.proofs.Leave.{leave-keeps}
 use Rattle.rating.specs.Rated.{Rated}
 use Rattle.changes.proofs.Before.{rated-before}
 use lib.ListN.{length}
-use Rattle.keeps.proofs.Edits.{cleared-edit}
+use Rattle.table.proofs.Edits.{cleared-edit}
 use Rattle.changes.proofs.Passed.{long}
 use Rattle.changes.proofs.leaving.leave.Statement.{statement}
 use Rattle.changes.proofs.leaving.leave.Tie as tie

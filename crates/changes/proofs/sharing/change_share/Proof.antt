@@ -20,7 +20,7 @@ use Rattle.keeps.proofs.ChangeShare.{change-share-keeps, ChangeSharePassed, cha
 use Rattle.rating.specs.Rated.{Rated}
 use Rattle.changes.proofs.Before.{rated-before}
 use lib.ListN.{length}
-use Rattle.keeps.proofs.Edits.{reshared-edit}
+use Rattle.table.proofs.Edits.{reshared-edit}
 use Rattle.changes.proofs.Passed.{long}
 use Rattle.changes.proofs.sharing.change_share.Statement.{statement}
 use Rattle.changes.proofs.sharing.change_share.Tie as tie
