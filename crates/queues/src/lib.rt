@@ -1,7 +1,7 @@
 // The waiting requests: their sizes and arrival numbers.
 use table::Table;
 ghost use mathlib.Core.Path.{_≡_};
-ghost use Prim.Native.Nat.{ℕ, _-_, _<_, _≤_};
+ghost use Prim.Native.Nat.{ℕ, _+_, _-_, _<_, _≤_};
 ghost use mathlib.Core.Bool.{_||_};
 ghost use lib.ListN.{length};
 ghost use lib.Dec.{eqb, ltb};
@@ -10,6 +10,10 @@ ghost use Rattle.table.specs.Limits.{tableLength, nodes, mostWaiting};
 ghost use Rattle.table.specs.Places.{waiting, arrival};
 ghost use Rattle.table.specs.Order.{requestInOrder, queueInOrder, differsAt, arrivalsDiffer};
 ghost use Rattle.queues.specs.Waiting.{waitingInOrder};
+ghost use Rattle.queues.specs.Marks.{marks, markOf, MarkedBelow};
+
+// How many marks there are: a prime, so that numbers in equal steps have different marks.
+const MARKS: usize = 4093;
 
 // How many requests wait at node k.
 pub fn waiting(table: &[i64], k: usize) -> usize
@@ -71,6 +75,13 @@ fn queue_in_order(table: &[i64], k: usize) -> bool
     ok
 }
 
+// The mark of arrival number a.
+fn mark_of(a: u64) -> usize
+    ensures { λ r. ⌜ (r ≡ markOf a) × (r < marks) ⌝ }
+{
+    a as usize % MARKS
+}
+
 // Whether arrival number a differs from those that wait at node j.
 fn differs_at(table: &[i64], a: u64, j: usize) -> bool
     requires { ⌜ (length (now table) ≡ tableLength) × (j < nodes) × (waiting (now table) j ≤ mostWaiting) ⌝ }
@@ -100,16 +111,30 @@ fn differs_below(table: &[i64], a: u64, k: usize) -> bool
     ok
 }
 
-// Whether the arrival numbers of node k differ from those of every lower node.
-fn arrivals_differ(table: &[i64], k: usize) -> bool
-    requires { ⌜ (length (now table) ≡ tableLength) × (k < nodes) × ((j : ℕ) → j < nodes → waiting (now table) j ≤ mostWaiting) ⌝ }
-    ensures { λ r. ⌜ r ≡ arrivalsDiffer (now (table .entry)) k ⌝ }
+// The same where the marks of every node below k are set: a number whose mark is not set need not be compared.
+fn differs_marked(table: &[i64], marked: &[bool; MARKS], a: u64, k: usize) -> bool
+    requires { ⌜ (length (now table) ≡ tableLength) × (k ≤ nodes) × ((j : ℕ) → j < nodes → waiting (now table) j ≤ mostWaiting) × MarkedBelow (now table) (now marked) k ⌝ }
+    ensures { λ r. ⌜ r ≡ allBelow k (differsAt (now (table .entry)) a) ⌝ }
+{
+    if !marked[mark_of(a)] {
+        return true;
+    }
+    differs_below(table, a, k)
+}
+
+// Whether the arrival numbers of node k differ from those of every lower node. Sets the marks of node k.
+fn arrivals_differ(table: &[i64], marked: &mut [bool; MARKS], k: usize) -> bool
+    requires { ⌜ (length (now table) ≡ tableLength) × (k < nodes) × ((j : ℕ) → j < nodes → waiting (now table) j ≤ mostWaiting) × MarkedBelow (now table) (now marked) k ⌝ }
+    ensures differ { λ r. ⌜ r ≡ arrivalsDiffer (now (table .entry)) k ⌝ }
+    ensures marked { λ _. ⌜ MarkedBelow (now (table .entry)) (now (marked .exit)) (k + 1) ⌝ }
 {
     let n = waiting(table, k);
     let mut ok = true;
     let mut i: usize = 0;
     while i < n {
-        ok = ok & differs_below(table, arrival(table, k, i), k);
+        let a = arrival(table, k, i);
+        ok = ok & differs_marked(table, marked, a, k);
+        marked[mark_of(a)] = true;
         i += 1;
     }
     ok
@@ -120,11 +145,12 @@ pub fn queues_in_order(table: &[i64]) -> bool
     requires { ⌜ (length (now table) ≡ tableLength) × ((j : ℕ) → j < nodes → waiting (now table) j ≤ mostWaiting) ⌝ }
     ensures { λ r. ⌜ r ≡ allBelow nodes (waitingInOrder (now (table .entry))) ⌝ }
 {
+    let mut marked: [bool; MARKS] = [false; MARKS];
     let mut ok = true;
     let mut k: usize = 0;
     while k < Table::NODES {
         let queue = queue_in_order(table, k);
-        let differ = arrivals_differ(table, k);
+        let differ = arrivals_differ(table, &mut marked, k);
         ok = ok & queue & differ;
         k += 1;
     }

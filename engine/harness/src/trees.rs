@@ -1,6 +1,8 @@
 //! Tables of a known shape, made by any controller.
 
-use hds_engine::table::{CLASS, CLIENT, FIXED, TABLE_LEN, WEIGHTED};
+use hds_engine::table::{
+    at, waiting_count, ACCEPTED, CLASS, CLIENT, FIXED, QUEUE, QUEUE_STEP, TABLE_LEN, WEIGHTED,
+};
 use hds_engine::{Controller, Engine, NewNode};
 
 /// A freshly opened table.
@@ -60,6 +62,18 @@ pub fn fill(table: &mut [i64], each: usize, most: usize, size: i64) {
     for (tag, &client) in turns.take(most).enumerate() {
         assert!(Engine.request(table, client, tag as i64, size).is_ok());
     }
+}
+
+/// Gives each waiting request a new arrival number for its old one, and the header a new count. The new numbers must rise
+/// with the old.
+pub fn renumber(table: &mut [i64], number: fn(i64) -> i64) {
+    for client in clients(table) {
+        for index in 0..waiting_count(table, client as usize) {
+            let place = at(client as usize, QUEUE + QUEUE_STEP * index + 2);
+            table[place] = number(table[place]);
+        }
+    }
+    table[ACCEPTED] = number(table[ACCEPTED]);
 }
 
 /// The client of the highest number.

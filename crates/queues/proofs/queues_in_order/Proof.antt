@@ -1,4 +1,4 @@
--- `queues::queues_in_order` meets its contract. The invariant: every node's requests so far are in order.
+-- `queues::queues_in_order` meets its contract. The invariant: every node's requests so far are in order, and their marks are set.
 use Prim.Native.Nat.{_≤_, _-_}
 use mathlib.Core.Path.{_≡_, refl, sym, _∙_}
 use native.Mathlib.Omega.{arith}
@@ -6,25 +6,30 @@ use Rattle.numbers.specs.Tests.{every}
 use Rattle.numbers.specs.Below.{allBelow}
 use Rattle.numbers.proofs.All.{all-next}
 use Rattle.queues.specs.Waiting.{waitingInOrder}
+use Rattle.queues.specs.Marks.{MarkedBelow}
+use Rattle.queues.proofs.Marks.{none-below}
 use Rattle.records.proofs.Joined.{joined-as, same-tests, last-test, all-done}
 use Rattle.queues.proofs.queues_in_order.Statement.{statement}
 use Rattle.queues.proofs.queues_in_order.Tie as tie
 
 abbrev Inv-loop : tie.InvT-loop
-Inv-loop table ok₀ k₀ ok k = (k ≤ 64) × (ok ≡ allBelow k (waitingInOrder table))
+Inv-loop table marked₀ ok₀ k₀ marked ok k = (k ≤ 64) × (ok ≡ allBelow k (waitingInOrder table)) × MarkedBelow table marked k
 
 abbrev μ-loop : tie.MeasureT-loop
-μ-loop table ok₀ k₀ ok k = 64 - k
+μ-loop table marked₀ ok₀ k₀ marked ok k = 64 - k
 
 loop-holds : tie.Need-loop-holds Inv-loop μ-loop
 unfolding allBelow
-loop-holds c = (omega arith, refl)
+loop-holds c = (omega arith, refl, none-below _ _ refl)
 
 queue-in-order-requires : tie.Need-queue-in-order-requires Inv-loop μ-loop
 queue-in-order-requires c κs = omega (arith, c .before .before .pre .1 (c .before .loop .k) (omega arith))
 
 arrivals-differ-requires : tie.Need-arrivals-differ-requires Inv-loop μ-loop
-arrivals-differ-requires c κs = (c .before .before .before .pre .0, omega arith, c .before .before .before .pre .1)
+arrivals-differ-requires c κs =
+    let start = c .before .before .before .before in
+    let at = c .before .before .before .loop in
+    (start .pre .0, omega arith, start .pre .1, at .inv .2)
 
 add-k : tie.Need-add-k Inv-loop μ-loop
 add-k c = omega arith
@@ -36,8 +41,9 @@ loop-again : tie.Need-loop-again Inv-loop μ-loop
 unfolding every waitingInOrder
 loop-again c = (
   omega arith,
-  joined-as (same-tests (c .before .before .before .loop .inv .1) (same-tests (c .before .queue-in-order .ensures) (last-test (c .arrivals-differ .ensures))))
+  joined-as (same-tests (c .before .before .before .before .loop .inv .1) (same-tests (c .before .before .queue-in-order .ensures) (last-test (c .arrivals-differ .ensures .0))))
       ∙ sym (all-next _ _),
+  c .arrivals-differ .ensures .1,
 )
 
 returns : tie.Need-returns Inv-loop μ-loop

@@ -58,7 +58,15 @@ fn cases() -> Vec<Case> {
         }
         let mut waiting = table.clone();
         trees::fill(&mut waiting, 8, usize::MAX, 300);
-        cases.push((name("look, every queue full"), waiting, look));
+        cases.push((name("look, every queue full"), waiting.clone(), look));
+        for (numbers, number) in [
+            ("numbers scattered", scattered as fn(i64) -> i64),
+            ("numbers in steps of 4,093", stepped as fn(i64) -> i64),
+        ] {
+            let mut waiting = waiting.clone();
+            trees::renumber(&mut waiting, number);
+            cases.push((name(&format!("look, every queue full, {numbers}")), waiting, look));
+        }
     }
     cases
 }
@@ -109,6 +117,16 @@ fn full(table: &mut [i64]) {
 fn root_only(table: &mut [i64]) {
     assert!(Engine.change_rate(table, 1).is_ok());
     table[at(ROOT, BALANCE)] = 1000 * get(table, ROOT, DEPTH);
+}
+
+/// Arrival numbers up to a million apart.
+fn scattered(number: i64) -> i64 {
+    1_000_000 * number + 7919 * number * number % 1_000_000
+}
+
+/// Arrival numbers that have one mark in the archive's test that all are different.
+fn stepped(number: i64) -> i64 {
+    4093 * number
 }
 
 /// The medians of the time of a call, the archive's and the second engine's, from rounds that take turns.
