@@ -1,10 +1,11 @@
 /*
- * A cabinet's firmware in small: one editing suite with two streams and a
- * backup beside it. It prints every answer and every dispatch; firmware.out is
- * worked out from document 01 by hand.
+ * A cabinet's firmware in small: it checks plans, then runs one editing suite
+ * with two streams and a backup beside it. It prints every answer and every
+ * dispatch; firmware.out is worked out from document 01 by hand.
  */
 #include <inttypes.h>
 #include <stdio.h>
+#include <string.h>
 
 #include "hds.h"
 
@@ -54,12 +55,35 @@ static void tick(void)
     }
 }
 
+/* Checks a plan, reads it and writes it again. */
+static void plans(void)
+{
+    /* Disk 1000, root depth 40; client 5 under the root with weight 4 and depth 16. */
+    static const uint8_t good[] = {0xE8, 0x03, 0x00, 0x00, 0x28, 0x00, 0x00, 0x00, 0x01, 0x05,
+                                   0x00, 0x0D, 0x00, 0x03, 0x04, 0x00, 0x10, 0x00, 0x00, 0x00};
+    uint8_t bad[sizeof good];
+    uint8_t buffer[HDS_LONGEST_PLAN];
+
+    memcpy(bad, good, sizeof good);
+    bad[13] = 4; /* no kind */
+    printf("check good: %" PRIu32 "\n", hds_plan_check(good, sizeof good));
+    printf("check bad: %" PRIu32 "\n", hds_plan_check(bad, sizeof bad));
+    answer("read bad", hds_plan_read(table, HDS_TABLE_LENGTH, bad, sizeof bad));
+    answer("read good", hds_plan_read(table, HDS_TABLE_LENGTH, good, sizeof good));
+    look(0);
+    look(5);
+    answer("write, short buffer", hds_plan_write(table, HDS_TABLE_LENGTH, buffer, sizeof good - 1));
+    answer("write", hds_plan_write(table, HDS_TABLE_LENGTH, buffer, sizeof buffer));
+    printf("%s\n", memcmp(buffer, good, sizeof good) == 0 ? "the same bytes" : "other bytes");
+}
+
 int main(void)
 {
     static int64_t before[HDS_TABLE_LENGTH];
 
     /* The disk: 1000 grains a tick, 40 tokens. Suite 1 has half of it; its streams 2 and 3 share that by weight. */
     look(0);
+    plans();
     answer("open", hds_open(table, HDS_TABLE_LENGTH, 1000, 40));
     answer("join suite 1", join(1, 0, HDS_CLASS, HDS_FIXED, 5000, 20));
     answer("join stream 2", join(2, 1, HDS_CLIENT, HDS_WEIGHTED, 3, 10));

@@ -2,7 +2,8 @@
  * Hierarchical disk sharing: the calls on an account table, for C.
  *
  * Link with libcabinet.a, which `rt staticlib cabinet` writes to
- * target/staticlib/.
+ * target/staticlib/, and for hds_plan_check with libplan.a, which
+ * `rt staticlib plan` writes there.
  *
  * The caller lends an account table, HDS_TABLE_LENGTH signed numbers, and keeps
  * it between the calls. A slice is given as a pointer and a length in numbers.
@@ -42,7 +43,7 @@ enum hds_kind { HDS_FIXED = 0, HDS_WEIGHTED = 1 };
 
 /* The causes of refusal. */
 enum hds_refusal {
-    HDS_NOT_IN_ORDER = 1,       /* the table is not HDS_TABLE_LENGTH long, or (save for open) not in order */
+    HDS_NOT_IN_ORDER = 1,       /* the table is not HDS_TABLE_LENGTH long, or (save for open and plan reading) not in order */
     HDS_OUTSIDE_LIMITS = 2,     /* a number outside its limits; an unknown sort or kind */
     HDS_NOT_THERE = 3,          /* node or parent not there */
     HDS_IN_USE = 4,             /* joining number in use */
@@ -54,7 +55,7 @@ enum hds_refusal {
     HDS_IN_DEBT = 10,           /* leaving class has a balance below 0 */
     HDS_QUEUE_FULL = 11,        /* client has 8 waiting */
     HDS_COUNT_AT_END = 12,      /* the count of accepted requests is at its end */
-    HDS_LIST_SHORT = 13,        /* list shorter than 4 x all waiting */
+    HDS_LIST_SHORT = 13,        /* list shorter than 4 x all waiting, or buffer shorter than the plan */
     HDS_PLAN_WRONG = 14,        /* plan length, count, offset or kind wrong */
     HDS_PLAN_OUT_OF_ORDER = 15  /* plan entries out of order */
 };
@@ -92,6 +93,26 @@ int64_t hds_look(const int64_t *table, size_t table_length, int64_t node, int64_
 
 /* Whether two tables have the same tree and disk rate. Answers 1 for yes, 0 for no. */
 int64_t hds_same(const int64_t *first, size_t first_length, const int64_t *second, size_t second_length);
+
+/*
+ * Plan files. docs/PLAN.md has the format with a worked example. The length is 9 + 11 x nodes but for the root.
+ */
+
+/* Bytes of the longest plan, that of 63 nodes below the root. */
+#define HDS_LONGEST_PLAN 702
+
+/*
+ * Reads a plan: opens the table and joins the plan's entries in turn. The table may hold anything before. Answers 0.
+ */
+int64_t hds_plan_read(int64_t *table, size_t table_length, const uint8_t *plan, size_t plan_length);
+
+/*
+ * Writes the plan of a table into a buffer, and nothing beyond it. Answers the plan's length in bytes.
+ */
+int64_t hds_plan_write(const int64_t *table, size_t table_length, uint8_t *buffer, size_t buffer_length);
+
+/* Checks a plan: 0 or an hds_refusal, the one that reading it into a table of HDS_TABLE_LENGTH numbers gives. */
+uint32_t hds_plan_check(const uint8_t *plan, size_t plan_length);
 
 #ifdef __cplusplus
 }

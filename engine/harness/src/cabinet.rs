@@ -21,9 +21,11 @@ extern "C" {
     fn hds_tick(table: *mut i64, len: usize, list: *mut i64, list_len: usize) -> i64;
     fn hds_look(table: *const i64, len: usize, node: i64, seen: *mut [i64; 3]) -> i64;
     fn hds_same(first: *const i64, first_len: usize, second: *const i64, second_len: usize) -> i64;
+    fn hds_plan_read(table: *mut i64, len: usize, plan: *const u8, plan_len: usize) -> i64;
+    fn hds_plan_check(plan: *const u8, plan_len: usize) -> u32;
 }
 
-/// Our archive as a controller. The plan calls are the second engine's own, since the archive has none yet.
+/// Our archive as a controller.
 #[derive(Clone, Copy, Debug, Default)]
 pub struct Cabinet;
 
@@ -92,7 +94,8 @@ impl Controller for Cabinet {
     }
 
     fn plan_read(&mut self, plan: &[u8], table: &mut [i64]) -> Answer<i64> {
-        Engine.plan_read(plan, table)
+        let (numbers, len) = (table.as_mut_ptr(), table.len());
+        answer(unsafe { hds_plan_read(numbers, len, plan.as_ptr(), plan.len()) })
     }
 
     fn plan_write(&mut self, table: &[i64], buffer: &mut [u8]) -> Answer<i64> {
@@ -100,6 +103,6 @@ impl Controller for Cabinet {
     }
 
     fn plan_check(&mut self, plan: &[u8]) -> i64 {
-        Engine.plan_check(plan)
+        i64::from(unsafe { hds_plan_check(plan.as_ptr(), plan.len()) })
     }
 }

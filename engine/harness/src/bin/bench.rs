@@ -13,8 +13,11 @@ const COPIES: usize = 16;
 /// Calls of a round.
 const CALLS: usize = 64;
 
-/// A call to be measured on a table.
-type Case = (&'static str, Vec<i64>, fn(&mut dyn Controller, &mut [i64], &mut [i64]));
+/// A call to be measured, on a table and a list.
+type Call = Box<dyn Fn(&mut dyn Controller, &mut [i64], &mut [i64])>;
+
+/// What is measured: its name, the table before it, the call.
+type Case = (&'static str, Vec<i64>, Call);
 
 fn main() {
     let rounds = std::env::args().nth(1).and_then(|text| text.parse().ok()).unwrap_or(101);
@@ -22,7 +25,7 @@ fn main() {
     println!("| call | ours / second engine | ours / plain pass |");
     println!("|---|---|---|");
     for (name, table, call) in cases() {
-        let [ours, theirs] = measure(rounds, &table, call);
+        let [ours, theirs] = measure(rounds, &table, &call);
         println!("| {name} | {:.2} | {:.1} |", ours / theirs, ours / plain);
     }
     let quick = pass(rounds, all_at_once);
@@ -36,10 +39,10 @@ fn cases() -> Vec<Case> {
         [("three nodes", trees::small(1000)), ("63 nodes", trees::large(1_000_000))]
     {
         let name = |call: &str| -> &'static str { format!("{call}, {nodes}").leak() };
-        cases.push((name("look"), table.clone(), look));
-        cases.push((name("request"), table.clone(), request));
-        cases.push((name("join and leave"), table.clone(), join_and_leave));
-        cases.push((name("tick, idle"), table.clone(), tick));
+        cases.push((name("look"), table.clone(), Box::new(look)));
+        cases.push((name("request"), table.clone(), Box::new(request)));
+        cases.push((name("join and leave"), table.clone(), Box::new(join_and_leave)));
+        cases.push((name("tick, idle"), table.clone(), Box::new(tick)));
         for (waiting, each, most) in [("8 waiting", 8, 8), ("every queue full", 8, usize::MAX)] {
             for (what, size, balances) in [
                 ("none may go", 300, empty as fn(&mut [i64])),
@@ -53,20 +56,25 @@ fn cases() -> Vec<Case> {
                 trees::fill(&mut table, each, most, size);
                 balances(&mut table);
                 check(what, &table);
-                cases.push((name(&format!("tick, {waiting}, {what}")), table, tick));
+                cases.push((name(&format!("tick, {waiting}, {what}")), table, Box::new(tick)));
             }
         }
         let mut waiting = table.clone();
         trees::fill(&mut waiting, 8, usize::MAX, 300);
-        cases.push((name("look, every queue full"), waiting.clone(), look));
+        cases.push((name("look, every queue full"), waiting.clone(), Box::new(look)));
         for (numbers, number) in [
             ("numbers scattered", scattered as fn(i64) -> i64),
             ("numbers in steps of 4,093", stepped as fn(i64) -> i64),
         ] {
             let mut waiting = waiting.clone();
             trees::renumber(&mut waiting, number);
-            cases.push((name(&format!("look, every queue full, {numbers}")), waiting, look));
+            cases.push((
+                name(&format!("look, every queue full, {numbers}")),
+                waiting,
+                Box::new(look),
+            ));
         }
+        cases.push((name("plan read"), table.clone(), plan_read(&table)));
     }
     cases
 }
@@ -104,6 +112,14 @@ fn tick(controller: &mut dyn Controller, table: &mut [i64], list: &mut [i64]) {
     assert!(controller.tick(table, list).is_ok());
 }
 
+/// Reads the plan of a table.
+fn plan_read(table: &[i64]) -> Call {
+    let mut plan = vec![0; 9 + 11 * 63];
+    let length = Engine.plan_write(table, &mut plan).expect("a plan") as usize;
+    plan.truncate(length);
+    Box::new(move |controller, table, _| assert!(controller.plan_read(&plan, table).is_ok()))
+}
+
 fn empty(_: &mut [i64]) {}
 
 /// Every balance at its depth.
@@ -130,11 +146,7 @@ fn stepped(number: i64) -> i64 {
 }
 
 /// The medians of the time of a call, the archive's and the second engine's, from rounds that take turns.
-fn measure(
-    rounds: usize,
-    table: &[i64],
-    call: fn(&mut dyn Controller, &mut [i64], &mut [i64]),
-) -> [f64; 2] {
+fn measure(rounds: usize, table: &[i64], call: &Call) -> [f64; 2] {
     let mut times = [Vec::new(), Vec::new()];
     let mut copies = vec![table.to_vec(); COPIES];
     let mut list = vec![0; 4 * 8 * 63];
