@@ -6,6 +6,7 @@ ghost use Rattle.table.specs.Answers.{numberOf, told, toldCompared};
 ghost use Rattle.table.specs.Calls.{openAnswer, openTable, joinAnswer, joinTable, leaveAnswer, leaveTable, changeShareAnswer, changeShareTable, changeRateAnswer, changeRateTable, requestAnswer, requestTable, lookAnswer, sameAnswer};
 ghost use Rattle.table.specs.Tick.{tickAnswer, tickTable, tickList};
 ghost use Rattle.planlaws.specs.Reading.{planAnswer, planTable};
+ghost use Rattle.planlaws.specs.Writing.{writeAnswer, writeBuffer};
 ghost use Rattle.cabinet.specs.Exported.{exported, exportedBare, shown};
 use table::Answer;
 use table::Compared;
@@ -148,4 +149,13 @@ pub extern "C" fn hds_plan_read(table: &mut [i64], contents: &[u8]) -> i64
     ensures table { λ _. ⌜ now (table .exit) ≡ planTable (now (table .entry)) (now (contents .entry)) ⌝ }
 {
     answer_number(plan::read(table, contents))
+}
+
+// Writes the plan of a table into a buffer: its length.
+#[no_mangle]
+pub extern "C" fn hds_plan_write(table: &[i64], buffer: &mut [u8]) -> i64
+    ensures answer { λ r. ⌜ r ≡ exported (writeAnswer (now (table .entry)) (now (buffer .entry))) ⌝ }
+    ensures buffer { λ _. ⌜ now (buffer .exit) ≡ writeBuffer (now (table .entry)) (now (buffer .entry)) ⌝ }
+{
+    answer_number(plan::write(table, buffer))
 }

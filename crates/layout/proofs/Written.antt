@@ -1,12 +1,17 @@
 -- Bytes written one behind the other.
-use Prim.Native.Nat.{ℕ, suc, _+_, _≤_, _<_}
+use Prim.Native.Nat.{ℕ, suc, _+_, _*_, _≤_, _<_}
 use mathlib.Core.Path.{_≡_, sym, ap, _∙_}
 use mathlib.Core.List.{List, [], _∷_, _++_, append-assoc}
 use native.Mathlib.Numerals.{add-one}
 use native.Mathlib.Omega.{arith}
-use lib.ListN.{length, take, drop, set, length-append}
+use native.Mathlib.Nat.{add-zero, zero-add}
+use lib.ListN.{length, take, drop, set, length-append, take-append-drop}
 use lib.Seq.{length-take-le, take-at, drop-append-add, drop-drop, set-split}
+use Rattle.layout.specs.Bytes.{bytesBelow}
+use Rattle.layout.specs.Format.{Plan, headBytes, entryBytes, bodyBytes, bytesOf}
 use Rattle.layout.specs.Written.{written}
+use Rattle.layout.proofs.Shows.{bytes-next, length-below}
+use Rattle.layout.proofs.Codec.{length-head, length-entries}
 
 pub written-one : (b : List ℕ) (a v : ℕ) → a < length b → set b a v ≡ written b a (v ∷ [])
 unfolding written
@@ -28,3 +33,41 @@ module _ (b : List ℕ) (a : ℕ) (u : List ℕ) (room : a + length u ≤ length
           ∙ drop-append-add (take a b ++ u) (drop (a + length u) b) (length v)
           ∙ drop-drop (length v) (a + length u) b
           ∙ ap (λ (n : ℕ). drop n b) same
+
+-- Nothing written, and bytes written from the start on.
+pub written-none : (b : List ℕ) (a : ℕ) → written b a [] ≡ b
+unfolding written
+written-none b a = ap (λ (n : ℕ). take a b ++ drop n b) (add-zero a) ∙ take-append-drop a b
+
+pub written-front : (b u : List ℕ) → written b 0 u ≡ u ++ drop (length u) b
+unfolding written
+written-front b u = ap (λ (n : ℕ). u ++ drop n b) (zero-add (length u))
+
+-- Pieces of one length written one behind the other, as a loop goes.
+module _ (w : ℕ) (f : ℕ → List ℕ) (each : (i : ℕ) → length (f i) ≡ w) (b : List ℕ) (a : ℕ) where
+  pub pieces-none : written b a (bytesBelow 0 f) ≡ b
+  unfolding bytesBelow
+  pieces-none = written-none b a
+
+  pub pieces-next : (i c : ℕ) (u r : List ℕ) → a + i * w ≤ length b → c ≡ a + i * w → u ≡ written b a (bytesBelow i f) → r ≡ written u c (f i) → r ≡ written b a (bytesBelow (i + 1) f)
+  pieces-next i c u r room here so-far h =
+      let long = length-below w f each i in
+      h ∙ ap (λ (v : List ℕ). written v c (f i)) so-far ∙ written-more b a (bytesBelow i f) (omega arith) c (f i) (omega arith) ∙ ap (written b a) (sym (bytes-next i f))
+
+-- The head, the entries and the bodies written in turn are the plan written.
+pub plan-written : (p : Plan) (n : ℕ) (b h e r : List ℕ) → n ≡ p .count → 9 + 4 * n ≤ length b → h ≡ written b 0 (headBytes p) → e ≡ written h 9 (bytesBelow n (entryBytes p)) → r ≡ written e (9 + 4 * n) (bytesBelow n (bodyBytes p)) → r ≡ written b 0 (bytesOf p)
+unfolding bytesOf
+plan-written p n b h e r count room head entries bodies =
+    bodies
+    ∙ ap (λ (v : List ℕ). written v (9 + 4 * n) (below bodyBytes)) front
+    ∙ written-more b 0 (headBytes p ++ below entryBytes) (omega (arith, long)) (9 + 4 * n) (below bodyBytes) (omega (arith, long))
+    ∙ ap (λ (m : ℕ). written b 0 (headBytes p ++ bytesBelow m (entryBytes p) ++ bytesBelow m (bodyBytes p))) count
+  where
+    below : (Plan → ℕ → List ℕ) → List ℕ
+    below part = bytesBelow n (part p)
+
+    long : length (headBytes p ++ below entryBytes) ≡ 9 + 4 * n
+    long = length-append (headBytes p) (below entryBytes) ∙ omega (arith, length-head p, length-entries p n)
+
+    front : e ≡ written b 0 (headBytes p ++ below entryBytes)
+    front = entries ∙ ap (λ (v : List ℕ). written v 9 (below entryBytes)) head ∙ written-more b 0 (headBytes p) (omega (arith, length-head p)) 9 (below entryBytes) (omega (arith, length-head p))

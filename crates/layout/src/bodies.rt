@@ -59,3 +59,14 @@ pub fn sort_number(sort: Sort) -> u64
         Sort::Client(_) => 2,
     }
 }
+
+// The plan's kind of a sort.
+pub fn kind_in(sort: Sort) -> u64
+    ensures kind { λ r. ⌜ r ≡ kindIn sort ⌝ }
+    ensures small { λ r. ⌜ r ≤ 3 ⌝ }
+{
+    match sort {
+        Sort::Class(share) => weighted_in(share),
+        Sort::Client(share) => 2 + weighted_in(share),
+    }
+}

@@ -7,6 +7,7 @@ pub use layout::Share;
 pub use layout::Sort;
 pub use reading::check;
 pub use reading::read;
+pub use writing::write;
 
 // For the cabinet's firmware in C: the refusal number of plan bytes, or 0.
 #[no_mangle]

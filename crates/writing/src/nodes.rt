@@ -1,11 +1,16 @@
-// The nodes of a table in the order of its plan: by level, then by number.
+// The nodes of a table in the order of its plan: by level, then by number; and what the plan says of a node.
 ghost use mathlib.Core.Path.{_≡_};
 ghost use mathlib.Core.Bool.{cond};
-ghost use Prim.Native.Nat.{ℕ, _*_, _≤_, _<_};
+ghost use Prim.Native.Nat.{_≤_, _<_};
 ghost use lib.ListN.{length, take};
-ghost use Rattle.table.specs.Limits.{tableLength};
+ghost use Rattle.table.specs.Limits.{tableLength, nodes};
 ghost use Rattle.table.specs.Tree.{treeOf};
-ghost use Rattle.planlaws.specs.Writing.{stands, order};
+ghost use Rattle.layout.specs.Nodes.{shareIn, weightedIn, heldBy, kindIn, entryBy};
+ghost use Rattle.planlaws.specs.Writing.{stands, order, kindOf, entryOf};
+ghost use Rattle.writing.specs.Listed.{Standing};
+use layout::Node;
+use layout::Share;
+use layout::Sort;
 use table::Table;
 
 // Nodes in order, and how many.
@@ -20,7 +25,7 @@ fn stands(table: &[i64], m: usize) -> bool
     ensures { λ r. ⌜ r ≡ stands (treeOf (now (table .entry))) m ⌝ }
 {
     let k = m % Table::NODES;
-    let there = rating::tree::there(table, k);
+    let there = Table::natural(table, k, Table::SORT) != Table::UNUSED;
     let below = k != 0;
     let level = Table::natural(table, k, Table::LEVEL) == (m / Table::NODES) as u64;
     there & below & level
@@ -48,4 +53,49 @@ pub fn list_nodes(table: &[i64]) -> Listing
         m += 1;
     }
     Listing { nodes, count }
+}
+
+// The share of node k, fixed or weighted.
+fn share_at(table: &[i64], k: usize) -> Share
+    requires { ⌜ Standing (now table) k ⌝ }
+    ensures share { λ r. ⌜ shareIn r ≡ treeOf (now (table .entry)) .share k ⌝ }
+    ensures kind { λ r. ⌜ weightedIn r ≡ treeOf (now (table .entry)) .kind k ⌝ }
+{
+    let share = Table::natural(table, k, Table::SHARE);
+    if Table::natural(table, k, Table::KIND) == Table::FIXED {
+        Share::Fixed(share)
+    } else {
+        Share::Weighted(share)
+    }
+}
+
+// The sort of node k, class or client, with its share.
+fn sort_at(table: &[i64], k: usize) -> Sort
+    requires { ⌜ Standing (now table) k ⌝ }
+    ensures kind { λ r. ⌜ kindIn r ≡ kindOf (treeOf (now (table .entry)) .sort k) (treeOf (now (table .entry)) .kind k) ⌝ }
+    ensures share { λ r. ⌜ shareIn (heldBy r) ≡ treeOf (now (table .entry)) .share k ⌝ }
+{
+    let share = share_at(table, k);
+    if Table::natural(table, k, Table::SORT) == Table::CLASS {
+        Sort::Class(share)
+    } else {
+        Sort::Client(share)
+    }
+}
+
+// What the plan says of node k.
+pub fn node_of(table: &[i64], k: usize) -> Node
+    requires { ⌜ Standing (now table) k ⌝ }
+    ensures entry { λ r. ⌜ entryBy r ≡ entryOf (treeOf (now (table .entry))) k ⌝ }
+    ensures small { λ r. ⌜ (r .number < nodes) × (r .parent < nodes) ⌝ }
+{
+    let parent = Table::natural(table, k, Table::PARENT);
+    let sort = sort_at(table, k);
+    let depth = Table::natural(table, k, Table::DEPTH);
+    Node {
+        number: k as u64,
+        parent,
+        sort,
+        depth,
+    }
 }

@@ -1,7 +1,7 @@
 -- `writing::nodes::stands` meets its contract: the tests together.
 use mathlib.Core.Bool.{not, _&&_}
 use mathlib.Core.List.{[], _∷_}
-use Prim.Native.Nat.{ℕ, _/_, _%_}
+use Prim.Native.Nat.{_/_, _%_}
 use lib.Dec.{eqb}
 use Rattle.numbers.proofs.Every.{every-two, every-next}
 use Rattle.table.specs.Tree.{treeOf, there}
@@ -10,14 +10,14 @@ use borrow.Author.Needs.{needs}
 use Rattle.writing.proofs.nodes.stands.Statement.{statement}
 use Rattle.writing.proofs.nodes.stands.Tie as tie
 
-there-requires : tie.Need-there-requires
-there-requires c κs = search needs
-
 natural-requires : tie.Need-natural-requires
 natural-requires c κs = search needs
 
+natural-requires-2 : tie.Need-natural-requires-2
+natural-requires-2 c κs = search needs
+
 returns : tie.Need-returns
-unfolding stands treeOf
+unfolding stands there treeOf
 returns c =
     let a = c .before .before .args in
     let k = a .m % 64 in
@@ -26,4 +26,4 @@ returns c =
     cc (every-next (there tree k) (not (eqb k 0)) (up ∷ []), every-two (there tree k && not (eqb k 0)) up)
 
 pub stands-spec : {M : Type 1} → statement M
-stands-spec = tie.close (tie.spec there-requires natural-requires returns)
+stands-spec = tie.close (tie.spec natural-requires natural-requires-2 returns)

@@ -1,0 +1,25 @@
+-- `writing::nodes::share_at` meets its contract: a kind in its limits is fixed or weighted.
+use native.Mathlib.Omega.{arith}
+use Rattle.numbers.proofs.Parts.{zarith}
+use Rattle.table.specs.Tree.{treeOf}
+use Rattle.layout.specs.Nodes.{shareIn, weightedIn}
+use Rattle.writing.proofs.Members.{standing-long, standing-limits}
+use Rattle.writing.proofs.nodes.share_at.Statement.{statement}
+use Rattle.writing.proofs.nodes.share_at.Tie as tie
+
+natural-requires : tie.Need-natural-requires
+natural-requires c κs = (standing-long _ _ (c .pre), c .pre .small, omega arith)
+
+natural-requires-2 : tie.Need-natural-requires-2
+natural-requires-2 c κs = let s = c .before .pre in (standing-long _ _ s, s .small, omega arith)
+
+returns : tie.Need-returns
+unfolding shareIn weightedIn treeOf
+returns c = (c .before .before .natural .ensures, omega arith)
+
+returns-2 : tie.Need-returns-2
+unfolding shareIn weightedIn treeOf
+returns-2 c = let s = c .before .before .before .pre in (c .before .before .natural .ensures, omega (arith, zarith, standing-limits _ _ s .kind))
+
+pub share-at-spec : {M : Type 1} → statement M
+share-at-spec = tie.close (tie.spec natural-requires natural-requires-2 returns returns-2)

@@ -1,0 +1,57 @@
+-- `writing::parts::put_body` meets its contract: the node listed stands for the body.
+use mathlib.Core.Path.{ap, _∙_}
+use native.Mathlib.Omega.{arith}
+use Rattle.layout.specs.Nodes.{shareIn}
+use Rattle.writing.proofs.Members.{listed-few, listed-standing, body-written}
+use borrow.Author.Needs.{needs}
+use Rattle.writing.proofs.parts.put_body.Statement.{statement}
+use Rattle.writing.proofs.parts.put_body.Tie as tie
+
+mul-node-of : tie.Need-mul-node-of
+mul-node-of c = search needs
+
+element-copy-out-node-of : tie.Need-element-copy-out-node-of
+element-copy-out-node-of c = omega (arith, listed-few _ _ _ (c .before .pre .0))
+
+node-of-requires : tie.Need-node-of-requires
+node-of-requires c κs = let h = c .before .before .pre in listed-standing _ _ _ (h .0) _ (h .1)
+
+kind-in-requires : tie.Need-kind-in-requires
+kind-in-requires c κs = search needs
+
+held-by-requires : tie.Need-held-by-requires
+held-by-requires c κs = search needs
+
+share-in-requires : tie.Need-share-in-requires
+share-in-requires c κs = search needs
+
+body-at-requires : tie.Need-body-at-requires
+body-at-requires c κs = let few = listed-few _ _ _ (c .before .before .before .before .before .before .before .pre .0) in (omega arith, omega arith)
+
+put-body-requires : tie.Need-put-body-requires
+put-body-requires c κs = search needs
+
+same-length : tie.Need-same-length
+same-length c = search needs
+
+returns : tie.Need-returns
+returns c =
+    let placed = c .before .before .before in
+    let made = placed .before .before in
+    let start = made .before .before .before .before .before .before in
+    body-written _ _ _ (start .pre .0) _ _ _ _ _ _ _ (start .pre .1) (made .before .before .before .node-of .ensures .0) (made .before .before .kind-in .ensures .0) (made .share-in .ensures ∙ ap shareIn (made .before .held-by .ensures)) (placed .body-at .ensures) (c .before .before .put-body .ensures)
+
+pub put-body-spec : {M : Type 1} → statement M
+put-body-spec =
+    tie.close
+    (tie.spec
+    mul-node-of
+    element-copy-out-node-of
+    node-of-requires
+    kind-in-requires
+    held-by-requires
+    share-in-requires
+    body-at-requires
+    put-body-requires
+    same-length
+    returns)

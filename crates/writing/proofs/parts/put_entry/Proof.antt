@@ -1,0 +1,47 @@
+-- `writing::parts::put_entry` meets its contract: the node listed stands for the entry.
+use native.Mathlib.Omega.{arith}
+use Rattle.writing.proofs.Members.{listed-few, listed-standing, entry-written}
+use borrow.Author.Needs.{needs}
+use Rattle.writing.proofs.parts.put_entry.Statement.{statement}
+use Rattle.writing.proofs.parts.put_entry.Tie as tie
+
+mul-node-of : tie.Need-mul-node-of
+mul-node-of c = search needs
+
+element-copy-out-node-of : tie.Need-element-copy-out-node-of
+element-copy-out-node-of c = omega (arith, listed-few _ _ _ (c .before .pre .0))
+
+node-of-requires : tie.Need-node-of-requires
+node-of-requires c κs = let h = c .before .before .pre in listed-standing _ _ _ (h .0) _ (h .1)
+
+body-at-requires : tie.Need-body-at-requires
+body-at-requires c κs = let few = listed-few _ _ _ (c .before .before .before .pre .0) in (omega arith, omega arith)
+
+entry-at-requires : tie.Need-entry-at-requires
+entry-at-requires c κs = omega (arith, listed-few _ _ _ (c .before .before .before .before .before .pre .0))
+
+put-entry-requires : tie.Need-put-entry-requires
+put-entry-requires c κs = search needs
+
+same-length : tie.Need-same-length
+same-length c = search needs
+
+returns : tie.Need-returns
+returns c =
+    let placed = c .before .before .before in
+    let made = placed .before .before in
+    let start = made .before .before .before .before in
+    entry-written _ _ _ (start .pre .0) _ _ _ _ _ _ (start .pre .1) (made .before .node-of .ensures .0) (omega (arith, made .body-at .ensures)) (placed .entry-at .ensures) (c .before .before .put-entry .ensures)
+
+pub put-entry-spec : {M : Type 1} → statement M
+put-entry-spec =
+    tie.close
+    (tie.spec
+    mul-node-of
+    element-copy-out-node-of
+    node-of-requires
+    body-at-requires
+    entry-at-requires
+    put-entry-requires
+    same-length
+    returns)
