@@ -1,6 +1,6 @@
 //! The boundary to the archive: the exported functions of `include/hds.h`, and the controller over them.
 
-use hds_engine::{Answer, Controller, Engine, NewNode};
+use hds_engine::{Answer, Controller, NewNode};
 
 extern "C" {
     fn hds_open(table: *mut i64, len: usize, rate: i64, depth: i64) -> i64;
@@ -22,6 +22,7 @@ extern "C" {
     fn hds_look(table: *const i64, len: usize, node: i64, seen: *mut [i64; 3]) -> i64;
     fn hds_same(first: *const i64, first_len: usize, second: *const i64, second_len: usize) -> i64;
     fn hds_plan_read(table: *mut i64, len: usize, plan: *const u8, plan_len: usize) -> i64;
+    fn hds_plan_write(table: *const i64, len: usize, buffer: *mut u8, buffer_len: usize) -> i64;
     fn hds_plan_check(plan: *const u8, plan_len: usize) -> u32;
 }
 
@@ -99,7 +100,8 @@ impl Controller for Cabinet {
     }
 
     fn plan_write(&mut self, table: &[i64], buffer: &mut [u8]) -> Answer<i64> {
-        Engine.plan_write(table, buffer)
+        let (numbers, len) = (table.as_ptr(), table.len());
+        answer(unsafe { hds_plan_write(numbers, len, buffer.as_mut_ptr(), buffer.len()) })
     }
 
     fn plan_check(&mut self, plan: &[u8]) -> i64 {

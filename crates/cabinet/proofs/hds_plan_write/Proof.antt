@@ -18,7 +18,7 @@ same-length c = search needs
 
 returns : tie.Need-returns
 returns c =
-    (toZ-ofZ w64 _ (sfits-of (c .answer-number .ok)) ∙ c .answer-number .ensures ∙ ap exported (c .before .before .write .ensures .0), c .before .before .write .ensures .1)
+    (toZ-ofZ w64 _ (sfits-of (c .answer-number .ok)) ∙ c .answer-number .ensures ∙ ap exported (c .before .before .before .write .ensures .0), c .before .before .before .write .ensures .1)
 
 pub hds-plan-write-spec : {M : Type 1} → statement M
 hds-plan-write-spec = tie.close (tie.spec write-requires answer-number-requires same-length returns)
