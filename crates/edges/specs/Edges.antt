@@ -1,9 +1,9 @@
 -- The marked edges of document 01 as scenarios, each under the words of its edge. What the words leave open, as the depth
 -- of a node or the tag of a request, is chosen so that nothing else is met.
 use mathlib.Core.List.{List, [], _∷_}
-use lib.IntN.{ℤ, pos, negℤ}
+use lib.IntN.{pos, negℤ}
 use Rattle.table.specs.Limits.{root, class, client, fixed, weighted}
-use Rattle.table.specs.Refusals.{Outcome, refused}
+use Rattle.table.specs.Refusals.{refused}
 use Rattle.edges.specs.Scenario.{Scenario, disk, join, request, look, tick, dispatch, _gives_, _lists_, _refuses_, setBalance, number, seen}
 
 -- "Disk 1000; class 1 fixed 5000: rate 500. Under it fixed 4000: 200; weights 4 and 6: 120 and 180."

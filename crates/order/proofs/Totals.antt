@@ -1,5 +1,5 @@
 -- The sums under a class are small where every record is in order.
-use Prim.Native.Nat.{ℕ, _*_, _≤_, _<_, _^_}
+use Prim.Native.Nat.{ℕ, _≤_, _^_}
 use mathlib.Core.Path.{_≡_}
 use mathlib.Core.Bool.{true}
 use mathlib.Core.List.{List}
@@ -11,7 +11,7 @@ use Rattle.table.specs.Places.{place, balance, depthGrains}
 use Rattle.table.specs.Tree.{treeOf, childOf, countIf, sumUnder}
 use Rattle.table.proofs.Facts.{limits-of}
 use Rattle.rating.specs.Sums.{term, Summable}
-use Rattle.rating.proofs.Summable.{SmallBalance, balances-summable}
+use Rattle.rating.proofs.Summable.{balances-summable}
 use Rattle.rating.proofs.Under.{child-small}
 use Rattle.records.specs.Record.{recordsInOrder}
 use Rattle.records.proofs.Bounds.{bounds}

@@ -1,13 +1,12 @@
 -- The stages together are the definition: a table in order passes each, and a table that passes all is in order. Only the
 -- floor of the stage of records is no clause of the definition; it follows from the others (laws, Floors).
-use Prim.Native.Nat.{ℕ, _+_, _*_, _≤_, _<_}
-use mathlib.Core.Path.{_≡_, refl, sym, ap, _∙_}
+use Prim.Native.Nat.{ℕ, _+_, _≤_, _<_}
+use mathlib.Core.Path.{_≡_, sym, ap, _∙_}
 use mathlib.Core.Bool.{Bool, true, false, not}
 use mathlib.Core.List.{List}
 use native.Mathlib.Omega.{arith}
-use borrow.Author.Tests.{leb-true, le-leb, eq-eqb, eqb-false, not-true, not-false}
+use borrow.Author.Tests.{leb-true, le-leb, eq-eqb, eqb-false, not-true}
 use lib.ListN.{length}
-use lib.Dec.{eqb}
 use lib.IntN.{ℤ, pos}
 use Rattle.numbers.specs.Whole.{plus, minus}
 use Rattle.numbers.specs.Below.{allBelow}

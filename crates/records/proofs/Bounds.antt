@@ -1,12 +1,12 @@
 -- What the limits of a node's places say of the numbers that are read there.
 use Prim.Native.Nat.{ℕ, _≤_, _<_}
-use mathlib.Core.Path.{_≡_, sym, _∙_}
+use mathlib.Core.Path.{_≡_}
 use mathlib.Core.Bool.{true}
 use mathlib.Core.List.{List}
 use native.Mathlib.Omega.{arith}
 use lib.IntN.{ℤ}
 use Rattle.numbers.proofs.Parts.{zarith}
-use Rattle.table.specs.Places.{place, waiting}
+use Rattle.table.specs.Places.{waiting}
 use Rattle.table.specs.Tree.{treeOf}
 use Rattle.table.specs.Order.{limitsKept}
 use Rattle.table.proofs.Facts.{limits-of}

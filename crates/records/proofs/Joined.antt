@@ -1,7 +1,7 @@
 -- Tests as the code makes them: a test made only where another holds is the code's `|`.
 use mathlib.Core.Path.{_≡_, refl, ap, _∙_, sym}
 use Prim.Native.Nat.{ℕ, _+_}
-use mathlib.Core.Bool.{Bool, true, false, not, _&&_, _||_, and-true}
+use mathlib.Core.Bool.{Bool, true, false, not, _&&_, _||_}
 use mathlib.Core.List.{List, [], _∷_}
 use Rattle.numbers.specs.Tests.{every}
 use Rattle.table.specs.Tree.{testIf}

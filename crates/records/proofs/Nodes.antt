@@ -1,12 +1,11 @@
 -- What the stage of the records tells of a node, and of an unused record.
 use Prim.Native.Nat.{ℕ, _*_, _≤_, _<_}
-use mathlib.Core.Path.{_≡_, sym, ap, _∙_}
-use mathlib.Core.Bool.{Bool, true, false, _||_}
+use mathlib.Core.Path.{_≡_, sym, _∙_}
+use mathlib.Core.Bool.{true, false}
 use mathlib.Core.Logic.{⊎-elim}
 use mathlib.Core.List.{List}
-use native.Mathlib.Omega.{arith}
 use borrow.Author.Tests.{leb-true, le-leb, eqb-true, eq-eqb}
-use lib.Dec.{eqb, leb}
+use lib.Dec.{eqb}
 use lib.IntN.{ℤ}
 use Rattle.numbers.specs.Whole.{plus, minus}
 use Rattle.numbers.specs.Below.{allBelow}
@@ -14,7 +13,7 @@ use Rattle.numbers.proofs.Tests.{by-test, true-false, cond-true, cond-false, or
 use Rattle.numbers.proofs.Every.{head-holds, rest-hold, holds-with, none-left}
 use Rattle.numbers.proofs.All.{all-at, all-intro}
 use Rattle.table.specs.Places.{place, balance, waiting, depthGrains}
-use Rattle.table.specs.Tree.{treeOf, there, isClass, testIf}
+use Rattle.table.specs.Tree.{treeOf, there, isClass}
 use Rattle.table.specs.Order.{isZero, limitsKept, spareInOrder, parentInOrder}
 use Rattle.table.proofs.Facts.{test-at, at-test}
 use Rattle.records.specs.Record.{classPlaced, balanceWithin, nodeInOrder, recordInOrder, recordsInOrder}

@@ -1,14 +1,11 @@
 -- `reading::build` meets its contract: stage by stage, the first refusal counts.
-use Prim.Native.Nat.{ℕ, _+_, _*_, _≤_, _<_}
 use mathlib.Core.Path.{_≡_, sym, _∙_}
-use mathlib.Core.Bool.{true, false}
+use mathlib.Core.Bool.{true}
 use native.Mathlib.Omega.{arith}
 use borrow.Author.Tests.{not-true, not-false}
-use lib.ListN.{length}
 use lib.IntN.{pos}
-use Rattle.table.specs.Tree.{treeOf}
 use Rattle.table.specs.Calls.{openRefusal}
-use Rattle.layout.specs.Format.{countIn, planIn, formed}
+use Rattle.layout.specs.Format.{planIn, formed}
 use Rattle.planlaws.specs.Reading.{openedFor, entriesRefusal, rising}
 use Rattle.layout.proofs.Codec.{formed-facts}
 use Rattle.planlaws.proofs.Accepted.{accepted-plan}

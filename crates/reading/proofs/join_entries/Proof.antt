@@ -1,5 +1,5 @@
 -- `reading::join_entries` meets its contract. The invariant: the entries so far are joined, and none was refused.
-use Prim.Native.Nat.{ℕ, _+_, _≤_, _-_}
+use Prim.Native.Nat.{_+_, _≤_, _-_}
 use mathlib.Core.Path.{_≡_, refl, sym, _∙_}
 use native.Mathlib.Omega.{arith}
 use lib.ListN.{length}

@@ -1,5 +1,4 @@
 -- `reading::join_entry` meets its contract.
-use mathlib.Core.Path.{_≡_}
 use native.Mathlib.Omega.{arith}
 use Rattle.layout.specs.Format.{planIn}
 use borrow.Author.Needs.{needs}

@@ -1,5 +1,5 @@
 -- `records::record_in_order` meets its contract: a record is unused or a node's.
-use mathlib.Core.Path.{_≡_, sym, _∙_}
+use mathlib.Core.Path.{sym, _∙_}
 use borrow.Author.Tests.{not-true, not-false}
 use Rattle.numbers.proofs.Tests.{cond-true, cond-false}
 use Rattle.table.specs.Tree.{treeOf, there}
