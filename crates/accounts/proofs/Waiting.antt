@@ -1,5 +1,5 @@
 -- At most 512 requests wait in a table in order; an accepted tick has a list with room for all of them.
-use Prim.Native.Nat.{ℕ, _*_, _≤_}
+use Prim.Native.Nat.{_*_, _≤_}
 use mathlib.Core.Path.{_≡_}
 use mathlib.Core.Bool.{true}
 use mathlib.Core.List.{List}

@@ -1,7 +1,6 @@
 pub mod Limits
 pub mod Way
 pub mod Charged
-pub mod Turns
 pub mod Next
 pub mod Sweeps
 pub mod Listed

@@ -19,6 +19,7 @@ use Rattle.table.specs.Refusals.{kept}
 use Rattle.table.proofs.Facts.{Root, Class, from-facts}
 use Rattle.table.proofs.Refusals.{kept-new, kept-old}
 use Rattle.laws.proofs.Renewed.{renewed-length, renewed-header, renewed-place, renewed-unused, renewed-tree, renewed-rate, renewed-rates, rate-at-root}
+pub use Rattle.table.proofs.Facts.{root-there, root-level}
 use Rattle.keeps.proofs.Nodes.{Ready, ready-in-order, SameRecord, Sums, node-kept, differ-kept, most-waiting, root-kept}
 
 -- Tables with the same tree and the same balances have the same sums of balances.
@@ -55,15 +56,6 @@ ready-but-rates t u f long headers same trees root =
           (λ k hk i hi. ap plus (same k .places (16 + 3 * i + 2) (omega (arith, most-waiting t k (f .node k hk))) (omega arith)))
           f;
     }
-
--- The root is there, at level 0.
-pub root-there : (t : List ℤ) → Root t → there (treeOf t) 0 ≡ true
-unfolding there treeOf plus
-root-there t f = rw (f .sort)
-
-pub root-level : (t : List ℤ) → Root t → treeOf t .level 0 ≡ 0
-unfolding treeOf plus
-root-level t f = rw (f .level)
 
 -- The root keeps the disk's rate.
 renewed-root : (t : List ℤ) → length t ≡ 2568 → Root t → Root (renewed t)

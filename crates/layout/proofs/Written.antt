@@ -34,6 +34,10 @@ module _ (b : List ℕ) (a : ℕ) (u : List ℕ) (room : a + length u ≤ length
           ∙ drop-drop (length v) (a + length u) b
           ∙ ap (λ (n : ℕ). drop n b) same
 
+-- Bytes written behind those written before.
+pub written-after : (b : List ℕ) (a c : ℕ) (u v : List ℕ) {t s : List ℕ} → a + length u ≤ length b → c ≡ a + length u → t ≡ written s c v → s ≡ written b a u → t ≡ written b a (u ++ v)
+written-after b a c u v room at more before = more ∙ ap (λ (x : List ℕ). written x c v) before ∙ written-more b a u room c v at
+
 -- Nothing written, and bytes written from the start on.
 pub written-none : (b : List ℕ) (a : ℕ) → written b a [] ≡ b
 unfolding written

@@ -3,7 +3,7 @@ use Prim.Native.Nat.{ℕ, zero, suc, _+_, _<_}
 use native.Mathlib.Numerals.{add-one}
 use native.Mathlib.Decide.{ℕ-discrete}
 use native.Mathlib.Omega.{arith}
-use mathlib.Core.Path.{_≡_, refl, sym, _∙_}
+use mathlib.Core.Path.{_≡_, refl, sym, ap, _∙_}
 use mathlib.Core.Bool.{Bool, true, _&&_}
 use Rattle.numbers.specs.Below.{allBelow}
 use Rattle.numbers.proofs.Tests.{same-truth, and-true, and-left, and-right}
@@ -41,3 +41,10 @@ all-cong n p q h =
     same-truth (allBelow n p) (allBelow n q)
     (λ t. all-intro n q (λ k l. sym (h k l) ∙ all-at n p t k l))
     (λ t. all-intro n p (λ k l. h k l ∙ all-at n q t k l))
+
+-- One turn of a loop that joins tests, and its end.
+pub all-grows : (n : ℕ) (p : ℕ → Bool) (ok b : Bool) → ok ≡ allBelow n p → b ≡ p n → (ok && b) ≡ allBelow (n + 1) p
+all-grows n p ok b e f = ap (λ (x : Bool). x && b) e ∙ ap (λ (x : Bool). allBelow n p && x) f ∙ sym (all-next n p)
+
+pub all-done : (m n : ℕ) (p : ℕ → Bool) (ok : Bool) → ok ≡ allBelow m p → m ≡ n → ok ≡ allBelow n p
+all-done m n p ok e end = e ∙ ap (λ (i : ℕ). allBelow i p) end

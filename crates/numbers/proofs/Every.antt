@@ -49,3 +49,13 @@ pub joined-every : (a : Bool) (bs : List Bool) → joined a bs ≡ every (a ∷ 
 unfolding every
 joined-every a [] = sym (and-with-true a)
 joined-every a (b ∷ bs) = joined-every (a && b) bs ∙ sym (every-next a b bs)
+
+-- Tests that the code made one by one, each known by its own equation.
+pub same-tests : {a b : Bool} {r s : List Bool} → a ≡ b → r ≡ s → (a ∷ r) ≡ (b ∷ s)
+same-tests {b = b} {r = r} e es = ap (λ (x : Bool). x ∷ r) e ∙ ap (λ (xs : List Bool). b ∷ xs) es
+
+pub last-test : {a b : Bool} → a ≡ b → (a ∷ []) ≡ (b ∷ [])
+last-test e = ap (λ (x : Bool). x ∷ []) e
+
+pub joined-as : {a : Bool} {r s : List Bool} → (a ∷ r) ≡ s → joined a r ≡ every s
+joined-as {a = a} {r = r} e = joined-every a r ∙ ap every e

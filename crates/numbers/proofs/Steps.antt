@@ -2,7 +2,7 @@
 use Prim.Native.Nat.{ℕ, zero, suc, _+_, _<_}
 use native.Mathlib.Numerals.{add-one}
 use native.Mathlib.Omega.{arith}
-use mathlib.Core.Path.{_≡_, refl, ap, _∙_}
+use mathlib.Core.Path.{_≡_, refl, sym, ap, _∙_}
 use Rattle.numbers.specs.Below.{forBelow}
 
 pub for-suc : {A : Type 0} (n : ℕ) (f : ℕ → A → A) (a : A) → forBelow (suc n) f a ≡ f n (forBelow n f a)
@@ -11,6 +11,10 @@ for-suc n f a = refl
 
 pub for-next : {A : Type 0} (n : ℕ) (f : ℕ → A → A) (a : A) → forBelow (n + 1) f a ≡ f n (forBelow n f a)
 for-next n f a = rw add-one (for-suc n f a)
+
+-- After n turns b was reached, and one more turn makes c of it.
+pub turned : {A : Type 0} (n : ℕ) (f : ℕ → A → A) (a b c : A) → b ≡ forBelow n f a → c ≡ f n b → c ≡ forBelow (n + 1) f a
+turned n f a b c h e = e ∙ ap (f n) h ∙ sym (for-next n f a)
 
 pub for-cong : {A : Type 0} (n : ℕ) (f g : ℕ → A → A) → ((k : ℕ) (a : A) → k < n → f k a ≡ g k a) → (a : A) → forBelow n f a ≡ forBelow n g a
 unfolding forBelow

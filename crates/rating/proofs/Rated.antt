@@ -1,7 +1,7 @@
 -- What a table that can be rated satisfies: its sums can be reckoned, its rates are at most the disk's. A table in order
 -- can be rated.
 use Prim.Native.Nat.{ℕ, zero, suc, _*_, _≤_, _<_}
-use mathlib.Core.Path.{_≡_, refl, ap, _∙_}
+use mathlib.Core.Path.{_≡_, refl, ap, _∙_, subst}
 use mathlib.Core.Bool.{true, false}
 use mathlib.Core.List.{List}
 use native.Mathlib.Omega.{arith}
@@ -14,11 +14,12 @@ use Rattle.numbers.proofs.Tests.{by-test}
 use Rattle.numbers.proofs.Parts.{plus-pos, zarith}
 use Rattle.table.specs.Places.{rate}
 use Rattle.table.specs.Tree.{Tree, treeOf, there, isClass, isFixed, childOf}
-use Rattle.table.specs.Rates.{fixedShare, weight, fixedSum, weightSum, rateIn}
-use Rattle.table.proofs.Facts.{Limits, Root, Child, InOrder}
+use Rattle.table.specs.Rates.{fixedShare, weight, fixedSum, weightSum, rateIn, renewed}
+use Rattle.table.specs.Order.{inOrder}
+use Rattle.table.proofs.Facts.{Limits, Root, Child, InOrder, facts, root-there, root-level}
 use Rattle.laws.proofs.Children.{child-of}
 use Rattle.laws.proofs.Children.{class-there}
-use Rattle.laws.proofs.Renewed.{rate-at-root}
+use Rattle.laws.proofs.Renewed.{rate-at-root, renewed-tree, renewed-disk}
 use Rattle.laws.proofs.Rounding.{rate-of-child, child-rate-le, weight-le-sum}
 use Rattle.rating.specs.Sums.{Summable}
 use Rattle.rating.specs.Rated.{Placed, Rated}
@@ -107,6 +108,17 @@ rated-of t long root limits child shares =
 pub rated : (t : List ℤ) → InOrder t → Rated t
 rated t f = rated-of t (f .long) (f .root) (f .limits) (f .child) (λ c hc e. f .class c hc e .shares)
 
--- So can every table with the same tree whose disk's rate is in its limit.
-pub rated-as : (t u : List ℤ) → Rated t → length u ≡ 2568 → treeOf u ≡ treeOf t → rate u 0 ≤ 1000000000 → Rated u
-rated-as t u f long tree disk = record { long = long; top = rw tree (f .top); disk = disk; node = rw tree (f .node) }
+-- So can a table that is in order once its rates are renewed: what rates are reckoned from is the same before and after.
+pub rated-before : (u : List ℤ) → length u ≡ 2568 → inOrder (renewed u) ≡ true → Rated u
+rated-before u long h =
+    let f = facts (renewed u) h in
+    let r = rated (renewed u) f in
+    let same = renewed-tree u in
+    let root : there (treeOf u) 0 ≡ true = rw same at (root-there (renewed u) (f .root)) in
+    let top : treeOf u .level 0 ≡ 0 = rw same at (root-level (renewed u) (f .root)) in
+    record {
+      long = long;
+      top = top;
+      disk = omega (arith, r .disk, renewed-disk u long root top);
+      node = subst (λ (tree : Tree). (k : ℕ) → k < 64 → there tree k ≡ true → (k ≡ 0 → ⊥) → Placed tree k) same (r .node);
+    }

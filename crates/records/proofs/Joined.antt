@@ -1,14 +1,14 @@
 -- Tests as the code makes them: a test made only where another holds is the code's `|`.
-use mathlib.Core.Path.{_≡_, refl, ap, _∙_, sym}
-use Prim.Native.Nat.{ℕ, _+_}
+use mathlib.Core.Path.{_≡_, refl, ap}
+use Prim.Native.Nat.{ℕ}
 use mathlib.Core.Bool.{Bool, true, false, not, _&&_, _||_}
-use mathlib.Core.List.{List, [], _∷_}
+use mathlib.Core.List.{List, _∷_}
 use Rattle.numbers.specs.Tests.{every}
 use Rattle.table.specs.Tree.{testIf}
-use Rattle.numbers.specs.Below.{allBelow}
-use Rattle.numbers.proofs.All.{all-next}
 use Rattle.numbers.proofs.Tests.{true-false}
-use Rattle.numbers.proofs.Every.{joined, joined-every}
+-- Of any tests.
+pub use Rattle.numbers.proofs.All.{all-grows, all-done}
+pub use Rattle.numbers.proofs.Every.{joined-as, same-tests, last-test}
 
 pub test-or : (b : Bool) (p : ℕ → Bool) (k : ℕ) → testIf b p k ≡ (not b || p k)
 unfolding testIf
@@ -34,20 +34,3 @@ pub test-past : (b : Bool) (p : ℕ → Bool) (k : ℕ) → b ≡ false → test
 unfolding testIf
 test-past true p k h = absurd (true-false refl h)
 test-past false p k h = refl
-
--- One turn of a loop that joins tests, and its end.
-pub all-grows : (n : ℕ) (p : ℕ → Bool) (ok b : Bool) → ok ≡ allBelow n p → b ≡ p n → (ok && b) ≡ allBelow (n + 1) p
-all-grows n p ok b e f = ap (λ (x : Bool). x && b) e ∙ ap (λ (x : Bool). allBelow n p && x) f ∙ sym (all-next n p)
-
-pub all-done : (m n : ℕ) (p : ℕ → Bool) (ok : Bool) → ok ≡ allBelow m p → m ≡ n → ok ≡ allBelow n p
-all-done m n p ok e end = e ∙ ap (λ (i : ℕ). allBelow i p) end
-
--- Tests that the code made one by one, each known by its own equation.
-pub same-tests : {a b : Bool} {r s : List Bool} → a ≡ b → r ≡ s → (a ∷ r) ≡ (b ∷ s)
-same-tests {b = b} {r = r} e es = ap (λ (x : Bool). x ∷ r) e ∙ ap (λ (xs : List Bool). b ∷ xs) es
-
-pub last-test : {a b : Bool} → a ≡ b → (a ∷ []) ≡ (b ∷ [])
-last-test e = ap (λ (x : Bool). x ∷ []) e
-
-pub joined-as : {a : Bool} {r s : List Bool} → (a ∷ r) ≡ s → joined a r ≡ every s
-joined-as {a = a} {r = r} e = joined-every a r ∙ ap every e

@@ -45,6 +45,15 @@ pub record Root (t : List ℤ) : Type 0 where
   pub share : place t 0 4 ≡ pos 10000
   pub rate : withinℤ 1 1000000000 (place t 0 6) ≡ true
 
+-- The root is there, at level 0.
+pub root-there : (t : List ℤ) → Root t → there (treeOf t) 0 ≡ true
+unfolding there treeOf plus
+root-there t f = rw (f .sort)
+
+pub root-level : (t : List ℤ) → Root t → treeOf t .level 0 ≡ 0
+unfolding treeOf plus
+root-level t f = rw (f .level)
+
 pub record Child (tree : Tree) (k : ℕ) : Type 0 where
   pub class : isClass tree (tree .parent k) ≡ true
   pub level : tree .level k ≡ suc (tree .level (tree .parent k))

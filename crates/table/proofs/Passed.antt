@@ -5,19 +5,28 @@ use mathlib.Core.Bool.{true, false, not}
 use mathlib.Core.List.{List}
 use native.Mathlib.Omega.{arith}
 use borrow.Author.Tests.{not-false, eq-eqb, eqb-false, ltb-false}
+use lib.ListN.{length}
 use lib.Dec.{ltb}
 use lib.IntN.{ℤ, pos}
 use lib.Signed.{ltZ}
 use Rattle.numbers.specs.Whole.{plus, withinℤ}
 use Rattle.numbers.proofs.Tests.{by-test, true-false, or-false-left, or-false-right}
 use Rattle.numbers.proofs.Every.{head-holds, rest-hold, holds-with, none-left}
-use Rattle.numbers.proofs.Parts.{zarith}
+use Rattle.numbers.proofs.Parts.{zarith, within-parts}
 use Rattle.table.specs.Places.{balance, waiting}
 use Rattle.table.specs.Tree.{treeOf, there, isClass, isClient, childless, sumUnder}
 use Rattle.table.specs.Rates.{fixedSum}
 use Rattle.table.specs.Order.{inOrder}
 use Rattle.table.specs.Calls.{sharesAbove, depthsAbove, joined, joinRefusal, leaveRefusal}
+use Rattle.table.proofs.Facts.{facts}
 use Rattle.table.proofs.Refusals.{none-first}
+
+-- The first tests: the table is in order, and a number is that of a node.
+pub long : (t : List ℤ) → inOrder t ≡ true → length t ≡ 2568
+long t h = facts t h .long
+
+pub below : (low : ℕ) (z : ℤ) → withinℤ low 63 z ≡ true → plus z < 64
+below low z h = omega (arith, within-parts low 63 z h)
 
 -- Join, of node k under class c.
 pub record JoinPassed (t : List ℤ) (k c : ℕ) (sort kind share depth : ℤ) : Type 0 where

@@ -1,10 +1,12 @@
 -- Reading a place after a write: the written place shows what was written, every other place what it showed before.
 -- Two tables are equal when their headers and all their places are.
-use Prim.Native.Nat.{ℕ, _+_, _*_, _-_, _/_, _%_, _≤_, _<_}
-use mathlib.Core.Path.{_≡_, sym, _∙_, subst}
+use Prim.Native.Nat.{ℕ, zero, suc, _+_, _*_, _-_, _/_, _%_, _≤_, _<_}
+use mathlib.Core.Path.{_≡_, refl, sym, ap, ap₂, _∙_, subst}
+use mathlib.Core.Logic.{⊎-elim}
 use mathlib.Core.List.{List}
 use native.Mathlib.Omega.{arith}
-use lib.ListN.{length, getD, length-set}
+use native.Mathlib.Nat.{div-add-mod'}
+use lib.ListN.{length, getD, set, length-set}
 use lib.Seq.{getD-set-same, getD-set-other, ext-getD}
 use lib.IntN.{ℤ, pos}
 use Rattle.table.specs.Places.{place, put, header, putHeader}
@@ -44,6 +46,10 @@ header-putHeader-same t p v n h = getD-set-same t p v (pos 0) (omega arith)
 pub header-putHeader-other : (t : List ℤ) (p : ℕ) (v : ℤ) (q : ℕ) → (q ≡ p → ⊥) → header (putHeader t p v) q ≡ header t q
 unfolding header putHeader
 header-putHeader-other t p v q ne = getD-set-other t p q v (pos 0) ne
+
+-- A write, where the table before it and what is written are known by equations.
+pub put-then : (k p : ℕ) {s u t : List ℤ} {v w : ℤ} → s ≡ put u k p v → v ≡ w → u ≡ t → s ≡ put t k p w
+put-then k p e same before = e ∙ ap₂ (λ (x : List ℤ) (y : ℤ). put x k p y) before same
 
 -- Writing what stands there changes nothing.
 pub put-same : (t : List ℤ) (k p : ℕ) → put t k p (place t k p) ≡ t

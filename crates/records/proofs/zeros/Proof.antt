@@ -1,16 +1,16 @@
 -- `records::zeros` meets its contract. The invariant: the bits joined so far are zero just where each number so far is.
-use Prim.Native.Nat.{_+_, _≤_, _-_}
-use mathlib.Core.Path.{_≡_, refl, _∙_}
+use Prim.Native.Nat.{ℕ, _+_, _≤_, _-_}
+use mathlib.Core.Path.{_≡_, refl, sym, ap, _∙_}
 use native.Mathlib.Omega.{arith}
 use lib.ListN.{getD}
-use lib.IntN.{pos}
-use borrow.Author.Needs.{sfits-of}
+use lib.IntN.{ℤ, pos}
+use borrow.Author.Needs.{needs, sfits-of}
 use mir.Syntax.{w64}
 use mir.Val.{toZ}
-use mir.ValLaws.{toZ-ofZ}
+use mir.Facts.{toZ-ofZ}
 use Rattle.numbers.specs.Whole.{sameℤ}
 use Rattle.numbers.specs.Below.{allBelow}
-use Rattle.numbers.proofs.All.{all-next}
+use Rattle.numbers.proofs.All.{all-grows}
 use Rattle.table.specs.Order.{isZero}
 use Rattle.records.specs.Record.{zeros}
 use Rattle.records.proofs.zeros.Statement.{statement}
@@ -50,14 +50,11 @@ unfolding zeros
 loop-again c =
     let t = c .before .before .before .before .args .table .now in
     let first = c .before .before .before .before .args .first in
-    let p = c .before .before .before .loop .p in
-    let z = getD t (first + p) (pos 0) in (
+    let p = c .before .before .before .loop .p in (
       omega arith,
-      cc (
-        all-next p (λ p. isZero (getD t (first + p) (pos 0))),
-        toZ-ofZ w64 (c .either .result) (sfits-of (c .either .ok)),
-        toZ-ofZ w64 z (sfits-of (c .before .either-arg .given)),
-      ),
+      ap isZero (toZ-ofZ (sfits-of (c .either .ok)))
+          ∙ c .either .ensures
+          ∙ all-grows p (λ p. isZero (getD t (first + p) (pos 0))) _ _ (c .before .before .before .loop .inv .1) (ap isZero (toZ-ofZ (sfits-of (c .before .either-arg .given)))),
     )
 
 equal-requires : tie.Need-equal-requires Inv-loop μ-loop

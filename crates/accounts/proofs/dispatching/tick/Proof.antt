@@ -1,8 +1,7 @@
 -- `accounts::dispatching::tick` meets its contract: refused, nothing is written; accepted, the four steps are made.
-use Prim.Native.Nat.{ℕ, _*_, _/_, _≤_, _<_}
+use Prim.Native.Nat.{_/_}
 use mathlib.Core.Path.{_≡_, sym, ap, _∙_}
-use mathlib.Core.Bool.{true, false, not}
-use mathlib.Core.List.{List, [], _∷_}
+use mathlib.Core.List.{[], _∷_}
 use native.Mathlib.Omega.{arith}
 use borrow.Author.Needs.{needs}
 use borrow.Author.Needs.{sfits-of}
@@ -12,11 +11,11 @@ use mir.Syntax.{w64}
 use mir.ValLaws.{toZ-ofZ}
 use Rattle.table.specs.Answers.{told}
 use Rattle.table.specs.Refusals.{accepted, refused}
-use Rattle.table.specs.Tick.{allWaiting, ticked, tickRefusal, tickTable, tickList, tickAnswer}
+use Rattle.table.specs.Tick.{ticked, tickRefusal, tickTable, tickList, tickAnswer}
 use Rattle.table.proofs.Facts.{facts}
 use Rattle.table.proofs.Refusals.{kept-new, kept-old, outcome-accepted, outcome-refused}
 use Rattle.ticks.proofs.Entries.{ticked-entries}
-use Rattle.accounts.proofs.Waiting.{few, Passed, tick-passed}
+use Rattle.accounts.proofs.Waiting.{few, tick-passed}
 use Rattle.accounts.proofs.dispatching.tick.Statement.{statement}
 use Rattle.accounts.proofs.dispatching.tick.Tie as tie
 

@@ -1,12 +1,10 @@
 -- `accounts::dispatching::tick_refusal` meets its contract: each cause in turn.
-use Prim.Native.Nat.{ℕ, _*_, _/_, _≤_, _<_}
+use Prim.Native.Nat.{_*_}
 use mathlib.Core.Path.{_≡_, sym, ap, _∙_}
-use mathlib.Core.Bool.{true, false, not}
-use mathlib.Core.List.{List, [], _∷_}
+use mathlib.Core.Bool.{true, not}
 use native.Mathlib.Omega.{arith}
 use borrow.Author.Needs.{needs}
-use borrow.Author.Tests.{not-true, not-false, lt-ltb, le-ltb}
-use lib.Dec.{ltb}
+use borrow.Author.Tests.{not-false, lt-ltb, le-ltb}
 use lib.ListN.{length}
 use Rattle.table.specs.Order.{inOrder}
 use Rattle.table.specs.Tick.{allWaiting, tickRefusal}

@@ -1,9 +1,11 @@
 -- `dispatch::charging::charge` meets its contract. The invariant: what is left to charge from here, applied to the table as it is
 -- now, equals the whole charge applied to the table as it came. The measure is the level.
-use Prim.Native.Nat.{ℕ, _<_}
-use mathlib.Core.Path.{_≡_, sym, ap, _∙_}
+use Prim.Native.Nat.{ℕ, _-_, _<_}
+use mathlib.Core.Path.{_≡_, sym, ap, ap₂, _∙_, subst}
+use mathlib.Core.List.{List}
 use native.Mathlib.Omega.{arith}
 use borrow.Author.Needs.{needs}
+use lib.IntN.{ℤ}
 use Rattle.table.specs.Tree.{treeOf}
 use Rattle.table.specs.Tick.{charge}
 use Rattle.dispatch.proofs.Charged.{Chargeable, chargeable-first, chargeable-next, chargeable-here, chargeable-parent, charge-last, charge-above}
@@ -51,10 +53,13 @@ loop-again c =
     let at = c .before .before .before .before .before .before in
     let start = at .before .before .before in
     let parent = c .before .before .before .natural2 .ensures in
-    let low = c .before .lower .ensures in (
-      omega (arith, chargeable-parent _ _ _ _ (start .pre .0) (at .loop .inv .1) _ (at .loop .inv .0)),
-      rw low (chargeable-next _ _ _ _ (at .loop .inv .1) (c .before .before .before .before .before .loop-test .taken) _ (at .loop .inv .0)),
-      cc (charge-above (at .loop .table) (start .args .amount) (at .loop .level) (at .loop .node) (c .before .before .before .before .before .loop-test .taken)),
+    let low = c .before .lower .ensures in
+    let more = c .before .before .before .before .before .loop-test .taken in (
+      omega (arith, parent, chargeable-parent _ _ _ _ (start .pre .0) (at .loop .inv .1) _ (at .loop .inv .0)),
+      subst (Chargeable _ (start .args .amount) (at .loop .level - 1)) (sym low) (chargeable-next _ _ _ _ (at .loop .inv .1) more _ (at .loop .inv .0)),
+      ap₂ (λ (u : List ℤ) (k : ℕ). charge u (start .args .amount) (at .loop .level - 1) k) low parent
+          ∙ sym (charge-above (at .loop .table) (start .args .amount) (at .loop .level) (at .loop .node) more)
+          ∙ at .loop .inv .2,
     )
 
 lower-requires-2 : tie.Need-lower-requires-2 Inv-loop μ-loop

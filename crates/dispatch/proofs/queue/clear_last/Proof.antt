@@ -1,14 +1,11 @@
 -- `dispatch::queue::clear_last` meets its contract. The invariant: the first p numbers are zero.
-use Prim.Native.Nat.{ℕ, _+_, _-_, _≤_}
-use mathlib.Core.Path.{_≡_, refl, _∙_}
+use Prim.Native.Nat.{ℕ, _+_, _-_}
 use mathlib.Core.List.{List}
 use native.Mathlib.Omega.{arith}
-use lib.ListN.{length}
 use lib.IntN.{ℤ, pos}
-use Rattle.numbers.specs.Below.{forBelow}
 use Rattle.table.specs.Places.{put}
+use Rattle.table.proofs.Turns.{Turns, turns-first, turns-next, turns-all}
 use Rattle.dispatch.specs.Queue.{lastCleared}
-use Rattle.dispatch.proofs.Turns.{turned}
 use Rattle.dispatch.proofs.queue.clear_last.Statement.{statement}
 use Rattle.dispatch.proofs.queue.clear_last.Tie as tie
 
@@ -16,14 +13,13 @@ abbrev step : ℕ → ℕ → List ℤ → List ℤ
 step k p u = put u k (37 + p) (pos 0)
 
 abbrev Inv-loop : tie.InvT-loop
-Inv-loop table₀ k p₀ table p = (p ≤ 3) × (length table ≡ 2568) × (table ≡ forBelow p (step k) table₀)
+Inv-loop table₀ k p₀ table p = Turns 3 (step k) table₀ table p
 
 abbrev μ-loop : tie.MeasureT-loop
 μ-loop table₀ k p₀ table p = 3 - p
 
 loop-holds : tie.Need-loop-holds Inv-loop μ-loop
-unfolding forBelow
-loop-holds c = (omega arith, c .pre .0, refl)
+loop-holds c = turns-first (c .pre .0)
 
 sub-put : tie.Need-sub-put Inv-loop μ-loop
 sub-put c = omega arith
@@ -45,21 +41,15 @@ loop-less c = omega arith
 
 loop-again : tie.Need-loop-again Inv-loop μ-loop
 loop-again c =
-    let at = c .before .before .before .before in
-    let start = at .before in (
-      omega arith,
-      c .before .put .kept .0 ∙ at .loop .inv .1,
-      turned (at .loop .p) (step (start .args .k)) (start .args .table .now) _ _ (at .loop .inv .2) (c .before .put .ensures),
-    )
+    let at = c .before .before .before .before .loop in
+    turns-next (at .inv) (omega arith) _ (c .before .put .kept .0) (c .before .put .ensures)
 
 same-length : tie.Need-same-length Inv-loop μ-loop
 same-length c = omega arith
 
 returns : tie.Need-returns Inv-loop μ-loop
 unfolding lastCleared
-returns c =
-    let end : c .before .loop .p ≡ 3 = omega arith in
-    rw end at (c .before .loop .inv .2)
+returns c = turns-all (c .before .loop .inv) (omega arith)
 
 pub clear-last-spec : {M : Type 1} → statement M
 clear-last-spec =

@@ -1,14 +1,11 @@
 -- `dispatch::queue::move_up` meets its contract. The invariant: the first p numbers have moved up.
-use Prim.Native.Nat.{ℕ, _+_, _-_, _≤_}
-use mathlib.Core.Path.{_≡_, refl, _∙_}
+use Prim.Native.Nat.{ℕ, _+_, _-_}
 use mathlib.Core.List.{List}
 use native.Mathlib.Omega.{arith}
-use lib.ListN.{length}
 use lib.IntN.{ℤ}
-use Rattle.numbers.specs.Below.{forBelow}
 use Rattle.table.specs.Places.{place, put}
+use Rattle.table.proofs.Turns.{Turns, turns-first, turns-next, turns-all}
 use Rattle.dispatch.specs.Queue.{movedUp}
-use Rattle.dispatch.proofs.Turns.{turned}
 use Rattle.dispatch.proofs.queue.move_up.Statement.{statement}
 use Rattle.dispatch.proofs.queue.move_up.Tie as tie
 
@@ -16,14 +13,13 @@ abbrev step : ℕ → ℕ → List ℤ → List ℤ
 step k p u = put u k (16 + p) (place u k (19 + p))
 
 abbrev Inv-loop : tie.InvT-loop
-Inv-loop table₀ k p₀ table p = (p ≤ 21) × (length table ≡ 2568) × (table ≡ forBelow p (step k) table₀)
+Inv-loop table₀ k p₀ table p = Turns 21 (step k) table₀ table p
 
 abbrev μ-loop : tie.MeasureT-loop
 μ-loop table₀ k p₀ table p = 21 - p
 
 loop-holds : tie.Need-loop-holds Inv-loop μ-loop
-unfolding forBelow
-loop-holds c = (omega arith, c .pre .0, refl)
+loop-holds c = turns-first (c .pre .0)
 
 move-one-requires : tie.Need-move-one-requires Inv-loop μ-loop
 move-one-requires c κs = omega arith
@@ -36,21 +32,15 @@ loop-less c = omega arith
 
 loop-again : tie.Need-loop-again Inv-loop μ-loop
 loop-again c =
-    let at = c .before .before .before .before in
-    let start = at .before in (
-      omega arith,
-      c .before .move-one .kept .0 ∙ at .loop .inv .1,
-      turned (at .loop .p) (step (start .args .k)) (start .args .table .now) _ _ (at .loop .inv .2) (c .before .move-one .ensures),
-    )
+    let at = c .before .before .before .before .loop in
+    turns-next (at .inv) (omega arith) _ (c .before .move-one .kept .0) (c .before .move-one .ensures)
 
 same-length : tie.Need-same-length Inv-loop μ-loop
 same-length c = omega arith
 
 returns : tie.Need-returns Inv-loop μ-loop
 unfolding movedUp
-returns c =
-    let end : c .before .loop .p ≡ 21 = omega arith in
-    rw end at (c .before .loop .inv .2)
+returns c = turns-all (c .before .loop .inv) (omega arith)
 
 pub move-up-spec : {M : Type 1} → statement M
 move-up-spec =

@@ -1,30 +1,26 @@
 -- `dispatch::steps::grow` meets its contract. The invariant: the nodes so far have grown.
-use Prim.Native.Nat.{_-_, _≤_}
-use mathlib.Core.Path.{_≡_, refl, _∙_}
+use Prim.Native.Nat.{_-_}
 use native.Mathlib.Omega.{arith}
-use lib.ListN.{length}
-use Rattle.numbers.specs.Below.{forBelow}
 use Rattle.table.specs.Tick.{grown}
-use Rattle.dispatch.proofs.Turns.{turned}
+use Rattle.table.proofs.Turns.{Turns, turns-first, turns-next, turns-all}
 use Rattle.dispatch.proofs.Sweeps.{growth, growth-fits}
 use Rattle.dispatch.proofs.steps.grow.Statement.{statement}
 use Rattle.dispatch.proofs.steps.grow.Tie as tie
 
 abbrev Inv-loop : tie.InvT-loop
-Inv-loop table₀ k₀ table k = (k ≤ 64) × (length table ≡ 2568) × (table ≡ forBelow k growth table₀)
+Inv-loop table₀ k₀ table k = Turns 64 growth table₀ table k
 
 abbrev μ-loop : tie.MeasureT-loop
 μ-loop table₀ k₀ table k = 64 - k
 
 loop-holds : tie.Need-loop-holds Inv-loop μ-loop
-unfolding forBelow
-loop-holds c = (omega arith, c .pre .long, refl)
+loop-holds c = turns-first (c .pre .long)
 
 grow-node-requires : tie.Need-grow-node-requires Inv-loop μ-loop
 grow-node-requires c κs =
     let at = c .before .before in
     let start = at .before in
-    (at .loop .inv .1, omega arith, growth-fits (start .args .table .now) (start .pre) (at .loop .k) (omega arith) (at .loop .table) (at .loop .inv .2))
+    (at .loop .inv .long, omega arith, growth-fits (start .args .table .now) (start .pre) (at .loop .k) (omega arith) (at .loop .table) (at .loop .inv .made))
 
 add-k : tie.Need-add-k Inv-loop μ-loop
 add-k c = omega arith
@@ -34,21 +30,15 @@ loop-less c = omega arith
 
 loop-again : tie.Need-loop-again Inv-loop μ-loop
 loop-again c =
-    let at = c .before .before .before .before in
-    let start = at .before in (
-      omega arith,
-      c .before .grow-node .kept .0 ∙ at .loop .inv .1,
-      turned (at .loop .k) growth (start .args .table .now) _ _ (at .loop .inv .2) (c .before .grow-node .ensures),
-    )
+    let at = c .before .before .before .before .loop in
+    turns-next (at .inv) (omega arith) _ (c .before .grow-node .kept .0) (c .before .grow-node .ensures)
 
 same-length : tie.Need-same-length Inv-loop μ-loop
 same-length c = omega arith
 
 returns : tie.Need-returns Inv-loop μ-loop
 unfolding grown
-returns c =
-    let end : c .before .loop .k ≡ 64 = omega arith in
-    rw end at (c .before .loop .inv .2)
+returns c = turns-all (c .before .loop .inv) (omega arith)
 
 pub grow-spec : {M : Type 1} → statement M
 grow-spec =

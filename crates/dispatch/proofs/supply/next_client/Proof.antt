@@ -6,7 +6,7 @@ use borrow.Author.Tests.{not-true, not-false}
 use Rattle.numbers.specs.Below.{forBelow}
 use Rattle.table.specs.Places.{waiting}
 use Rattle.table.specs.Tick.{better, next}
-use Rattle.dispatch.proofs.Turns.{turned}
+use Rattle.numbers.proofs.Steps.{turned}
 use Rattle.dispatch.proofs.Next.{idle, unsupplied, later, taken}
 use Rattle.dispatch.proofs.supply.next_client.Statement.{statement}
 use Rattle.dispatch.proofs.supply.next_client.Tie as tie

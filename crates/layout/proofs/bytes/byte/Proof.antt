@@ -14,7 +14,7 @@ wide-requires c κs = search needs
 
 returns : tie.Need-returns
 unfolding byteAt
-returns c = (cc, omega (arith, c .before .shared-slice-known2 .given (c .before .before .before .args .i)))
+returns c = (c .wide .ensures, omega (arith, c .before .shared-slice-known2 .given (c .before .before .before .args .i)))
 
 pub byte-spec : {M : Type 1} → statement M
 byte-spec = tie.close (tie.spec shared-slice-read-wide wide-requires returns)

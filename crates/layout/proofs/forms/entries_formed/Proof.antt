@@ -1,9 +1,9 @@
 -- `layout::forms::entries_formed` meets its contract. The invariant: whether the entries so far are right.
-use Prim.Native.Nat.{ℕ, _≤_, _-_}
-use mathlib.Core.Path.{_≡_, refl, ap, _∙_}
+use Prim.Native.Nat.{_≤_, _-_}
+use mathlib.Core.Path.{_≡_, refl}
 use native.Mathlib.Omega.{arith}
 use Rattle.numbers.specs.Below.{allBelow}
-use Rattle.numbers.proofs.All.{all-next}
+use Rattle.numbers.proofs.All.{all-grows, all-done}
 use Rattle.layout.specs.Format.{entryFormed}
 use borrow.Author.Needs.{needs}
 use Rattle.layout.proofs.forms.entries_formed.Statement.{statement}
@@ -29,13 +29,14 @@ loop-less : tie.Need-loop-less Inv-loop μ-loop
 loop-less c = search needs
 
 loop-again : tie.Need-loop-again Inv-loop μ-loop
-loop-again c = (omega arith, cc (all-next (c .before .before .loop .i) (entryFormed (c .before .before .before .before .args .s .now))))
+loop-again c =
+    let at = c .before .before .loop in
+    (omega arith, all-grows (at .i) (entryFormed (c .before .before .before .before .args .s .now)) _ _ (at .inv .1) (c .entry-formed .ensures))
 
 returns : tie.Need-returns Inv-loop μ-loop
 returns c =
     let start = c .before .before .before in
-    let end : c .before .loop .i ≡ start .args .n = omega arith in
-    c .before .loop .inv .1 ∙ ap (λ (k : ℕ). allBelow k (entryFormed (start .args .s .now))) end
+    all-done (c .before .loop .i) (start .args .n) (entryFormed (start .args .s .now)) _ (c .before .loop .inv .1) (omega arith)
 
 pub entries-formed-spec : {M : Type 1} → statement M
 entries-formed-spec =

@@ -1,9 +1,10 @@
 -- `layout::forms::entry_formed` meets its contract: both tests together.
 use Prim.Native.Nat.{ℕ, _+_, _*_}
+use mathlib.Core.Path.{ap, ap₂, _∙_}
 use lib.Dec.{eqb, leb}
-use Rattle.numbers.proofs.Every.{every-two}
+use Rattle.numbers.proofs.Every.{joined-as, same-tests, last-test}
 use Rattle.layout.specs.Bytes.{byteAt, le2}
-use Rattle.layout.specs.Format.{countIn, entryIn, entryFormed}
+use Rattle.layout.specs.Format.{entryIn, entryFormed}
 use borrow.Author.Needs.{needs}
 use Rattle.layout.proofs.forms.entry_formed.Statement.{statement}
 use Rattle.layout.proofs.forms.entry_formed.Tie as tie
@@ -29,7 +30,11 @@ returns c =
     let start = c .before .before .before .before .before in
     let s = start .args .s .now in
     let i = start .args .i in
-    cc (every-two (eqb (le2 s (9 + 4 * i + 2)) (9 + 4 * countIn s + 7 * i)) (leb (byteAt s (9 + 4 * countIn s + 7 * i)) 3))
+    let body = c .before .before .before .body-at .ensures ∙ ap (λ (n : ℕ). 9 + 4 * n + 7 * i) (start .pre .0) in
+    let entry = c .before .before .entry-at .ensures in
+    joined-as
+    (same-tests (ap₂ eqb (c .before .pair .ensures .0 ∙ ap (λ (a : ℕ). le2 s (a + 2)) entry) body)
+    (last-test (ap (λ (n : ℕ). leb n 3) (c .byte .ensures .0 ∙ ap (byteAt s) body))))
 
 pub entry-formed-spec : {M : Type 1} → statement M
 entry-formed-spec =

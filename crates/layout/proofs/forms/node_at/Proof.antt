@@ -1,9 +1,9 @@
 -- `layout::forms::node_at` meets its contract: the entry of the node is the one in the bytes.
-use Prim.Native.Nat.{ℕ, _+_, _*_}
-use mathlib.Core.Path.{_≡_}
+use Prim.Native.Nat.{ℕ, _+_}
+use mathlib.Core.Path.{_≡_, ap, _∙_}
 use native.Mathlib.Omega.{arith}
-use Rattle.layout.specs.Bytes.{byteAt}
-use Rattle.layout.specs.Format.{countIn, entryIn}
+use Rattle.layout.specs.Bytes.{byteAt, le2, le4}
+use Rattle.layout.specs.Format.{bodyAt, countIn, entryIn}
 use Rattle.layout.specs.Nodes.{entryBy}
 use Rattle.layout.proofs.Codec.{same-entry}
 use borrow.Author.Needs.{needs}
@@ -40,17 +40,35 @@ add-four c = search needs
 four-requires : tie.Need-four-requires
 four-requires c κs = search needs
 
-sort-of-requires : tie.Need-sort-of-requires
+-- The body stands where the count in the bytes has it, and the kind is the one there.
+body : (c : tie.After-body-at) → let start = c .before .before .before in c .body-at .result ≡ bodyAt (countIn (start .args .s .now)) (start .args .i)
+body c = let start = c .before .before .before in c .body-at .ensures ∙ ap (λ (n : ℕ). bodyAt n (start .args .i)) (start .pre .0)
+
+kind : (c : tie.After-byte3) → let start = c .before .before .before .before .before .before in c .byte3 .result ≡ entryIn (start .args .s .now) (start .args .i) .kind
 unfolding entryIn
-sort-of-requires c κs =
-    let start = c .before .before .before .before .before .before .before .before in
-    let s = start .args .s .now in
-    let kind : c .before .before .byte3 .result ≡ byteAt s (9 + 4 * countIn s + 7 * start .args .i) = cc in
-    omega arith
+kind c = c .byte3 .ensures .0 ∙ ap (byteAt _) (body (c .before .before .before))
+
+sort-of-requires : tie.Need-sort-of-requires
+sort-of-requires c κs = omega (arith, kind (c .before .before), c .before .before .before .before .before .before .before .before .pre .4)
 
 returns : tie.Need-returns
 unfolding entryBy entryIn
-returns c = (same-entry _ _ (cc) (cc) (cc) (cc) (cc), (omega arith, omega arith, omega arith, omega arith))
+returns c =
+    let s = c .before .before .before .before .before .before .before .before .before .args .s .now in
+    let entry = c .before .before .before .before .before .before .before .entry-at .ensures in
+    let at-body = body (c .before .before .before .before .before .before) in
+    let number = c .before .before .before .before .before .byte in
+    let parent = c .before .before .before .before .byte2 in
+    let share = c .before .before .pair in
+    let depth = c .before .four in (
+      same-entry _ _
+          (number .ensures .0 ∙ ap (byteAt s) entry)
+          (parent .ensures .0 ∙ ap (λ (a : ℕ). byteAt s (a + 1)) entry)
+          (c .sort-of .ensures .0 ∙ kind (c .before .before .before))
+          (c .sort-of .ensures .1 ∙ share .ensures .0 ∙ ap (λ (a : ℕ). le2 s (a + 1)) at-body)
+          (depth .ensures .0 ∙ ap (λ (a : ℕ). le4 s (a + 3)) at-body),
+      (number .ensures .1, parent .ensures .1, omega (arith, c .sort-of .ensures .1, share .ensures .1), depth .ensures .1),
+    )
 
 pub node-at-spec : {M : Type 1} → statement M
 node-at-spec =

@@ -1,10 +1,10 @@
 -- `layout::putting::put_body` meets its contract: kind, share and depth.
-use mathlib.Core.Path.{_≡_, refl}
-use mathlib.Core.List.{[], _∷_, _++_}
-use Prim.Native.Nat.{ℕ, _+_, _/_, _%_}
+use Prim.Native.Nat.{_+_}
+use mathlib.Core.Path.{refl}
+use mathlib.Core.List.{[], _∷_}
 use native.Mathlib.Omega.{arith}
 use Rattle.layout.specs.Bytes.{bytes2, bytes4}
-use Rattle.layout.proofs.Written.{written-more}
+use Rattle.layout.proofs.Written.{written-after}
 use borrow.Author.Needs.{needs}
 use Rattle.layout.proofs.putting.put_body.Statement.{statement}
 use Rattle.layout.proofs.putting.put_body.Tie as tie
@@ -30,12 +30,14 @@ same-length c = search needs
 returns : tie.Need-returns
 unfolding bytes4 bytes2
 returns c =
-    let x = c .before .before .before .before .before .before .before .before .before .before .before .before .before .args in
+    let start = c .before .before .before .before .before .before .before .before .before .before .before .before .before in
+    let x = start .args in
     let b = x .buffer .now in
-    cc (
-      written-more b (x .a) (x .kind ∷ []) (omega arith) (x .a + 1) (bytes2 (x .share)) refl,
-      written-more b (x .a) (x .kind ∷ bytes2 (x .share)) (omega arith) (x .a + 3) (bytes4 (x .depth)) refl,
-    )
+    written-after b (x .a) (x .a + 3) (x .kind ∷ bytes2 (x .share)) (bytes4 (x .depth)) (omega (arith, start .pre .0)) refl
+    (c .before .before .put-four .ensures)
+    (written-after b (x .a) (x .a + 1) (x .kind ∷ []) (bytes2 (x .share)) (omega (arith, start .pre .0)) refl
+    (c .before .before .before .before .before .before .put-pair .ensures)
+    (c .before .before .before .before .before .before .before .before .before .before .put-byte .ensures))
 
 pub put-body-spec : {M : Type 1} → statement M
 put-body-spec =

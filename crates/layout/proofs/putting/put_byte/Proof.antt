@@ -1,5 +1,6 @@
 -- `layout::putting::put_byte` meets its contract.
-use native.Mathlib.Omega.{arith}
+use mathlib.Core.Path.{ap, _∙_}
+use lib.ListN.{set}
 use Rattle.layout.proofs.Written.{written-one}
 use borrow.Author.Needs.{needs}
 use Rattle.layout.proofs.putting.put_byte.Statement.{statement}
@@ -16,8 +17,9 @@ same-length c = search needs
 
 returns : tie.Need-returns
 returns c =
-    let a = c .before .before .args in
-    cc (written-one (a .buffer .now) (a .a) (a .n) (omega arith))
+    let start = c .before .before in
+    let x = start .args in
+    ap (set (x .buffer .now) (x .a)) (c .narrow .ensures) ∙ written-one (x .buffer .now) (x .a) (x .n) (start .pre .0)
 
 pub put-byte-spec : {M : Type 1} → statement M
 put-byte-spec = tie.close (tie.spec narrow-requires slice-write-buffer same-length returns)

@@ -1,10 +1,10 @@
 -- `layout::putting::put_entry` meets its contract: node, parent and offset.
-use mathlib.Core.Path.{_≡_, refl}
-use mathlib.Core.List.{[], _∷_, _++_}
-use Prim.Native.Nat.{ℕ, _+_, _/_, _%_}
+use Prim.Native.Nat.{_+_}
+use mathlib.Core.Path.{refl}
+use mathlib.Core.List.{[], _∷_}
 use native.Mathlib.Omega.{arith}
-use Rattle.layout.specs.Bytes.{bytes2, bytes4}
-use Rattle.layout.proofs.Written.{written-more}
+use Rattle.layout.specs.Bytes.{bytes2}
+use Rattle.layout.proofs.Written.{written-after}
 use borrow.Author.Needs.{needs}
 use Rattle.layout.proofs.putting.put_entry.Statement.{statement}
 use Rattle.layout.proofs.putting.put_entry.Tie as tie
@@ -30,12 +30,14 @@ same-length c = search needs
 returns : tie.Need-returns
 unfolding bytes2
 returns c =
-    let x = c .before .before .before .before .before .before .before .before .before .before .before .before .before .args in
+    let start = c .before .before .before .before .before .before .before .before .before .before .before .before .before in
+    let x = start .args in
     let b = x .buffer .now in
-    cc (
-      written-more b (x .a) (x .node ∷ []) (omega arith) (x .a + 1) (x .parent ∷ []) refl,
-      written-more b (x .a) (x .node ∷ x .parent ∷ []) (omega arith) (x .a + 2) (bytes2 (x .offset)) refl,
-    )
+    written-after b (x .a) (x .a + 2) (x .node ∷ x .parent ∷ []) (bytes2 (x .offset)) (omega (arith, start .pre .0)) refl
+    (c .before .before .put-pair .ensures)
+    (written-after b (x .a) (x .a + 1) (x .node ∷ []) (x .parent ∷ []) (omega (arith, start .pre .0)) refl
+    (c .before .before .before .before .before .before .put-byte2 .ensures)
+    (c .before .before .before .before .before .before .before .before .before .before .put-byte .ensures))
 
 pub put-entry-spec : {M : Type 1} → statement M
 put-entry-spec =

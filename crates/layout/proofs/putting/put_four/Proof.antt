@@ -1,10 +1,9 @@
 -- `layout::putting::put_four` meets its contract: two pairs.
-use mathlib.Core.Path.{_≡_, refl}
-use mathlib.Core.List.{[], _∷_, _++_}
-use Prim.Native.Nat.{ℕ, _+_, _/_, _%_}
+use Prim.Native.Nat.{_+_, _/_}
+use mathlib.Core.Path.{refl}
 use native.Mathlib.Omega.{arith}
 use Rattle.layout.specs.Bytes.{bytes2, bytes4}
-use Rattle.layout.proofs.Written.{written-more}
+use Rattle.layout.proofs.Written.{written-after}
 use borrow.Author.Needs.{needs}
 use Rattle.layout.proofs.putting.put_four.Statement.{statement}
 use Rattle.layout.proofs.putting.put_four.Tie as tie
@@ -24,9 +23,11 @@ same-length c = search needs
 returns : tie.Need-returns
 unfolding bytes4 bytes2
 returns c =
-    let x = c .before .before .before .before .before .before .before .before .before .args in
-    let b = x .buffer .now in
-    cc (written-more b (x .a) (bytes2 (x .n)) (omega arith) (x .a + 2) (bytes2 (x .n / 65536)) refl)
+    let start = c .before .before .before .before .before .before .before .before .before in
+    let x = start .args in
+    written-after (x .buffer .now) (x .a) (x .a + 2) (bytes2 (x .n)) (bytes2 (x .n / 65536)) (omega (arith, start .pre)) refl
+    (c .before .before .put-pair2 .ensures)
+    (c .before .before .before .before .before .before .put-pair .ensures)
 
 pub put-four-spec : {M : Type 1} → statement M
 put-four-spec =

@@ -1,10 +1,9 @@
 -- `layout::putting::put_head` meets its contract: rate, depth and count.
-use mathlib.Core.Path.{_≡_, refl}
+use mathlib.Core.Path.{refl}
 use mathlib.Core.List.{[], _∷_, _++_}
-use Prim.Native.Nat.{ℕ, _+_, _/_, _%_}
 use native.Mathlib.Omega.{arith}
 use Rattle.layout.specs.Bytes.{bytes2, bytes4}
-use Rattle.layout.proofs.Written.{written-more}
+use Rattle.layout.proofs.Written.{written-after}
 use borrow.Author.Needs.{needs}
 use Rattle.layout.proofs.putting.put_head.Statement.{statement}
 use Rattle.layout.proofs.putting.put_head.Tie as tie
@@ -24,12 +23,14 @@ same-length c = search needs
 returns : tie.Need-returns
 unfolding bytes4 bytes2
 returns c =
-    let x = c .before .before .before .before .before .before .before .before .before .before .before .before .before .args in
+    let start = c .before .before .before .before .before .before .before .before .before .before .before .before .before in
+    let x = start .args in
     let b = x .buffer .now in
-    cc (
-      written-more b 0 (bytes4 (x .rate)) (omega arith) 4 (bytes4 (x .depth)) refl,
-      written-more b 0 (bytes4 (x .rate) ++ bytes4 (x .depth)) (omega arith) 8 (x .count ∷ []) refl,
-    )
+    written-after b 0 8 (bytes4 (x .rate) ++ bytes4 (x .depth)) (x .count ∷ []) (omega (arith, start .pre .0)) refl
+    (c .before .before .put-byte .ensures)
+    (written-after b 0 4 (bytes4 (x .rate)) (bytes4 (x .depth)) (omega (arith, start .pre .0)) refl
+    (c .before .before .before .before .before .before .put-four2 .ensures)
+    (c .before .before .before .before .before .before .before .before .before .before .put-four .ensures))
 
 pub put-head-spec : {M : Type 1} → statement M
 put-head-spec =

@@ -1,10 +1,10 @@
 -- `layout::putting::put_pair` meets its contract: two bytes.
-use mathlib.Core.Path.{_≡_, refl}
-use mathlib.Core.List.{[], _∷_, _++_}
-use Prim.Native.Nat.{ℕ, _+_, _/_, _%_}
+use Prim.Native.Nat.{_+_, _/_, _%_}
+use mathlib.Core.Path.{refl}
+use mathlib.Core.List.{[], _∷_}
 use native.Mathlib.Omega.{arith}
-use Rattle.layout.specs.Bytes.{bytes2, bytes4}
-use Rattle.layout.proofs.Written.{written-more}
+use Rattle.layout.specs.Bytes.{bytes2}
+use Rattle.layout.proofs.Written.{written-after}
 use borrow.Author.Needs.{needs}
 use Rattle.layout.proofs.putting.put_pair.Statement.{statement}
 use Rattle.layout.proofs.putting.put_pair.Tie as tie
@@ -24,9 +24,11 @@ same-length c = search needs
 returns : tie.Need-returns
 unfolding bytes2
 returns c =
-    let x = c .before .before .before .before .before .before .before .before .before .args in
-    let b = x .buffer .now in
-    cc (written-more b (x .a) (x .n % 256 ∷ []) (omega arith) (x .a + 1) (x .n / 256 % 256 ∷ []) refl)
+    let start = c .before .before .before .before .before .before .before .before .before in
+    let x = start .args in
+    written-after (x .buffer .now) (x .a) (x .a + 1) (x .n % 256 ∷ []) (x .n / 256 % 256 ∷ []) (omega (arith, start .pre)) refl
+    (c .before .before .put-byte2 .ensures)
+    (c .before .before .before .before .before .before .put-byte .ensures)
 
 pub put-pair-spec : {M : Type 1} → statement M
 put-pair-spec =

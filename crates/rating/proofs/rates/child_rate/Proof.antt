@@ -1,12 +1,18 @@
 -- `rating::rates::child_rate` meets its contract, by the kind of the share.
-use mathlib.Core.Path.{refl, sym, _∙_}
+use Prim.Native.Nat.{ℕ}
+use mathlib.Core.Path.{_≡_, refl, sym, ap, _∙_}
 use native.Mathlib.Omega.{arith}
 use Rattle.table.specs.Tree.{treeOf}
+use Rattle.table.specs.Rates.{fixedRate, leftRate, weightedRate}
 use Rattle.laws.proofs.Rounding.{left-le, fixed-child, weighted-child}
 use Rattle.rating.proofs.Rated.{weights-there}
 use borrow.Author.Needs.{needs}
 use Rattle.rating.proofs.rates.child_rate.Statement.{statement}
 use Rattle.rating.proofs.rates.child_rate.Tie as tie
+
+-- A weighted rate by what it is reckoned from.
+same-weighted : {l l' s s' w w' : ℕ} → l ≡ l' → s ≡ s' → w ≡ w' → weightedRate l s w ≡ weightedRate l' s' w'
+same-weighted left share weights = cc
 
 natural-requires : tie.Need-natural-requires
 natural-requires c κs = search needs
@@ -22,7 +28,9 @@ returns : tie.Need-returns
 unfolding treeOf
 returns c =
     let start = c .before .before .before .before .args in
-    cc (fixed-child (treeOf (start .table .now)) (start .rate) (start .k) (sym (c .before .before .is-fixed .ensures) ∙ c .before .if1 .taken))
+    c .fixed-rate .ensures
+    ∙ ap (fixedRate (start .rate)) (c .before .before .before .natural .ensures)
+    ∙ sym (fixed-child (treeOf (start .table .now)) (start .rate) (start .k) (sym (c .before .before .is-fixed .ensures) ∙ c .before .if1 .taken))
 
 left-rate-requires : tie.Need-left-rate-requires
 left-rate-requires c κs = search needs
@@ -40,8 +48,13 @@ weighted-rate-requires c κs =
 returns-2 : tie.Need-returns-2
 unfolding treeOf
 returns-2 c =
-    let start = c .before .before .before .before .before .args in
-    cc (weighted-child (treeOf (start .table .now)) (treeOf (start .table .now) .parent (start .k)) (start .rate) (start .k) refl (sym (c .before .before .before .is-fixed .ensures) ∙ c .before .before .if1 .left))
+    let start = c .before .before .before .before .before in
+    let tree = treeOf (start .args .table .now) in
+    let rate = start .args .rate in
+    let k = start .args .k in
+    c .weighted-rate .ensures
+    ∙ same-weighted (c .before .left-rate .ensures ∙ ap (leftRate rate) (start .pre .6)) (c .before .before .before .before .natural .ensures) (start .pre .7)
+    ∙ sym (weighted-child tree (tree .parent k) rate k refl (sym (c .before .before .before .is-fixed .ensures) ∙ c .before .before .if1 .left))
 
 pub child-rate-spec : {M : Type 1} → statement M
 child-rate-spec =

@@ -1,10 +1,10 @@
 -- `rating::rates::has_rate` meets its contract: compared where the node is there.
-use mathlib.Core.Path.{_≡_, sym, _∙_}
+use mathlib.Core.Path.{_≡_, sym, ap₂, _∙_}
 use mathlib.Core.Bool.{true}
-use mir.Syntax.{w64}
-use mir.ValLaws.{toZ-ofZ}
+use mir.Facts.{toZ-ofZ}
 use borrow.Author.Needs.{sfits-of}
 use borrow.Author.Tests.{not-true, not-false}
+use Rattle.numbers.specs.Whole.{sameℤ}
 use Rattle.table.specs.Tree.{treeOf, there}
 use Rattle.rating.proofs.Renewal.{has-there, has-unused}
 use borrow.Author.Needs.{needs}
@@ -32,8 +32,11 @@ equal-requires c κs = search needs
 
 returns-2 : tie.Need-returns-2
 returns-2 c =
-    let at = c .before .before .before in
-    cc (toZ-ofZ w64 (c .before .before .get .result) (sfits-of (c .before .before .get .ok)), toZ-ofZ w64 (c .before .whole .result) (sfits-of (c .before .whole .ok)), has-there (at .before .before .args .table .now) (at .before .before .args .k) (at .before .before .args .rate) (here at))
+    let got = c .before .before .get in
+    let made = c .before .whole in
+    c .equal .ensures
+    ∙ ap₂ sameℤ (toZ-ofZ (sfits-of (got .ok)) ∙ got .ensures) (toZ-ofZ (sfits-of (made .ok)) ∙ made .ensures)
+    ∙ sym (has-there _ _ _ (here (c .before .before .before)))
 
 pub has-rate-spec : {M : Type 1} → statement M
 has-rate-spec =

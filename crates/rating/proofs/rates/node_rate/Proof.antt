@@ -1,12 +1,12 @@
 -- `rating::rates::node_rate` meets its contract: the rate of its class and the sums under it are known.
-use Prim.Native.Nat.{_<_}
-use mathlib.Core.Path.{_≡_}
+use Prim.Native.Nat.{ℕ, _<_}
+use mathlib.Core.Path.{_≡_, sym, ap, _∙_}
 use native.Mathlib.Omega.{arith}
 use borrow.Author.Needs.{needs}
 use lib.ListN.{getD}
 use Rattle.table.specs.Places.{rate}
 use Rattle.table.specs.Tree.{treeOf}
-use Rattle.table.specs.Rates.{rateIn}
+use Rattle.table.specs.Rates.{rateIn, childRate}
 use Rattle.laws.proofs.Rounding.{rate-of-child}
 use Rattle.rating.specs.Rated.{Placed}
 use Rattle.rating.proofs.Rated.{rate-le-disk}
@@ -68,7 +68,11 @@ child-rate-requires c κs =
 returns : tie.Need-returns
 returns c =
     let at = c .before .before .before .before in
-    cc (known at, rate-of-child (treeOf (at .before .args .table .now)) (rate (at .before .args .table .now) 0) (at .before .args .k) (placed (at .before) .level))
+    let t = at .before .args .table .now in
+    let k = at .before .args .k in
+    c .child-rate .ensures
+    ∙ ap (λ (r : ℕ). childRate (treeOf t) r k) (known at)
+    ∙ sym (rate-of-child (treeOf t) (rate t 0) k (placed (at .before) .level))
 
 pub node-rate-spec : {M : Type 1} → statement M
 node-rate-spec =

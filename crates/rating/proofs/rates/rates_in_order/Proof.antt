@@ -1,10 +1,10 @@
 -- `rating::rates::rates_in_order` meets its contract. The invariant: the test of the nodes so far.
 use Prim.Native.Nat.{_≤_, _-_}
-use mathlib.Core.Path.{_≡_, refl}
+use mathlib.Core.Path.{_≡_, refl, _∙_}
 use native.Mathlib.Omega.{arith}
 use lib.ListN.{getD}
 use Rattle.numbers.specs.Below.{allBelow}
-use Rattle.numbers.proofs.All.{all-next}
+use Rattle.numbers.proofs.All.{all-grows, all-done}
 use Rattle.table.specs.Tree.{treeOf, there, testIf, eachNode}
 use Rattle.table.specs.Order.{rateInOrder}
 use Rattle.rating.proofs.Rated.{rate-le-disk}
@@ -52,17 +52,15 @@ loop-again c =
     let t = c .before .before .before .before .args .table .now in
     let k = c .before .before .loop .k in (
       omega arith,
-      cc (
-        all-next k (λ j. testIf (there (treeOf t) j) (rateInOrder t) j),
-        has-right t k (getD (c .before .before .before .rates .result) k 0) (c .before .before .before .rates .ensures k (omega arith)),
-      ),
+      all-grows k (λ j. testIf (there (treeOf t) j) (rateInOrder t) j) _ _ (c .before .before .loop .inv .1)
+          (c .has-rate .ensures ∙ has-right t k (getD (c .before .before .before .rates .result) k 0) (c .before .before .before .rates .ensures k (omega arith))),
     )
 
 returns : tie.Need-returns Inv-loop μ-loop
 unfolding eachNode
 returns c =
-    let end : c .before .loop .k ≡ 64 = omega arith in
-    rw end at (c .before .loop .inv .1)
+    let t = c .before .before .before .args .table .now in
+    all-done (c .before .loop .k) 64 (λ j. testIf (there (treeOf t) j) (rateInOrder t) j) _ (c .before .loop .inv .1) (omega arith)
 
 pub rates-in-order-spec : {M : Type 1} → statement M
 rates-in-order-spec =

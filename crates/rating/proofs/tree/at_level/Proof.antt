@@ -1,7 +1,9 @@
 -- `rating::tree::at_level` meets its contract: two tests together.
+use Prim.Native.Nat.{ℕ}
+use mathlib.Core.Path.{ap}
 use lib.Dec.{eqb}
-use Rattle.numbers.proofs.Every.{every-two}
-use Rattle.table.specs.Tree.{treeOf, there}
+use Rattle.numbers.proofs.Every.{joined-as, same-tests, last-test}
+use Rattle.table.specs.Tree.{treeOf}
 use Rattle.rating.specs.Rated.{atLevel}
 use borrow.Author.Needs.{needs}
 use Rattle.rating.proofs.tree.at_level.Statement.{statement}
@@ -16,9 +18,9 @@ natural-requires c κs = search needs
 returns : tie.Need-returns
 unfolding treeOf atLevel
 returns c =
-    let start = c .before .before .args in
-    let tree = treeOf (start .table .now) in
-    cc (every-two (there tree (start .k)) (eqb (tree .level (start .k)) (start .level)))
+    joined-as
+    (same-tests (c .before .there .ensures)
+    (last-test (ap (λ (n : ℕ). eqb n (c .before .before .args .level)) (c .natural .ensures))))
 
 pub at-level-spec : {M : Type 1} → statement M
 at-level-spec = tie.close (tie.spec there-requires natural-requires returns)

@@ -1,11 +1,11 @@
 -- `rating::tree::childless` meets its contract. The invariant: the nodes so far are no children.
 use Prim.Native.Nat.{_≤_, _-_}
-use mathlib.Core.Path.{_≡_, refl}
+use mathlib.Core.Path.{_≡_, refl, ap}
 use mathlib.Core.Bool.{not}
 use native.Mathlib.Omega.{arith}
 use borrow.Author.Needs.{needs}
 use Rattle.numbers.specs.Below.{allBelow}
-use Rattle.numbers.proofs.All.{all-next}
+use Rattle.numbers.proofs.All.{all-grows, all-done}
 use Rattle.table.specs.Tree.{treeOf, childOf, childless}
 use Rattle.rating.proofs.tree.childless.Statement.{statement}
 use Rattle.rating.proofs.tree.childless.Tie as tie
@@ -33,13 +33,16 @@ loop-less c = omega arith
 loop-again : tie.Need-loop-again Inv-loop μ-loop
 loop-again c =
     let start = c .before .before .before .args in
-    (omega arith, cc (all-next (c .before .before .loop .k) (λ j. not (childOf (treeOf (start .table .now)) (start .c) j))))
+    let at = c .before .before .loop in (
+      omega (arith, c .before .loop-test .taken),
+      all-grows (at .k) (λ j. not (childOf (treeOf (start .table .now)) (start .c) j)) _ _ (at .inv .1) (ap not (c .child-of .ensures)),
+    )
 
 returns : tie.Need-returns Inv-loop μ-loop
 unfolding childless
 returns c =
-    let end : c .before .loop .k ≡ 64 = omega arith in
-    rw end at (c .before .loop .inv .1)
+    let start = c .before .before .args in
+    all-done (c .before .loop .k) 64 (λ j. not (childOf (treeOf (start .table .now)) (start .c) j)) _ (c .before .loop .inv .1) (omega arith)
 
 pub childless-spec : {M : Type 1} → statement M
 childless-spec =

@@ -1,4 +1,7 @@
 -- `rating::tree::is_fixed` meets its contract: the kind is fixed.
+use Prim.Native.Nat.{ℕ}
+use mathlib.Core.Path.{ap}
+use lib.Dec.{eqb}
 use Rattle.table.specs.Tree.{treeOf, isFixed}
 use borrow.Author.Needs.{needs}
 use Rattle.rating.proofs.tree.is_fixed.Statement.{statement}
@@ -9,7 +12,7 @@ natural-requires c κs = search needs
 
 returns : tie.Need-returns
 unfolding treeOf isFixed
-returns c = cc
+returns c = ap (λ (n : ℕ). eqb n 0) (c .natural .ensures)
 
 pub is-fixed-spec : {M : Type 1} → statement M
 is-fixed-spec = tie.close (tie.spec natural-requires returns)

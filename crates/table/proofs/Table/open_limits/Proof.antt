@@ -1,8 +1,8 @@
 -- `table::Table::open_limits` meets its contract: both tests together.
-use mir.Syntax.{w64}
-use mir.ValLaws.{toZ-ofZ}
+use mathlib.Core.Path.{ap, _∙_}
+use mir.Facts.{toZ-ofZ}
 use Rattle.numbers.specs.Whole.{withinℤ}
-use Rattle.numbers.proofs.Every.{every-two}
+use Rattle.numbers.proofs.Every.{joined-as, same-tests, last-test}
 use borrow.Author.Needs.{needs}
 use Rattle.table.proofs.Table.open_limits.Statement.{statement}
 use Rattle.table.proofs.Table.open_limits.Tie as tie
@@ -16,11 +16,9 @@ within-requires-2 c κs = search needs
 returns : tie.Need-returns
 returns c =
     let start = c .before .before in
-    cc (
-      every-two (withinℤ 1 1000000000 (start .args .rate)) (withinℤ 1 1000000 (start .args .depth)),
-      toZ-ofZ w64 _ (start .fits .rate),
-      toZ-ofZ w64 _ (start .fits .depth),
-    )
+    joined-as
+    (same-tests (c .before .within .ensures ∙ ap (withinℤ 1 1000000000) (toZ-ofZ (start .fits .rate)))
+    (last-test (c .within2 .ensures ∙ ap (withinℤ 1 1000000) (toZ-ofZ (start .fits .depth)))))
 
 pub open-limits-spec : {M : Type 1} → statement M
 open-limits-spec = tie.close (tie.spec within-requires within-requires-2 returns)

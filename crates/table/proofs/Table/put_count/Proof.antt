@@ -1,7 +1,7 @@
 -- `table::Table::put_count` meets its contract.
 use mathlib.Core.Path.{ap, _∙_}
-use mir.Syntax.{w64}
-use mir.ValLaws.{toZ-ofZ}
+use lib.ListN.{set}
+use mir.Facts.{toZ-ofZ}
 use borrow.Author.Needs.{sfits-of}
 use Rattle.table.specs.Places.{putHeader}
 use borrow.Author.Needs.{needs}
@@ -19,7 +19,7 @@ same-length c = search needs
 
 returns : tie.Need-returns
 unfolding putHeader
-returns c = cc (toZ-ofZ w64 _ (sfits-of (c .whole .ok)))
+returns c = ap (set (c .before .args .table .now) 0) (toZ-ofZ (sfits-of (c .whole .ok)) ∙ c .whole .ensures)
 
 pub put-count-spec : {M : Type 1} → statement M
 put-count-spec = tie.close (tie.spec whole-requires slice-set-from-count same-length returns)

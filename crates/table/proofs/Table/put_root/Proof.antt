@@ -1,7 +1,8 @@
 -- `table::Table::put_root` meets its contract: four writes into a table of zeros.
-use mir.Syntax.{w64}
-use mir.ValLaws.{toZ-ofZ}
+use mathlib.Core.Path.{refl}
+use mir.Facts.{toZ-ofZ}
 use Rattle.table.specs.Calls.{opened}
+use Rattle.table.proofs.Places.{put-then}
 use borrow.Author.Needs.{needs}
 use Rattle.table.proofs.Table.put_root.Statement.{statement}
 use Rattle.table.proofs.Table.put_root.Tie as tie
@@ -23,7 +24,12 @@ same-length c = search needs
 
 returns : tie.Need-returns
 unfolding opened
-returns c = cc (toZ-ofZ w64 _ (c .before .before .before .before .before .before .before .before .before .before .before .before .fits .rate), toZ-ofZ w64 _ (c .before .before .before .before .before .before .before .before .before .before .before .before .fits .depth))
+returns c =
+    let start = c .before .before .before .before .before .before .before .before .before .before .before .before in
+    put-then 0 6 (c .before .put4 .ensures) (toZ-ofZ (start .fits .rate))
+    (put-then 0 5 (c .before .before .before .before .put3 .ensures) (toZ-ofZ (start .fits .depth))
+    (put-then 0 4 (c .before .before .before .before .before .before .before .put2 .ensures) refl
+    (put-then 0 0 (c .before .before .before .before .before .before .before .before .before .before .put .ensures) refl (start .pre .1))))
 
 pub put-root-spec : {M : Type 1} → statement M
 put-root-spec =

@@ -1,4 +1,0 @@
-pub mod Debt
-pub mod Before
-pub mod Sums
-pub mod Passed

@@ -1,0 +1,88 @@
+// Leave: a node goes, and its record is zero.
+ghost use mathlib.Core.Path.{_≡_};
+ghost use mathlib.Core.List.{[], _∷_};
+ghost use mathlib.Core.Bool.{not, _||_};
+ghost use Prim.Native.Nat.{_≤_, _<_};
+ghost use lib.Dec.{ltb};
+ghost use lib.ListN.{length};
+ghost use lib.IntN.{pos};
+ghost use lib.Signed.{ltZ};
+ghost use Rattle.numbers.specs.Tests.{every};
+ghost use Rattle.table.specs.Limits.{tableLength, nodes};
+ghost use Rattle.table.specs.Places.{balance, waiting};
+ghost use Rattle.table.specs.Tree.{treeOf, isClass, childless};
+ghost use Rattle.table.specs.Answers.{told};
+ghost use Rattle.table.specs.Calls.{cleared, leaveRefusal, leaveTable, leaveAnswer};
+use table::Answer;
+use table::Table;
+
+// Whether node k has children or waiting requests.
+fn is_busy(table: &[i64], k: usize) -> bool
+    requires { ⌜ (length (now table) ≡ tableLength) × (k < nodes) ⌝ }
+    ensures { λ r. ⌜ r ≡ (not (childless (treeOf (now (table .entry))) k) || ltb 0 (waiting (now (table .entry)) k)) ⌝ }
+{
+    let has_children = !rating::tree::childless(table, k);
+    let has_requests = 0 < Table::natural(table, k, Table::WAITING);
+    has_children | has_requests
+}
+
+// Whether node k is a class with a balance below 0.
+fn in_debt(table: &[i64], k: usize) -> bool
+    requires { ⌜ (length (now table) ≡ tableLength) × (k < nodes) ⌝ }
+    ensures { λ r. ⌜ r ≡ every (isClass (treeOf (now (table .entry))) k ∷ ltZ (balance (now (table .entry)) k) (pos 0) ∷ []) ⌝ }
+{
+    let class = rating::tree::is_class(table, k);
+    let below = 0 < numbers::negative(Table::get(table, k, Table::BALANCE));
+    class & below
+}
+
+// The number of the first cause that turns leave back, or 0.
+fn leave_refusal(table: &[i64], node: i64) -> u64
+    ensures first { λ r. ⌜ r ≡ leaveRefusal (now (table .entry)) node ⌝ }
+    ensures small { λ r. ⌜ r ≤ 10 ⌝ }
+{
+    if !order::in_order(table) {
+        return 1;
+    }
+    if !numbers::within(node, 0, Table::LAST_NODE) {
+        return 2;
+    }
+    let k = numbers::natural(node) as usize;
+    if !rating::tree::there(table, k) {
+        return 3;
+    }
+    if k == 0 {
+        return 5;
+    }
+    if is_busy(table, k) {
+        return 9;
+    }
+    if in_debt(table, k) {
+        return 10;
+    }
+    0
+}
+
+// Zeroes a node's record.
+fn clear_node(table: &mut [i64], k: usize)
+    requires { ⌜ (length (now table) ≡ tableLength) × (k < nodes) ⌝ }
+    ensures { λ _. ⌜ now (table .exit) ≡ cleared (now (table .entry)) k ⌝ }
+{
+    for p in 0..Table::RECORD {
+        Table::put(table, k, p, 0);
+    }
+}
+
+// Leave. Document 01, "Calls".
+pub fn leave(table: &mut [i64], node: i64) -> Answer
+    ensures answer { λ r. ⌜ told r ≡ leaveAnswer (now (table .entry)) node ⌝ }
+    ensures table { λ _. ⌜ now (table .exit) ≡ leaveTable (now (table .entry)) node ⌝ }
+{
+    let number = leave_refusal(table, node);
+    if number != 0 {
+        return table::answered(number, 0);
+    }
+    clear_node(table, numbers::natural(node) as usize);
+    rating::rates::renew(table);
+    Answer::Accepted(0)
+}

@@ -1,0 +1,91 @@
+-- `looking::look_refusal` meets its contract: each cause in turn. `on-k` and `off-k` say of the k-th test what its cause says.
+
+use mathlib.Core.Path.{_≡_, sym, ap, _∙_}
+use mathlib.Core.Bool.{true, false, not}
+use native.Mathlib.Omega.{arith}
+use borrow.Author.Needs.{needs}
+use borrow.Author.Tests.{not-false}
+use mir.Syntax.{w64}
+use mir.ValLaws.{toZ-ofZ}
+use Rattle.numbers.specs.Whole.{plus, withinℤ}
+use Rattle.table.specs.Order.{inOrder}
+use Rattle.table.specs.Tree.{treeOf, there}
+use Rattle.table.specs.Calls.{lookRefusal}
+use Rattle.table.proofs.Refusals.{first-here, first-past, first-end}
+use Rattle.table.proofs.Passed.{long, below}
+use Rattle.looking.proofs.look_refusal.Statement.{statement}
+use Rattle.looking.proofs.look_refusal.Tie as tie
+
+number : (c : tie.After-natural) → let s = c .before .before .before .before .before in c .natural .result ≡ plus (s .args .node)
+number c = let s = c .before .before .before .before .before in rw (toZ-ofZ w64 (s .args .node) (s .fits .node)) at (c .natural .ensures)
+
+-- The table is in order.
+is-1 : (c : tie.After-in-order) → let s = c .before in (inOrder (s .args .table .now)) ≡ c .in-order .result
+is-1 c = let s = c .before in sym (c .in-order .ensures)
+
+on-1 : (c : tie.Then1) → let s = c .before .before in (not (inOrder (s .args .table .now))) ≡ true
+on-1 c = ap not (is-1 (c .before)) ∙ c .if1 .taken
+
+off-1 : (c : tie.Else1) → let s = c .before .before in (not (inOrder (s .args .table .now))) ≡ false
+off-1 c = ap not (is-1 (c .before)) ∙ c .if1 .left
+
+-- The node is within its limits.
+is-2 : (c : tie.After-within) → let s = c .before .before .before in (withinℤ 0 63 (s .args .node)) ≡ c .within .result
+is-2 c = let s = c .before .before .before in sym (rw (toZ-ofZ w64 (s .args .node) (s .fits .node)) at (c .within .ensures))
+
+on-2 : (c : tie.Then2) → let s = c .before .before .before .before in (not (withinℤ 0 63 (s .args .node))) ≡ true
+on-2 c = ap not (is-2 (c .before)) ∙ c .if2 .taken
+
+off-2 : (c : tie.Else2) → let s = c .before .before .before .before in (not (withinℤ 0 63 (s .args .node))) ≡ false
+off-2 c = ap not (is-2 (c .before)) ∙ c .if2 .left
+
+-- The node is there.
+is-3 : (c : tie.After-there) → let s = c .before .before .before .before .before .before in (there (treeOf (s .args .table .now)) (plus (s .args .node))) ≡ c .there .result
+is-3 c = let s = c .before .before .before .before .before .before in ap (there (treeOf (s .args .table .now))) (sym (number (c .before))) ∙ sym (c .there .ensures)
+
+on-3 : (c : tie.Then3) → let s = c .before .before .before .before .before .before .before in (not (there (treeOf (s .args .table .now)) (plus (s .args .node)))) ≡ true
+on-3 c = ap not (is-3 (c .before)) ∙ c .if3 .taken
+
+off-3 : (c : tie.Else3) → let s = c .before .before .before .before .before .before .before in (not (there (treeOf (s .args .table .now)) (plus (s .args .node)))) ≡ false
+off-3 c = ap not (is-3 (c .before)) ∙ c .if3 .left
+
+in-order-requires : tie.Need-in-order-requires
+in-order-requires c κs = search needs
+
+returns : tie.Need-returns
+unfolding lookRefusal
+returns c = (sym (first-here 1 _ _ (on-1 c)), omega arith)
+
+within-requires : tie.Need-within-requires
+within-requires c κs = search needs
+
+returns-2 : tie.Need-returns-2
+unfolding lookRefusal
+returns-2 c = (sym (first-past 1 _ _ (off-1 (c .before .before)) ∙ first-here 2 _ _ (on-2 c)), omega arith)
+
+natural-requires : tie.Need-natural-requires
+natural-requires c κs = search needs
+
+there-requires : tie.Need-there-requires
+there-requires c κs = let low = below 0 _ (not-false _ (off-2 (c .before))) in (long _ (not-false _ (off-1 (c .before .before .before))), omega (arith, number c))
+
+returns-3 : tie.Need-returns-3
+unfolding lookRefusal
+returns-3 c = (sym (first-past 1 _ _ (off-1 (c .before .before .before .before .before)) ∙ first-past 2 _ _ (off-2 (c .before .before .before)) ∙ first-here 3 _ _ (on-3 c)), omega arith)
+
+returns-4 : tie.Need-returns-4
+unfolding lookRefusal
+returns-4 c = (sym (first-past 1 _ _ (off-1 (c .before .before .before .before .before)) ∙ first-past 2 _ _ (off-2 (c .before .before .before)) ∙ first-past 3 _ _ (off-3 c) ∙ first-end), omega arith)
+
+pub look-refusal-spec : {M : Type 1} → statement M
+look-refusal-spec =
+    tie.close
+    (tie.spec
+    in-order-requires
+    returns
+    within-requires
+    returns-2
+    natural-requires
+    there-requires
+    returns-3
+    returns-4)

@@ -1,0 +1,91 @@
+// Request: one more waiting request at a client.
+ghost use mathlib.Core.Path.{_≡_};
+ghost use mathlib.Core.List.{[], _∷_};
+ghost use Prim.Native.Nat.{_+_, _<_, _≤_, _^_};
+ghost use lib.ListN.{length};
+ghost use lib.IntN.{pos};
+ghost use lib.Signed.{leZ};
+ghost use Rattle.numbers.specs.Whole.{withinℤ};
+ghost use Rattle.numbers.specs.Tests.{every};
+ghost use Rattle.table.specs.Limits.{tableLength, nodes, lastNode, mostWaiting, tagAt, sizeAt, arrivalAt};
+ghost use Rattle.table.specs.Places.{put, queuePlace, count, waiting};
+ghost use Rattle.table.specs.Answers.{told};
+ghost use Rattle.table.specs.Calls.{requested, requestRefusal, requestTable, requestAnswer};
+use table::Answer;
+use table::Table;
+
+// The i-th waiting place of node k.
+fn write_place(table: &mut [i64], k: usize, i: usize, tag: i64, size: i64, number: u64)
+    requires { ⌜ (length (now table) ≡ tableLength) × (k < nodes) × (i < mostWaiting) × (number < 2 ^ 63) ⌝ }
+    ensures { λ _. ⌜ now (table .exit) ≡ put (put (put (now (table .entry)) k (queuePlace i + tagAt) tag) k (queuePlace i + sizeAt) size) k (queuePlace i + arrivalAt) (pos number) ⌝ }
+{
+    let place = Table::QUEUE + Table::REQUEST * i;
+    Table::put(table, k, place + Table::TAG, tag);
+    Table::put(table, k, place + Table::SIZE, size);
+    Table::put_natural(table, k, place + Table::ARRIVAL, number);
+}
+
+// A request behind those that wait at node k; its arrival number is the new count.
+fn write_request(table: &mut [i64], k: usize, tag: i64, size: i64)
+    requires { ⌜ (length (now table) ≡ tableLength) × (k < nodes) × (waiting (now table) k < mostWaiting) × (count (now table) + 1 < 2 ^ 63) ⌝ }
+    ensures { λ _. ⌜ now (table .exit) ≡ requested (now (table .entry)) k tag size ⌝ }
+{
+    let waiting = Table::natural(table, k, Table::WAITING);
+    let number = Table::count(table) + 1;
+    write_place(table, k, waiting as usize, tag, size, number);
+    Table::put_natural(table, k, Table::WAITING, waiting + 1);
+    Table::put_count(table, number);
+}
+
+// Whether the arguments are in their limits. A size too large is another cause.
+fn request_limits(client: i64, size: i64) -> bool
+    ensures { λ r. ⌜ r ≡ every (withinℤ 0 lastNode client ∷ leZ (pos 1) size ∷ []) ⌝ }
+{
+    let client_fits = numbers::within(client, 0, Table::LAST_NODE);
+    let size_fits = numbers::at_most(1, size);
+    client_fits & size_fits
+}
+
+// The number of the first cause that turns a request back, or 0.
+fn request_refusal(table: &[i64], client: i64, tag: i64, size: i64) -> u64
+    ensures first { λ r. ⌜ r ≡ requestRefusal (now (table .entry)) client tag size ⌝ }
+    ensures small { λ r. ⌜ r ≤ 12 ⌝ }
+{
+    if !order::in_order(table) {
+        return 1;
+    }
+    if !request_limits(client, size) {
+        return 2;
+    }
+    let k = numbers::natural(client) as usize;
+    if !rating::tree::there(table, k) {
+        return 3;
+    }
+    if rating::tree::is_class(table, k) {
+        return 5;
+    }
+    if Table::natural(table, k, Table::DEPTH) < numbers::natural(size) {
+        return 8;
+    }
+    if Table::natural(table, k, Table::WAITING) == Table::MOST_WAITING {
+        return 11;
+    }
+    if Table::count(table) == Table::GREATEST_COUNT {
+        return 12;
+    }
+    0
+}
+
+// Request. Document 01, "Calls".
+pub fn request(table: &mut [i64], client: i64, tag: i64, size: i64) -> Answer
+    ensures answer { λ r. ⌜ told r ≡ requestAnswer (now (table .entry)) client tag size ⌝ }
+    ensures table { λ _. ⌜ now (table .exit) ≡ requestTable (now (table .entry)) client tag size ⌝ }
+{
+    let number = request_refusal(table, client, tag, size);
+    if number != 0 {
+        return table::answered(number, 0);
+    }
+    let arrival = Table::count(table) + 1;
+    write_request(table, numbers::natural(client) as usize, tag, size);
+    Answer::Accepted(numbers::whole(arrival))
+}
