@@ -4,7 +4,7 @@ ghost use Prim.Native.Nat.{_<_};
 ghost use lib.ListN.{length};
 ghost use Rattle.numbers.specs.Whole.{sameℤ};
 ghost use Rattle.numbers.specs.Below.{allBelow};
-ghost use Rattle.table.specs.Limits.{tableLength, nodes, rateAt};
+ghost use Rattle.table.specs.Limits.{tableLength, recordLength, nodes, rateAt};
 ghost use Rattle.table.specs.Places.{place};
 ghost use Rattle.table.specs.Answers.{toldCompared};
 ghost use Rattle.table.specs.Calls.{sameTree, sameAnswer};
@@ -14,7 +14,7 @@ use table::Table;
 
 // Whether place p of node k is the same in both.
 fn same_place(first: &[i64], second: &[i64], k: usize, p: usize) -> bool
-    requires { ⌜ (length (now first) ≡ tableLength) × (length (now second) ≡ tableLength) × (k < nodes) × (p < 40) ⌝ }
+    requires { ⌜ (length (now first) ≡ tableLength) × (length (now second) ≡ tableLength) × (k < nodes) × (p < recordLength) ⌝ }
     ensures { λ r. ⌜ r ≡ sameℤ (place (now (first .entry)) k p) (place (now (second .entry)) k p) ⌝ }
 {
     numbers::equal(Table::get(first, k, p), Table::get(second, k, p))
