@@ -1,0 +1,38 @@
+-- The lines of a table whose rates were renewed show the rates of the rates section.
+use Prim.Native.Nat.{ℕ, zero, suc, _<_}
+use mathlib.Core.Path.{_≡_, refl, sym, ap, _∙_}
+use mathlib.Core.Bool.{cond}
+use mathlib.Core.List.{List, []}
+use native.Mathlib.Omega.{arith}
+use lib.ListN.{length}
+use lib.IntN.{ℤ}
+use Rattle.numbers.specs.Whole.{plus}
+use Rattle.numbers.proofs.Tests.{by-test, cond-true, cond-false}
+use Rattle.table.specs.Places.{rate}
+use Rattle.table.specs.Tree.{Tree, treeOf, there, isClass}
+use Rattle.table.specs.Rates.{rateIn, renewed}
+use Rattle.laws.proofs.Renewed.{renewed-rate, renewed-tree}
+use Rattle.layout.specs.Bytes.{bytesBelow}
+use Rattle.report.specs.Text.{nodeLine, line, linesOf}
+use Rattle.report.proofs.Lines.{line-of, line-none}
+
+-- The line of node k by the tree and the disk's rate.
+unfoldable pub lineIn : Tree → ℕ → ℕ → List ℕ
+lineIn tree disk k = cond (there tree k) (nodeLine k (isClass tree k) (rateIn tree disk k)) []
+
+bytes-cong : (n : ℕ) (f g : ℕ → List ℕ) → ((k : ℕ) → k < n → f k ≡ g k) → bytesBelow n f ≡ bytesBelow n g
+unfolding bytesBelow
+bytes-cong zero f g h = refl
+bytes-cong (suc n) f g h = rw (bytes-cong n f g (λ k l. h k (omega arith)), h n (omega arith))
+
+module _ (t : List ℤ) (long : length t ≡ 2568) where
+  line-renewed : (k : ℕ) → k < 64 → line (renewed t) k ≡ lineIn (treeOf t) (rate t 0) k
+  unfolding lineIn rate plus
+  line-renewed k small =
+      by-test (there (treeOf t) k)
+      (λ e. sym (line-of (renewed t) k _ _ (rw (renewed-tree t) e) (ap (λ (tree : Tree). isClass tree k) (sym (renewed-tree t))) (sym (ap plus (renewed-rate t long k small e)))) ∙ sym (cond-true (there (treeOf t) k) _ [] e))
+      (λ e. line-none (renewed t) k (rw (renewed-tree t) e) ∙ sym (cond-false (there (treeOf t) k) _ [] e))
+
+  pub lines-renewed : linesOf (renewed t) ≡ bytesBelow 64 (lineIn (treeOf t) (rate t 0))
+  unfolding linesOf
+  lines-renewed = bytes-cong 64 (line (renewed t)) (lineIn (treeOf t) (rate t 0)) line-renewed

@@ -1,0 +1,55 @@
+-- The text that is printed for a plan. Document 01, "Same tree, and the plan file".
+use Prim.Native.Nat.{ℕ, zero, suc, _+_, _/_, _%_}
+use Prim.Native.Char.{code}
+use Prim.Native.String.{String, [] as end, _∷_ as _then_}
+use mathlib.Core.Bool.{Bool, cond}
+use mathlib.Core.List.{List, [], _∷_, _++_}
+use lib.Dec.{eqb, ltb}
+use lib.IntN.{ℤ}
+use Rattle.table.specs.Limits.{nodes}
+use Rattle.table.specs.Places.{rate}
+use Rattle.table.specs.Tree.{treeOf, there, isClass}
+use Rattle.table.specs.Calls.{blank}
+use Rattle.layout.specs.Bytes.{bytesBelow}
+use Rattle.planlaws.specs.Reading.{planTable, checkAnswer}
+
+-- The ASCII codes of a text.
+unfoldable pub ascii : String → List ℕ
+ascii end = []
+ascii (c then s) = code c ∷ ascii s
+
+-- The ASCII code of a digit.
+abbrev pub digit : ℕ → ℕ
+digit d = code "0" + d
+
+-- The decimal digits of n without leading zeros, where n is below 10 ^ m.
+unfoldable pub decimalWithin : ℕ → ℕ → List ℕ
+decimalWithin zero n = []
+decimalWithin (suc m) n = cond (ltb n 10) (digit n ∷ []) (decimalWithin m (n / 10) ++ (digit (n % 10) ∷ []))
+
+-- The same for n below 10 ^ 20, as every number of 64 bits is.
+unfoldable pub decimal : ℕ → List ℕ
+decimal n = decimalWithin 20 n
+
+-- The word of a sort, and the line of a node: node, sort, rate.
+unfoldable pub sortText : Bool → List ℕ
+sortText class = cond class (ascii " class ") (ascii " client ")
+
+unfoldable pub nodeLine : ℕ → Bool → ℕ → List ℕ
+nodeLine node class rate = decimal node ++ sortText class ++ decimal rate ++ ascii "\n"
+
+-- The line of node k of a table, where it is there.
+unfoldable pub line : List ℤ → ℕ → List ℕ
+line t k = cond (there (treeOf t) k) (nodeLine k (isClass (treeOf t) k) (rate t k)) []
+
+-- One line for each node in rising number.
+unfoldable pub linesOf : List ℤ → List ℕ
+linesOf t = bytesBelow nodes (line t)
+
+-- The line of a refused plan.
+unfoldable pub refusedLine : ℕ → List ℕ
+refusedLine number = ascii "refused " ++ decimal number ++ ascii "\n"
+
+-- The text for plan bytes: the lines of the table that they are read into, or the line of their refusal.
+unfoldable pub reportOf : List ℕ → List ℕ
+reportOf s = cond (eqb (checkAnswer s) 0) (linesOf (planTable blank s)) (refusedLine (checkAnswer s))

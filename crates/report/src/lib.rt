@@ -1,0 +1,89 @@
+// The text that is printed for a plan. Document 01, "Same tree, and the plan file". A function `put_..` puts bytes into a
+// text from place a on, or from the start on, and answers the place behind them.
+ghost use mathlib.Core.Path.{_≡_};
+ghost use Prim.Native.Nat.{ℕ, _+_, _<_, _≤_};
+ghost use lib.ListN.{length, take};
+ghost use Rattle.io.specs.Counts.{Counts};
+ghost use Rattle.table.specs.Limits.{tableLength, nodes};
+ghost use Rattle.report.specs.Appended.{Appended};
+ghost use Rattle.report.specs.Text.{sortText, nodeLine, line, linesOf, refusedLine, reportOf};
+
+mod pieces;
+
+use rating::tree;
+use table::Table;
+
+// The word of a sort.
+fn put_sort(text: &mut [u8], a: usize, class: bool) -> usize
+    requires { ⌜ a + 8 ≤ length (now text) ⌝ }
+    ensures { λ r. ⌜ Appended (now (text .entry)) a (sortText class) (now (text .exit)) r ⌝ }
+{
+    if class {
+        pieces::put_text(text, a, b" class ")
+    } else {
+        pieces::put_text(text, a, b" client ")
+    }
+}
+
+// The line of a node: node, sort, rate.
+fn put_node(text: &mut [u8], a: usize, node: u64, class: bool, rate: u64) -> usize
+    requires { ⌜ a + 49 ≤ length (now text) ⌝ }
+    ensures { λ r. ⌜ Appended (now (text .entry)) a (nodeLine node class rate) (now (text .exit)) r ⌝ }
+{
+    let sort_at = pieces::put_decimal(text, a, node);
+    let rate_at = put_sort(text, sort_at, class);
+    let end = pieces::put_decimal(text, rate_at, rate);
+    pieces::put_text(text, end, b"\n")
+}
+
+// The line of node k of a table where it is there, else nothing.
+fn put_line(text: &mut [u8], a: usize, table: &[i64], k: usize) -> usize
+    requires { ⌜ (a + 49 ≤ length (now text)) × (length (now table) ≡ tableLength) × (k < nodes) ⌝ }
+    ensures { λ r. ⌜ Appended (now (text .entry)) a (line (now (table .entry)) k) (now (text .exit)) r ⌝ }
+{
+    if !tree::there(table, k) {
+        return a;
+    }
+    let class = tree::is_class(table, k);
+    let rate = Table::natural(table, k, Table::RATE);
+    put_node(text, a, k as u64, class, rate)
+}
+
+// One line for each node in rising number.
+fn put_lines(text: &mut [u8], table: &[i64]) -> usize
+    requires { ⌜ (4096 ≤ length (now text)) × (length (now table) ≡ tableLength) ⌝ }
+    ensures { λ r. ⌜ Appended (now (text .entry)) 0 (linesOf (now (table .entry))) (now (text .exit)) r ⌝ }
+{
+    let mut a: usize = 0;
+    let mut k: usize = 0;
+    while k < Table::NODES {
+        a = put_line(text, a, table, k);
+        k += 1;
+    }
+    a
+}
+
+// The line of a refused plan.
+fn put_refused(text: &mut [u8], number: u64) -> usize
+    requires { ⌜ 4096 ≤ length (now text) ⌝ }
+    ensures { λ r. ⌜ Appended (now (text .entry)) 0 (refusedLine number) (now (text .exit)) r ⌝ }
+{
+    let number_at = pieces::put_text(text, 0, b"refused ");
+    let end = pieces::put_decimal(text, number_at, number);
+    pieces::put_text(text, end, b"\n")
+}
+
+// The text that is printed for a plan, at the start of a buffer; its length.
+pub fn report(contents: &[u8], text: &mut [u8; 4096]) -> usize
+    ensures count { λ r. ⌜ Counts r (now (text .exit)) ⌝ }
+    ensures text { λ r. ⌜ take r (now (text .exit)) ≡ reportOf (now (contents .entry)) ⌝ }
+{
+    let mut table = [0i64; 2568];
+    let answer = plan::read(&mut table, contents);
+    let number = table::number_told(answer);
+    if number == 0 {
+        put_lines(text, &table)
+    } else {
+        put_refused(text, number)
+    }
+}
