@@ -1,6 +1,1 @@
-pub mod Limits
-pub mod Way
-pub mod Charged
-pub mod Next
-pub mod Sweeps
 pub mod Listed

@@ -1,17 +1,14 @@
-// What a tick is made of: suppliers, charges, dispatches, and the steps in which balances grow and are cut.
+// One dispatch: the entry is written, the supplier charged and the request taken out.
 ghost use mathlib.Core.Path.{_≡_};
 ghost use Prim.Native.Nat.{_+_, _*_, _<_, _≤_};
 ghost use lib.ListN.{length};
 ghost use Rattle.table.specs.Limits.{nodes, entryLength};
 ghost use Rattle.table.specs.Places.{waiting};
-ghost use Rattle.dispatch.specs.Within.{Within};
+ghost use Rattle.balances.specs.Within.{Within};
 ghost use Rattle.dispatch.specs.Entries.{tableAfter, listAfter};
 
-pub mod charging;
-pub mod entries;
-pub mod queue;
-pub mod steps;
-pub mod supply;
+mod entries;
+mod queue;
 
 use table::Table;
 
@@ -24,6 +21,6 @@ pub fn dispatch(table: &mut [i64], list: &mut [i64], n: usize, k: usize, s: usiz
     let tag = Table::get(table, k, Table::QUEUE + Table::TAG);
     let size = Table::natural(table, k, Table::QUEUE + Table::SIZE);
     entries::write_entry(list, n, k, tag, size, s);
-    charging::charge(table, size * Table::GRAIN_SCALE, s);
+    balances::charge(table, size * Table::GRAIN_SCALE, s);
     queue::take_out(table, k);
 }

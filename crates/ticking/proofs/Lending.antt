@@ -13,7 +13,7 @@ use Rattle.ticks.proofs.Cut.{cut-reached, cut-under}
 use Rattle.ticks.proofs.Dispatch.{Dispatch}
 use Rattle.ticks.proofs.Next.{supplied-facts, next-found}
 use Rattle.ticks.proofs.Lent.{Settled, lent-again, lent-done, lent-dispatch, lent-settled, waiting-falls}
-use Rattle.dispatch.specs.Within.{Within}
+use Rattle.balances.specs.Within.{Within}
 use Rattle.dispatch.specs.Entries.{tableAfter}
 use Rattle.dispatch.proofs.Listed.{next-table}
 use Rattle.ticking.specs.Steps.{Lending, was-cut, lent-one, lending}

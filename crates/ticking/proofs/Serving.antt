@@ -22,7 +22,7 @@ use Rattle.ticks.proofs.Grown.{grown-swept, grown-reached}
 use Rattle.ticks.proofs.Dispatch.{Dispatch, dispatch, dispatch-reached, dispatch-falls, dispatch-entry}
 use Rattle.ticks.proofs.Served.{served-again, served-done, served-keeps, ready-facts, client-at, client-room}
 use Rattle.ticks.proofs.Lent.{waiting-falls}
-use Rattle.dispatch.specs.Within.{Within}
+use Rattle.balances.specs.Within.{Within}
 use Rattle.dispatch.specs.Entries.{tableAfter}
 use Rattle.dispatch.proofs.Listed.{next-table}
 use Rattle.ticking.specs.Steps.{Serving, grew, served-one, Shows, serving}

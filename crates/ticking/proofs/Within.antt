@@ -21,7 +21,7 @@ use Rattle.ticks.proofs.Queues.{queues-of}
 use Rattle.ticks.proofs.Reached.{Reached, reached-first, reached-long}
 use Rattle.ticks.proofs.Grown.{rate-in-order}
 use Rattle.ticks.proofs.Lent.{Settled}
-use Rattle.dispatch.specs.Within.{Within}
+use Rattle.balances.specs.Within.{Within}
 
 -- A table that a tick has reached from a table in order, with balances far from the end of 64 bits.
 pub record Way (u : List ℤ) : Type 0 where

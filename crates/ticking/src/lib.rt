@@ -7,10 +7,8 @@ ghost use lib.ListN.{length};
 ghost use Rattle.table.specs.Limits.{nodes, entryLength};
 ghost use Rattle.table.specs.Order.{inOrder};
 ghost use Rattle.table.specs.Tick.{ready, servedAll, ticked, listed, allWaiting};
-ghost use Rattle.dispatch.specs.Within.{Within};
+ghost use Rattle.balances.specs.Within.{Within};
 ghost use Rattle.ticking.specs.Steps.{Serving, Lending, Shows, Follows, serving, lending};
-use dispatch::steps;
-use dispatch::supply;
 use table::Table;
 
 // All waiting requests.
@@ -34,7 +32,7 @@ fn ready(table: &[i64], k: usize) -> bool
         return false;
     }
     let amount = Table::natural(table, k, Table::QUEUE + Table::SIZE) * Table::GRAIN_SCALE;
-    supply::enough(table, amount, k)
+    suppliers::enough(table, amount, k)
 }
 
 // Step 2 for client k: while its oldest request is ready, it is dispatched with the client as supplier, as an entry behind the n
@@ -71,11 +69,11 @@ fn lend(table: &mut [i64], list: &mut [i64], n: usize) -> usize
 {
     let mut written = n;
     loop {
-        let k = supply::next_client(table);
+        let k = suppliers::next_client(table);
         if k == Table::NODES {
             break;
         }
-        let s = supply::supplier_of(table, k);
+        let s = suppliers::supplier_of(table, k);
         dispatch::dispatch(table, list, written, k, s);
         written += 1;
     }
@@ -89,8 +87,8 @@ pub fn run(table: &mut [i64], list: &mut [i64]) -> usize
     ensures list { λ _. ⌜ now (list .exit) ≡ listed (ticked (now (table .entry)) .entries) (now (list .entry)) ⌝ }
     ensures count { λ r. ⌜ entryLength * r ≡ length (ticked (now (table .entry)) .entries) ⌝ }
 {
-    steps::grow(table);
+    balances::grow(table);
     let n = serve_all(table, list);
-    steps::cut(table);
+    balances::cut(table);
     lend(table, list, n)
 }

@@ -13,8 +13,8 @@ use Rattle.table.specs.Places.{place, waiting, tag, size}
 use Rattle.table.specs.Tree.{treeOf}
 use Rattle.table.specs.Tick.{grains, charge, takenOut, dispatched}
 use Rattle.dispatch.specs.Entries.{entered, tableAfter, listAfter}
-use Rattle.dispatch.proofs.Limits.{size-at}
-use Rattle.dispatch.proofs.Charged.{charge-place}
+use Rattle.balances.proofs.Limits.{size-at}
+use Rattle.balances.proofs.Charged.{charge-place}
 use Rattle.dispatch.proofs.dispatch.Statement.{statement}
 use Rattle.dispatch.proofs.dispatch.Tie as tie
 

@@ -4,7 +4,7 @@ use mathlib.Core.Path.{sym, ap, _∙_}
 use native.Mathlib.Omega.{arith}
 use borrow.Author.Needs.{needs}
 use Rattle.table.specs.Tick.{enough}
-use Rattle.dispatch.proofs.Limits.{size-at}
+use Rattle.balances.proofs.Limits.{size-at}
 use Rattle.ticking.proofs.Serving.{not-waiting, is-waiting}
 use Rattle.ticking.proofs.ready.Statement.{statement}
 use Rattle.ticking.proofs.ready.Tie as tie

@@ -1,0 +1,2 @@
+mod Way
+mod Next

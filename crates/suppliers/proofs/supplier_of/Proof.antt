@@ -1,0 +1,105 @@
+-- `suppliers::supplier_of` meets its contract. The invariant: the supplier on what is left of the way is the one on the
+-- whole way. The measure is the level.
+use Prim.Native.Nat.{ℕ, _*_, _-_, _<_}
+use mathlib.Core.Path.{_≡_, sym, ap, ap₂, _∙_}
+use native.Mathlib.Omega.{arith}
+use Rattle.table.specs.Places.{size}
+use Rattle.table.specs.Tree.{treeOf}
+use Rattle.table.specs.Tick.{grains, supplierFrom, supplier}
+use Rattle.balances.proofs.Limits.{parent-at, size-at}
+use Rattle.suppliers.proofs.Way.{supplier-here, supplier-none, supplier-above}
+use Rattle.suppliers.proofs.supplier_of.Statement.{statement}
+use Rattle.suppliers.proofs.supplier_of.Tie as tie
+
+abbrev Inv-loop : tie.InvT-loop
+Inv-loop table k amount level₀ node₀ level node =
+    (node < 64) × (amount ≡ grains (size table k 0)) × (supplierFrom table amount level node ≡ supplier table k)
+
+abbrev μ-loop : tie.MeasureT-loop
+μ-loop table k amount level₀ node₀ level node = level
+
+add-natural : tie.Need-add-natural Inv-loop μ-loop
+add-natural c = omega arith
+
+natural-requires : tie.Need-natural-requires Inv-loop μ-loop
+natural-requires c κs = (c .pre .0 .long, c .pre .1, omega arith)
+
+mul-amount : tie.Need-mul-amount Inv-loop μ-loop
+mul-amount c = omega (arith, c .natural .ensures, size-at _ (c .before .pre .0) (c .before .args .k) (c .before .pre .1))
+
+natural-requires-2 : tie.Need-natural-requires-2 Inv-loop μ-loop
+natural-requires-2 c κs = (c .before .pre .0 .long, c .before .pre .1, omega arith)
+
+-- The amount is that of the oldest request.
+amount-is : (c : tie.After-natural Inv-loop μ-loop) → c .natural .result * 1000 ≡ grains (size (c .before .args .table .now) (c .before .args .k) 0)
+unfolding size grains
+amount-is c = ap (λ (n : ℕ). n * 1000) (c .natural .ensures)
+
+loop-holds : tie.Need-loop-holds Inv-loop μ-loop
+unfolding treeOf supplier
+loop-holds c =
+    let start = c .before .before in (
+      start .pre .1,
+      amount-is (c .before),
+      ap₂ (λ (a l : ℕ). supplierFrom (start .args .table .now) a l (start .args .k)) (amount-is (c .before)) (c .natural2 .ensures),
+    )
+
+enough-requires : tie.Need-enough-requires Inv-loop μ-loop
+enough-requires c κs =
+    let start = c .before .before .before in
+    (start .pre .0 .long, c .loop .inv .0, omega (arith, c .before .before .natural .ensures, size-at _ (start .pre .0) (start .args .k) (start .pre .1)))
+
+natural-requires-3 : tie.Need-natural-requires-3 Inv-loop μ-loop
+natural-requires-3 c κs =
+    let at = c .before .before .before in
+    (at .before .before .before .pre .0 .long, at .loop .inv .0, omega arith)
+
+sub-level : tie.Need-sub-level Inv-loop μ-loop
+sub-level c = omega (arith, c .before .if2 .left)
+
+loop-less : tie.Need-loop-less Inv-loop μ-loop
+loop-less c = omega (arith, c .before .if2 .left)
+
+loop-again : tie.Need-loop-again Inv-loop μ-loop
+unfolding treeOf
+loop-again c =
+    let at = c .before .before .before .before in
+    let start = at .before .before .before in
+    let table = start .args .table .now in
+    let amount = at .before .before .natural .result * 1000 in
+    let level = at .loop .level in (
+      omega (arith, c .natural3 .ensures, parent-at table (start .pre .0) (at .loop .node) (at .loop .inv .0)),
+      at .loop .inv .1,
+      ap (supplierFrom table amount (level - 1)) (c .natural3 .ensures)
+          ∙ sym (supplier-above table amount level (at .loop .node) (c .before .if2 .left) (sym (c .before .before .before .enough .ensures) ∙ c .before .before .if1 .left))
+          ∙ at .loop .inv .2,
+    )
+
+returns : tie.Need-returns Inv-loop μ-loop
+returns c =
+    let at = c .before .before .loop in
+    sym (supplier-here _ _ (at .level) (at .node) (sym (c .before .enough .ensures) ∙ c .if1 .taken)) ∙ at .inv .2
+
+returns-2 : tie.Need-returns-2 Inv-loop μ-loop
+returns-2 c =
+    let at = c .before .before .before .loop in
+    sym (supplier-none _ _ (at .level) (at .node) (c .if2 .taken) (sym (c .before .before .enough .ensures) ∙ c .before .if1 .left)) ∙ at .inv .2
+
+pub supplier-of-spec : {M : Type 1} → statement M
+supplier-of-spec =
+    tie.close
+    (tie.spec
+    Inv-loop
+    μ-loop
+    add-natural
+    natural-requires
+    mul-amount
+    natural-requires-2
+    loop-holds
+    enough-requires
+    natural-requires-3
+    sub-level
+    loop-less
+    loop-again
+    returns
+    returns-2)
