@@ -4,7 +4,6 @@ use Prim.Native.Nat.{ℕ, zero, suc, _+_}
 use mathlib.Core.Bool.{Bool, true, false, not, cond, _||_}
 use mathlib.Core.List.{List, [], _∷_}
 use lib.Dec.{eqb, ltb}
-use lib.IntN.{ℤ}
 use Rattle.numbers.specs.Whole.{plus}
 use Rattle.numbers.specs.Tests.{every}
 use Rattle.table.specs.Tree.{Tree}

@@ -5,7 +5,6 @@ use mathlib.Core.Path.{_≡_}
 use mathlib.Core.Bool.{true}
 use mathlib.Core.List.{List}
 use lib.IntN.{ℤ}
-use Rattle.numbers.specs.Whole.{plus}
 use Rattle.table.specs.Limits.{root, grainScale}
 use Rattle.table.specs.Tree.{isClass, isClient}
 use Rattle.table.specs.Calls.{openRefusal, openTable}

@@ -1,9 +1,9 @@
 -- What an observer knows from calls, answers and lists alone: the tree, the disk's rate, and for each client how many
 -- requests were accepted and how many entries dispatched since its join. Document 01, "What demand 3 counts".
 use Prim.Native.Nat.{ℕ, zero, suc, _+_}
-use mathlib.Core.Bool.{Bool, true, false, cond}
+use mathlib.Core.Bool.{cond}
 use mathlib.Core.List.{List, [], _∷_}
-use lib.ListN.{length, getD, drop}
+use lib.ListN.{getD, drop}
 use lib.Dec.{eqb}
 use lib.IntN.{ℤ, pos}
 use Rattle.numbers.specs.Whole.{plus}

@@ -1,6 +1,6 @@
 // Nodes in their plan bytes and in their joins.
 ghost use mathlib.Core.Path.{_≡_};
-ghost use Prim.Native.Nat.{ℕ, _≤_};
+ghost use Prim.Native.Nat.{_≤_};
 ghost use Rattle.layout.specs.Nodes.{shareIn, weightedIn, heldBy, sortIn, kindIn};
 use crate::Share;
 use crate::Sort;

@@ -1,6 +1,6 @@
 // Where the parts of a plan stand, whether its bytes are well formed, and its nodes.
 ghost use mathlib.Core.Path.{_≡_};
-ghost use Prim.Native.Nat.{ℕ, _+_, _*_, _≤_, _<_};
+ghost use Prim.Native.Nat.{_+_, _*_, _≤_, _<_};
 ghost use lib.ListN.{length};
 ghost use Rattle.numbers.specs.Below.{allBelow};
 ghost use Rattle.layout.specs.Nodes.{shareIn, heldBy, entryBy};

@@ -1,7 +1,7 @@
 // The text that is printed for a plan. Document 01, "Same tree, and the plan file". A function `put_..` puts bytes into a
 // text from place a on, or from the start on, and answers the place behind them.
 ghost use mathlib.Core.Path.{_≡_};
-ghost use Prim.Native.Nat.{ℕ, _+_, _<_, _≤_};
+ghost use Prim.Native.Nat.{_+_, _<_, _≤_};
 ghost use lib.ListN.{length, take};
 ghost use Rattle.io.specs.Counts.{Counts};
 ghost use Rattle.table.specs.Limits.{tableLength, nodes};

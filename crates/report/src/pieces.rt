@@ -1,6 +1,5 @@
 // Pieces of a text, each put from place a on. The answer is the place behind it.
-ghost use mathlib.Core.Path.{_≡_};
-ghost use Prim.Native.Nat.{ℕ, _+_, _≤_};
+ghost use Prim.Native.Nat.{_+_, _≤_};
 ghost use lib.ListN.{length};
 ghost use Rattle.report.specs.Appended.{Appended};
 ghost use Rattle.report.specs.Text.{decimal};

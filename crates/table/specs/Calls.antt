@@ -1,10 +1,10 @@
 -- The calls but for tick: their refusals, the table after and the answer. Document 01, "Calls" and "What is turned back".
 -- Arguments are any whole numbers. A node number that is in its limits is read by its natural part.
-use Prim.Native.Nat.{ℕ, suc, _+_, _*_}
-use mathlib.Core.Bool.{Bool, true, false, not, cond, _||_}
+use Prim.Native.Nat.{ℕ, suc, _+_}
+use mathlib.Core.Bool.{Bool, not, cond, _||_}
 use mathlib.Core.List.{List, [], _∷_}
 use lib.ListN.{length, replicate}
-use lib.Dec.{eqb, leb, ltb}
+use lib.Dec.{eqb, ltb}
 use lib.IntN.{ℤ, pos}
 use lib.Signed.{ltZ, leZ}
 use Rattle.numbers.specs.Whole.{plus, sameℤ, withinℤ}

@@ -1,12 +1,12 @@
 -- When a table is in order, clause by clause. Document 01, "The table".
 use Prim.Native.Nat.{ℕ, suc, _+_, _*_, _-_}
-use mathlib.Core.Bool.{Bool, true, false, not, cond, _||_}
+use mathlib.Core.Bool.{Bool, not, cond, _||_}
 use mathlib.Core.List.{List, [], _∷_}
 use lib.ListN.{length}
 use lib.Dec.{eqb, leb, ltb}
 use lib.IntN.{ℤ, pos, _+ℤ_}
 use lib.Signed.{leZ}
-use Rattle.numbers.specs.Whole.{plus, sameℤ, withinℤ}
+use Rattle.numbers.specs.Whole.{sameℤ, withinℤ}
 use Rattle.numbers.specs.Tests.{every}
 use Rattle.numbers.specs.Below.{allBelow, sumℤBelow}
 use Rattle.table.specs.Limits.{tableLength, headerLength, recordLength, nodes, lastNode, root, class, client, fixed, lastClassLevel, lastLevel, wholeShare, greatestDepth, greatestRate, greatestCount, mostWaiting, requestLength, queueAt, queueLength, spareAt, spareLength, sortAt, parentAt, levelAt, kindAt, shareAt, depthAt, rateAt, waitingAt, sizeAt, arrivalAt}

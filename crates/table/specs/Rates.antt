@@ -1,12 +1,12 @@
 -- Document 01, "Rates". A node's rate goes by the tree and the disk's rate alone, level by level from the root.
 use Prim.Native.Nat.{ℕ, zero, suc, _*_, _/_, _-_}
-use mathlib.Core.Bool.{Bool, true, false, cond}
+use mathlib.Core.Bool.{cond}
 use mathlib.Core.List.{List}
 use lib.IntN.{ℤ, pos}
 use Rattle.numbers.specs.Below.{forBelow}
 use Rattle.table.specs.Limits.{nodes, root, rateAt, wholeShare}
-use Rattle.table.specs.Places.{place, put, rate}
-use Rattle.table.specs.Tree.{Tree, treeOf, there, isFixed, countIf, sumUnder}
+use Rattle.table.specs.Places.{put, rate}
+use Rattle.table.specs.Tree.{Tree, treeOf, there, isFixed, sumUnder}
 
 -- The sum of the fixed shares under class c, and that of the weights.
 unfoldable pub fixedShare : Tree → ℕ → ℕ

@@ -3,7 +3,7 @@ use Prim.Native.Nat.{ℕ, zero, suc, _+_, _*_, _-_, _/_}
 use mathlib.Core.Bool.{Bool, true, false, not, cond, _||_}
 use mathlib.Core.List.{List, [], _∷_, _++_}
 use lib.ListN.{length, drop}
-use lib.Dec.{eqb, leb, ltb}
+use lib.Dec.{eqb, ltb}
 use lib.IntN.{ℤ, pos, _+ℤ_, _-ℤ_}
 use lib.Signed.{leZ}
 use Rattle.numbers.specs.Tests.{every}
@@ -12,7 +12,7 @@ use Rattle.table.specs.Limits.{nodes, balanceAt, waitingAt, queueAt, que
 use Rattle.table.specs.Places.{place, put, rate, balance, waiting, depthGrains, tag, size, arrival}
 use Rattle.table.specs.Tree.{treeOf}
 use Rattle.table.specs.Order.{inOrder}
-use Rattle.table.specs.Refusals.{Cause, cause, first, Outcome, outcome, kept}
+use Rattle.table.specs.Refusals.{cause, first, Outcome, outcome, kept}
 
 -- What a request of this size is charged, in grains.
 unfoldable pub grains : ℕ → ℕ

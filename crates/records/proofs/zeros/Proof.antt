@@ -1,10 +1,10 @@
 -- `records::zeros` meets its contract. The invariant: the bits joined so far are zero just where each number so far is.
-use Prim.Native.Nat.{ℕ, _+_, _≤_, _-_}
-use mathlib.Core.Path.{_≡_, refl, sym, ap, _∙_}
+use Prim.Native.Nat.{_+_, _≤_, _-_}
+use mathlib.Core.Path.{_≡_, refl, ap, _∙_}
 use native.Mathlib.Omega.{arith}
 use lib.ListN.{getD}
-use lib.IntN.{ℤ, pos}
-use borrow.Author.Needs.{needs, sfits-of}
+use lib.IntN.{pos}
+use borrow.Author.Needs.{sfits-of}
 use mir.Syntax.{w64}
 use mir.Val.{toZ}
 use mir.Facts.{toZ-ofZ}

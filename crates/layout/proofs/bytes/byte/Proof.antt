@@ -1,5 +1,4 @@
 -- `layout::bytes::byte` meets its contract.
-use mathlib.Core.Path.{_≡_}
 use native.Mathlib.Omega.{arith}
 use Rattle.layout.specs.Bytes.{byteAt}
 use borrow.Author.Needs.{needs}

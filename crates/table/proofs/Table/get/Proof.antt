@@ -1,7 +1,4 @@
 -- `table::Table::get` meets its contract: the index is that of the place.
-use mir.Syntax.{w64}
-use mir.ValLaws.{toZ-ofZ}
-use borrow.Author.Needs.{sfits-of}
 use Rattle.table.specs.Places.{place}
 use borrow.Author.Needs.{needs}
 use Rattle.table.proofs.Table.get.Statement.{statement}

@@ -1,7 +1,6 @@
 -- `table::Table::open` meets its contract: refused, nothing is written; accepted, the table is cleared and the root made.
 use Prim.Native.Nat.{ℕ}
 use mathlib.Core.Path.{_≡_, sym, ap, _∙_}
-use native.Mathlib.Omega.{arith}
 use mir.Syntax.{w64}
 use mir.ValLaws.{toZ-ofZ}
 use Rattle.table.specs.Answers.{told}

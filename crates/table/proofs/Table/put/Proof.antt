@@ -1,5 +1,4 @@
 -- `table::Table::put` meets its contract: the index is that of the place.
-use mir.Syntax.{w64}
 use Rattle.table.specs.Places.{put}
 use borrow.Author.Needs.{needs}
 use Rattle.table.proofs.Table.put.Statement.{statement}
