@@ -1,12 +1,11 @@
--- `reading::join_numbers` meets its contract.
-use native.Mathlib.Omega.{arith}
-use lib.IntN.{pos}
+-- `reading::join_numbers` meets its contract: the numbers are given to join as they are.
+use mathlib.Core.Path.{ap, _∙_}
 use mir.Syntax.{w64}
 use mir.ValLaws.{toZ-ofZ}
-use borrow.Author.Needs.{sfits-of}
-use Rattle.table.specs.Calls.{done, joinRefusal, joinAnswer}
+use Rattle.table.specs.Calls.{done, joinAnswer}
+use Rattle.table.specs.Refusals.{numberTold}
 use Rattle.table.proofs.Refusals.{number-outcome}
-use borrow.Author.Needs.{needs}
+use borrow.Author.Needs.{needs, sfits-of}
 use Rattle.reading.proofs.join_numbers.Statement.{statement}
 use Rattle.reading.proofs.join_numbers.Tie as tie
 
@@ -40,10 +39,15 @@ same-length c = search needs
 returns : tie.Need-returns
 unfolding joinAnswer
 returns c =
-    let a = c .before .before .before .before .before .before .before .before .before .before .args in (
-      cc (toZ-ofZ w64 (c .before .before .before .before .before .before .before .before .whole .result) (sfits-of (c .before .before .before .before .before .before .before .before .whole .ok)), toZ-ofZ w64 (c .before .before .before .before .before .before .before .whole2 .result) (sfits-of (c .before .before .before .before .before .before .before .whole2 .ok)), toZ-ofZ w64 (c .before .before .before .before .before .before .whole3 .result) (sfits-of (c .before .before .before .before .before .before .whole3 .ok)), toZ-ofZ w64 (c .before .before .before .before .before .whole4 .result) (sfits-of (c .before .before .before .before .before .whole4 .ok)), toZ-ofZ w64 (c .before .before .before .before .whole5 .result) (sfits-of (c .before .before .before .before .whole5 .ok)), toZ-ofZ w64 (c .before .before .before .whole6 .result) (sfits-of (c .before .before .before .whole6 .ok)), number-outcome (joinRefusal (a .table .now) (pos (a .node)) (pos (a .parent)) (pos (a .sort)) (pos (a .kind)) (pos (a .share)) (pos (a .depth))) done),
-      (omega arith, cc (toZ-ofZ w64 (c .before .before .before .before .before .before .before .before .whole .result) (sfits-of (c .before .before .before .before .before .before .before .before .whole .ok)), toZ-ofZ w64 (c .before .before .before .before .before .before .before .whole2 .result) (sfits-of (c .before .before .before .before .before .before .before .whole2 .ok)), toZ-ofZ w64 (c .before .before .before .before .before .before .whole3 .result) (sfits-of (c .before .before .before .before .before .before .whole3 .ok)), toZ-ofZ w64 (c .before .before .before .before .before .whole4 .result) (sfits-of (c .before .before .before .before .before .whole4 .ok)), toZ-ofZ w64 (c .before .before .before .before .whole5 .result) (sfits-of (c .before .before .before .before .whole5 .ok)), toZ-ofZ w64 (c .before .before .before .whole6 .result) (sfits-of (c .before .before .before .whole6 .ok)))),
-    )
+    let w = c .before .before .before in
+    let node = toZ-ofZ w64 _ (sfits-of (w .before .before .before .before .before .whole .ok)) ∙ w .before .before .before .before .before .whole .ensures in
+    let parent = toZ-ofZ w64 _ (sfits-of (w .before .before .before .before .whole2 .ok)) ∙ w .before .before .before .before .whole2 .ensures in
+    let sort = toZ-ofZ w64 _ (sfits-of (w .before .before .before .whole3 .ok)) ∙ w .before .before .before .whole3 .ensures in
+    let kind = toZ-ofZ w64 _ (sfits-of (w .before .before .whole4 .ok)) ∙ w .before .before .whole4 .ensures in
+    let share = toZ-ofZ w64 _ (sfits-of (w .before .whole5 .ok)) ∙ w .before .whole5 .ensures in
+    let depth = toZ-ofZ w64 _ (sfits-of (w .whole6 .ok)) ∙ w .whole6 .ensures in
+    let joined = rw (node, parent, sort, kind, share, depth) at (c .before .before .join .ensures) in
+    (c .number-told .ensures .0 ∙ ap numberTold (joined .0) ∙ number-outcome _ done, (c .number-told .ensures .1, joined .1))
 
 pub join-numbers-spec : {M : Type 1} → statement M
 join-numbers-spec =

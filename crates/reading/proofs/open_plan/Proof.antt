@@ -1,15 +1,14 @@
--- `reading::open_plan` meets its contract.
-use native.Mathlib.Omega.{arith}
+-- `reading::open_plan` meets its contract: rate and depth stand in the first eight bytes.
+use mathlib.Core.Path.{ap, _∙_}
 use lib.IntN.{pos}
 use mir.Syntax.{w64}
 use mir.ValLaws.{toZ-ofZ}
-use borrow.Author.Needs.{sfits-of}
-use Rattle.table.specs.Calls.{done, openRefusal, openAnswer}
-use Rattle.layout.specs.Bytes.{le4}
+use Rattle.table.specs.Calls.{done, openAnswer}
 use Rattle.layout.specs.Format.{planIn}
 use Rattle.planlaws.specs.Reading.{openedFor}
+use Rattle.table.specs.Refusals.{numberTold}
 use Rattle.table.proofs.Refusals.{number-outcome}
-use borrow.Author.Needs.{needs}
+use borrow.Author.Needs.{needs, sfits-of}
 use Rattle.reading.proofs.open_plan.Statement.{statement}
 use Rattle.reading.proofs.open_plan.Tie as tie
 
@@ -37,9 +36,11 @@ same-length c = search needs
 returns : tie.Need-returns
 unfolding openAnswer openedFor planIn
 returns c =
-    let a = c .before .before .before .before .before .before .before .before .before .args in
-    let s = a .s .now in
-    (cc (toZ-ofZ w64 (c .before .before .before .before .before .before .whole .result) (sfits-of (c .before .before .before .before .before .before .whole .ok)), toZ-ofZ w64 (c .before .before .before .before .whole2 .result) (sfits-of (c .before .before .before .before .whole2 .ok)), number-outcome (openRefusal (a .table .now) (pos (le4 s 0)) (pos (le4 s 4))) done), (omega arith, cc (toZ-ofZ w64 (c .before .before .before .before .before .before .whole .result) (sfits-of (c .before .before .before .before .before .before .whole .ok)), toZ-ofZ w64 (c .before .before .before .before .whole2 .result) (sfits-of (c .before .before .before .before .whole2 .ok)))))
+    let w = c .before .before .before .before in
+    let rate = toZ-ofZ w64 _ (sfits-of (w .before .before .whole .ok)) ∙ w .before .before .whole .ensures ∙ ap pos (w .before .before .before .four .ensures .0) in
+    let depth = toZ-ofZ w64 _ (sfits-of (w .whole2 .ok)) ∙ w .whole2 .ensures ∙ ap pos (w .before .four2 .ensures .0) in
+    let opened = rw (rate, depth) at (c .before .before .open .ensures) in
+    (c .number-told .ensures .0 ∙ ap numberTold (opened .0) ∙ number-outcome _ done, (c .number-told .ensures .1, opened .1))
 
 pub open-plan-spec : {M : Type 1} → statement M
 open-plan-spec =

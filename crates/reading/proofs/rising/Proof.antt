@@ -1,6 +1,6 @@
 -- `reading::rising` meets its contract. The invariant: whether the entries so far rise.
 use Prim.Native.Nat.{ℕ, suc, _+_, _≤_, _-_}
-use mathlib.Core.Path.{_≡_, refl, ap, _∙_}
+use mathlib.Core.Path.{ap₂, _≡_, refl, ap, _∙_}
 use mathlib.Core.Bool.{Bool}
 use mathlib.Core.List.{List}
 use native.Mathlib.Numerals.{add-one}
@@ -8,7 +8,7 @@ use native.Mathlib.Omega.{arith}
 use lib.Dec.{ltb}
 use lib.IntN.{ℤ}
 use Rattle.numbers.specs.Below.{allBelow}
-use Rattle.numbers.proofs.All.{all-next}
+use Rattle.numbers.proofs.All.{all-grows}
 use Rattle.table.specs.Tree.{treeOf}
 use Rattle.layout.specs.Format.{countIn, planIn}
 use Rattle.planlaws.specs.Reading.{standing, rising}
@@ -58,8 +58,10 @@ loop-less c = search needs
 loop-again : tie.Need-loop-again Inv-loop μ-loop
 loop-again c =
     let at = c .before .before .before in
-    let start = at .before .before in
-    (omega arith, cc (add-one (at .loop .i), all-next (at .loop .i) (rises (start .args .table .now) (start .args .s .now))))
+    let t = at .before .before .args .table .now in
+    let s = at .before .before .args .s .now in
+    let next = ap (λ (j : ℕ). standing (treeOf t) (planIn s .entry j .node)) (add-one (at .loop .i)) in
+    (omega arith, all-grows (at .loop .i) (rises t s) _ _ (at .loop .inv .1) (ap₂ ltb (c .before .standing-of .ensures) (c .standing-of2 .ensures ∙ next)))
 
 returns : tie.Need-returns Inv-loop μ-loop
 unfolding rising planIn
