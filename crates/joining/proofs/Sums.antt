@@ -17,7 +17,7 @@ use Rattle.laws.proofs.Children.{child-facts, child-of}
 use Rattle.table.proofs.Edits.{joined-edit, joined-node, joined-others}
 use Rattle.keeps.proofs.OneNode.{count-none, shares-changed, depths-changed}
 use Rattle.rating.proofs.Under.{counted}
-use Rattle.sharing.proofs.Sums.{fixed-of}
+use Rattle.rating.proofs.Rated.{fixed-of}
 
 there-by-sort : (tree : Tree) (k : ℕ) → 1 ≤ tree .sort k → there tree k ≡ true
 unfolding there

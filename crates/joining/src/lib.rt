@@ -83,7 +83,7 @@ fn join_refusal(
     if level_too_low(table, c, numbers::natural(sort)) {
         return 6;
     }
-    if sharing::shares_above(table, c, 0, numbers::natural(kind), numbers::natural(share)) {
+    if rating::sums::shares_above(table, c, 0, numbers::natural(kind), numbers::natural(share)) {
         return 7;
     }
     if depths_above(table, c, numbers::natural(depth)) {

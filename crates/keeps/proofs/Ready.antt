@@ -12,7 +12,7 @@ use Rattle.numbers.specs.Whole.{plus, minus}
 use Rattle.numbers.proofs.Parts.{zarith, pos-of-within}
 use Rattle.numbers.proofs.Sums.{sumℤ-cong}
 use Rattle.table.specs.Places.{place, header, count, rate, balance, waiting, arrival}
-use Rattle.table.specs.Tree.{treeOf, there}
+use Rattle.table.specs.Tree.{treeOf}
 use Rattle.table.specs.Rates.{renewed}
 use Rattle.table.specs.Order.{childBalance, childBalances, inOrder}
 use Rattle.table.specs.Refusals.{kept}

@@ -2,12 +2,13 @@
 -- can be rated.
 use Prim.Native.Nat.{ℕ, zero, suc, _*_, _≤_, _<_}
 use mathlib.Core.Path.{_≡_, refl, ap, _∙_, subst}
-use mathlib.Core.Bool.{true, false}
+use mathlib.Core.Bool.{true, false, cond}
 use mathlib.Core.List.{List}
 use native.Mathlib.Omega.{arith}
 use native.Mathlib.Nat.{mul-le-mul}
 use native.Mathlib.Decide.{ℕ-discrete}
 use lib.ListN.{length}
+use lib.Dec.{eqb}
 use lib.IntN.{ℤ}
 use Rattle.numbers.specs.Whole.{plus}
 use Rattle.numbers.proofs.Tests.{by-test}
@@ -17,8 +18,7 @@ use Rattle.table.specs.Tree.{Tree, treeOf, there, isClass, isFixed, childOf}
 use Rattle.table.specs.Rates.{fixedShare, weight, fixedSum, weightSum, rateIn, renewed}
 use Rattle.table.specs.Order.{inOrder}
 use Rattle.table.proofs.Facts.{Limits, Root, Child, InOrder, facts, root-there, root-level}
-use Rattle.laws.proofs.Children.{child-of}
-use Rattle.laws.proofs.Children.{class-there}
+use Rattle.laws.proofs.Children.{child-of, class-there}
 use Rattle.laws.proofs.Renewed.{rate-at-root, renewed-tree, renewed-disk}
 use Rattle.laws.proofs.Rounding.{rate-of-child, child-rate-le, weight-le-sum}
 use Rattle.rating.specs.Sums.{Summable}
@@ -28,6 +28,11 @@ use Rattle.rating.proofs.Terms.{fixed-term, weight-term}
 -- A rate times a share fits 64 bits.
 pub product-small : (r s : ℕ) → r ≤ 1000000000 → s ≤ 10000 → r * s ≤ 10000000000000
 product-small r s hr hs = mul-le-mul hr hs
+
+-- A share counts where it is fixed.
+pub fixed-of : (tree : Tree) (k kind share : ℕ) → tree .kind k ≡ kind → tree .share k ≡ share → fixedShare tree k ≡ cond (eqb kind 0) share 0
+unfolding fixedShare isFixed
+fixed-of tree k kind share hk hs = rw (hk, hs)
 
 -- Shares that are counted are at most the share.
 pub fixed-share-le : (tree : Tree) (k : ℕ) → fixedShare tree k ≤ tree .share k

@@ -1,11 +1,13 @@
 // Sums over the children of a class.
 ghost use mathlib.Core.Path.{_≡_};
-ghost use Prim.Native.Nat.{ℕ, _<_};
+ghost use mathlib.Core.Bool.{cond};
+ghost use Prim.Native.Nat.{ℕ, _+_, _-_, _≤_, _<_};
 ghost use lib.ListN.{length, getD};
-ghost use Rattle.table.specs.Limits.{tableLength, nodes};
+ghost use lib.Dec.{eqb, ltb};
+ghost use Rattle.table.specs.Limits.{tableLength, nodes, wholeShare};
 ghost use Rattle.table.specs.Tree.{treeOf, childOf, countIf, sumUnder};
-ghost use Rattle.table.specs.Rates.{fixedShare, weight};
-ghost use Rattle.rating.specs.Sums.{term, Summable};
+ghost use Rattle.table.specs.Rates.{fixedShare, weight, fixedSum};
+ghost use Rattle.rating.specs.Sums.{term, fixedShares, Summable};
 use super::tree;
 use table::Table;
 
@@ -81,6 +83,18 @@ pub fn sum_under(table: &[i64], which: u64, c: usize) -> u64
         k += 1;
     }
     sum
+}
+
+// Whether the fixed shares under class c would be above 10,000 with a share of this kind in the place of an old fixed share.
+pub fn shares_above(table: &[i64], c: usize, old: u64, kind: u64, share: u64) -> bool
+    requires { ⌜ (length (now table) ≡ tableLength) × (Summable fixedShares (now table)) × (old ≤ fixedSum (treeOf (now table)) c) × (share ≤ wholeShare) × (fixedSum (treeOf (now table)) c ≤ wholeShare) ⌝ }
+    ensures { λ r. ⌜ r ≡ ltb wholeShare (fixedSum (treeOf (now (table .entry))) c + cond (eqb kind 0) share 0 - old) ⌝ }
+{
+    let sum = sum_under(table, FIXED_SHARES, c);
+    if kind == Table::FIXED {
+        return Table::WHOLE_SHARE < sum + share - old;
+    }
+    Table::WHOLE_SHARE < sum - old
 }
 
 // The sums under all classes, in one pass. The root is nobody's child.

@@ -1,1 +1,1 @@
-pub mod Sums
+mod Sums

@@ -8,7 +8,7 @@ use lib.ListN.{length}
 use lib.Dec.{eqb, ltb}
 use lib.IntN.{ℤ}
 use Rattle.numbers.specs.Whole.{plus}
-use Rattle.table.specs.Tree.{Tree, treeOf, there, isFixed, childOf}
+use Rattle.table.specs.Tree.{treeOf, there, childOf}
 use Rattle.table.specs.Rates.{fixedShare, fixedSum}
 use Rattle.table.specs.Calls.{reshared, sharesAbove}
 use Rattle.numbers.proofs.Parts.{within-parts}
@@ -18,11 +18,7 @@ use Rattle.laws.proofs.Children.{child-of, child-le-sum}
 use Rattle.table.proofs.Edits.{reshared-edit, reshared-node}
 use Rattle.keeps.proofs.OneNode.{shares-changed}
 use Rattle.rating.proofs.Under.{counted}
-
--- A share counts where it is fixed.
-pub fixed-of : (tree : Tree) (k kind share : ℕ) → tree .kind k ≡ kind → tree .share k ≡ share → fixedShare tree k ≡ cond (eqb kind 0) share 0
-unfolding fixedShare isFixed
-fixed-of tree k kind share hk hs = rw (hk, hs)
+use Rattle.rating.proofs.Rated.{fixed-of}
 
 -- Change share: the sum has the new share in the place of the old.
 module _ (t : List ℤ) (k : ℕ) (kind share : ℤ) (long : length t ≡ 2568) (hk : k < 64) (below : k ≡ 0 → ⊥) (here : there (treeOf t) k ≡ true) where

@@ -1,32 +1,15 @@
 // Change share and change rate.
 ghost use mathlib.Core.Path.{_≡_};
-ghost use mathlib.Core.Bool.{cond};
 ghost use mathlib.Core.List.{[], _∷_};
-ghost use Prim.Native.Nat.{_+_, _-_, _≤_, _<_};
-ghost use lib.Dec.{eqb, ltb};
+ghost use Prim.Native.Nat.{_≤_, _<_};
 ghost use lib.ListN.{length};
 ghost use Rattle.numbers.specs.Whole.{withinℤ};
 ghost use Rattle.numbers.specs.Tests.{every};
 ghost use Rattle.table.specs.Limits.{tableLength, nodes, lastNode, wholeShare};
-ghost use Rattle.table.specs.Tree.{treeOf};
-ghost use Rattle.table.specs.Rates.{fixedSum};
 ghost use Rattle.table.specs.Answers.{told};
 ghost use Rattle.table.specs.Calls.{reshared, changeShareRefusal, changeShareTable, changeShareAnswer, changeRateRefusal, changeRateTable, changeRateAnswer};
-ghost use Rattle.rating.specs.Sums.{fixedShares, Summable};
 use table::Answer;
 use table::Table;
-
-// Whether the fixed shares under class c would be above 10,000 with a share of this kind in the place of an old fixed share.
-pub fn shares_above(table: &[i64], c: usize, old: u64, kind: u64, share: u64) -> bool
-    requires { ⌜ (length (now table) ≡ tableLength) × (Summable fixedShares (now table)) × (old ≤ fixedSum (treeOf (now table)) c) × (share ≤ wholeShare) × (fixedSum (treeOf (now table)) c ≤ wholeShare) ⌝ }
-    ensures { λ r. ⌜ r ≡ ltb wholeShare (fixedSum (treeOf (now (table .entry))) c + cond (eqb kind 0) share 0 - old) ⌝ }
-{
-    let sum = rating::sums::sum_under(table, 0, c);
-    if kind == Table::FIXED {
-        return Table::WHOLE_SHARE < sum + share - old;
-    }
-    Table::WHOLE_SHARE < sum - old
-}
 
 fn change_share_limits(node: i64, kind: i64, share: i64) -> bool
     ensures { λ r. ⌜ r ≡ every (withinℤ 0 lastNode node ∷ withinℤ 0 1 kind ∷ withinℤ 1 wholeShare share ∷ []) ⌝ }
@@ -57,7 +40,7 @@ fn change_share_refusal(table: &[i64], node: i64, kind: i64, share: i64) -> u64
     }
     let c = Table::natural(table, k, Table::PARENT) as usize;
     let old = rating::sums::fixed_share(table, k);
-    if shares_above(
+    if rating::sums::shares_above(
         table,
         c,
         old,

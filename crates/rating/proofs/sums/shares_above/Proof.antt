@@ -1,4 +1,4 @@
--- `sharing::shares_above` meets its contract: the share counts where it is fixed.
+-- `rating::sums::shares_above` meets its contract: the share counts where it is fixed.
 use mathlib.Core.Path.{_≡_, sym, ap, ap₂, _∙_}
 use Prim.Native.Nat.{ℕ, _+_, _-_}
 use native.Mathlib.Omega.{arith}
@@ -8,10 +8,10 @@ use borrow.Author.Tests.{eq-eqb, ne-eqb}
 use Rattle.numbers.proofs.Tests.{cond-true, cond-false}
 use Rattle.table.specs.Tree.{treeOf}
 use Rattle.table.specs.Rates.{fixedSum}
 use Rattle.rating.specs.Sums.{term}
 use borrow.Author.Needs.{needs}
-use Rattle.sharing.proofs.shares_above.Statement.{statement}
-use Rattle.sharing.proofs.shares_above.Tie as tie
+use Rattle.rating.proofs.sums.shares_above.Statement.{statement}
+use Rattle.rating.proofs.sums.shares_above.Tie as tie
 
 sum-under-requires : tie.Need-sum-under-requires
 sum-under-requires c κs = search needs
