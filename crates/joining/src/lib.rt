@@ -47,7 +47,8 @@ fn depths_above(table: &[i64], c: usize, depth: u64) -> bool
     requires { ⌜ (length (now table) ≡ tableLength) × (c < nodes) × (Summable depths (now table)) × (depth ≤ greatestDepth) × (sumUnder (treeOf (now table)) c (treeOf (now table) .depth) ≤ greatestDepth) ⌝ }
     ensures { λ r. ⌜ r ≡ ltb (treeOf (now (table .entry)) .depth c) (sumUnder (treeOf (now (table .entry))) c (treeOf (now (table .entry)) .depth) + depth) ⌝ }
 {
-    Table::natural(table, c, Table::DEPTH) < rating::sums::sum_under(table, 2, c) + depth
+    Table::natural(table, c, Table::DEPTH)
+        < rating::sums::sum_under(table, rating::sums::DEPTHS, c) + depth
 }
 
 // The number of the first cause that turns join back, or 0.

@@ -78,7 +78,7 @@ pub fn report(contents: &[u8], text: &mut [u8; 4096]) -> usize
     ensures count { λ r. ⌜ Counts r (now (text .exit)) ⌝ }
     ensures text { λ r. ⌜ take r (now (text .exit)) ≡ reportOf (now (contents .entry)) ⌝ }
 {
-    let mut table = [0i64; 2568];
+    let mut table = [0i64; Table::LENGTH];
     let answer = plan::read(&mut table, contents);
     let number = table::number_told(answer);
     if number == 0 {

@@ -206,8 +206,8 @@ impl Table {
         requires { ⌜ (length (now table) ≡ tableLength) × (now table ≡ blank) ⌝ }
         ensures { λ _. ⌜ now (table .exit) ≡ opened rate depth ⌝ }
     {
-        Table::put(table, 0, Table::SORT, 1);
-        Table::put(table, 0, Table::SHARE, 10000);
+        Table::put_natural(table, 0, Table::SORT, Table::CLASS);
+        Table::put_natural(table, 0, Table::SHARE, Table::WHOLE_SHARE);
         Table::put(table, 0, Table::DEPTH, depth);
         Table::put(table, 0, Table::RATE, rate);
     }

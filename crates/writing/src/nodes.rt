@@ -13,6 +13,9 @@ use layout::Share;
 use layout::Sort;
 use table::Table;
 
+// How many pairs of a level and a number there are.
+const STANDINGS: usize = 320;
+
 // Nodes in order, and how many.
 pub struct Listing {
     pub nodes: [u64; 64],
@@ -47,7 +50,7 @@ pub fn list_nodes(table: &[i64]) -> Listing
     let mut nodes: [u64; 64] = [0; 64];
     let mut count: usize = 0;
     let mut m: usize = 0;
-    while m < 320 {
+    while m < STANDINGS {
         nodes[count] = (m % Table::NODES) as u64;
         count += counted(stands(table, m));
         m += 1;

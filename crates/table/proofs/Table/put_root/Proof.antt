@@ -7,17 +7,17 @@ use borrow.Author.Needs.{needs}
 use Rattle.table.proofs.Table.put_root.Statement.{statement}
 use Rattle.table.proofs.Table.put_root.Tie as tie
 
+put-natural-requires : tie.Need-put-natural-requires
+put-natural-requires c κs = search needs
+
+put-natural-requires-2 : tie.Need-put-natural-requires-2
+put-natural-requires-2 c κs = search needs
+
 put-requires : tie.Need-put-requires
 put-requires c κs = search needs
 
 put-requires-2 : tie.Need-put-requires-2
 put-requires-2 c κs = search needs
-
-put-requires-3 : tie.Need-put-requires-3
-put-requires-3 c κs = search needs
-
-put-requires-4 : tie.Need-put-requires-4
-put-requires-4 c κs = search needs
 
 same-length : tie.Need-same-length
 same-length c = search needs
@@ -26,12 +26,12 @@ returns : tie.Need-returns
 unfolding opened
 returns c =
     let start = c .before .before .before .before .before .before .before .before .before .before .before .before in
-    put-then 0 6 (c .before .put4 .ensures) (toZ-ofZ (start .fits .rate))
-    (put-then 0 5 (c .before .before .before .before .put3 .ensures) (toZ-ofZ (start .fits .depth))
-    (put-then 0 4 (c .before .before .before .before .before .before .before .put2 .ensures) refl
-    (put-then 0 0 (c .before .before .before .before .before .before .before .before .before .before .put .ensures) refl (start .pre .1))))
+    put-then 0 6 (c .before .put2 .ensures) (toZ-ofZ (start .fits .rate))
+    (put-then 0 5 (c .before .before .before .before .put .ensures) (toZ-ofZ (start .fits .depth))
+    (put-then 0 4 (c .before .before .before .before .before .before .before .put-natural2 .ensures) refl
+    (put-then 0 0 (c .before .before .before .before .before .before .before .before .before .before .put-natural .ensures) refl (start .pre .1))))
 
 pub put-root-spec : {M : Type 1} → statement M
 put-root-spec =
     tie.close
-    (tie.spec put-requires put-requires-2 put-requires-3 put-requires-4 same-length returns)
+    (tie.spec put-natural-requires put-natural-requires-2 put-requires put-requires-2 same-length returns)

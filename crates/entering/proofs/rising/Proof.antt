@@ -1,4 +1,4 @@
--- `reading::rising` meets its contract. The invariant: whether the entries so far rise.
+-- `entering::rising` meets its contract. The invariant: whether the entries so far rise.
 use Prim.Native.Nat.{ℕ, suc, _+_, _≤_, _-_}
 use mathlib.Core.Path.{ap₂, _≡_, refl, ap, _∙_}
 use mathlib.Core.Bool.{Bool}
@@ -13,8 +13,8 @@ use Rattle.table.specs.Tree.{treeOf}
 use Rattle.layout.specs.Format.{countIn, planIn}
 use Rattle.planlaws.specs.Reading.{standing, rising}
 use borrow.Author.Needs.{needs}
-use Rattle.reading.proofs.rising.Statement.{statement}
-use Rattle.reading.proofs.rising.Tie as tie
+use Rattle.entering.proofs.rising.Statement.{statement}
+use Rattle.entering.proofs.rising.Tie as tie
 
 -- Whether entry j stands before the next one.
 abbrev rises : List ℤ → List ℕ → ℕ → Bool

@@ -1,13 +1,13 @@
--- `reading::join_node` meets its contract.
+-- `entering::join_node` meets its contract.
 use mathlib.Core.Path.{_≡_}
 use native.Mathlib.Omega.{arith}
 use Rattle.laws.specs.Joins.{refusalOf, afterJoin}
 use Rattle.layout.specs.Nodes.{shareIn, heldBy, entryBy}
 use Rattle.planlaws.specs.Reading.{joinOf}
-use Rattle.reading.proofs.Sorts.{kind-sort-in, kind-weighted-in}
+use Rattle.entering.proofs.Sorts.{kind-sort-in, kind-weighted-in}
 use borrow.Author.Needs.{needs}
-use Rattle.reading.proofs.join_node.Statement.{statement}
-use Rattle.reading.proofs.join_node.Tie as tie
+use Rattle.entering.proofs.join_node.Statement.{statement}
+use Rattle.entering.proofs.join_node.Tie as tie
 
 held-by-requires : tie.Need-held-by-requires
 held-by-requires c κs = search needs

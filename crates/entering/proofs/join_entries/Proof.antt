@@ -1,4 +1,4 @@
--- `reading::join_entries` meets its contract. The invariant: the entries so far are joined, and none was refused.
+-- `entering::join_entries` meets its contract. The invariant: the entries so far are joined, and none was refused.
 use Prim.Native.Nat.{_+_, _≤_, _-_}
 use mathlib.Core.Path.{_≡_, refl, sym, _∙_}
 use native.Mathlib.Omega.{arith}
@@ -8,8 +8,8 @@ use Rattle.planlaws.specs.Reading.{afterEntries, entriesRefusal}
 use Rattle.layout.proofs.Codec.{formed-facts}
 use Rattle.planlaws.proofs.Accepted.{after-none, after-next, entries-none, entries-next, entries-stay}
 use borrow.Author.Needs.{needs}
-use Rattle.reading.proofs.join_entries.Statement.{statement}
-use Rattle.reading.proofs.join_entries.Tie as tie
+use Rattle.entering.proofs.join_entries.Statement.{statement}
+use Rattle.entering.proofs.join_entries.Tie as tie
 
 abbrev Inv-loop : tie.InvT-loop
 Inv-loop table₀ s n i₀ table i =

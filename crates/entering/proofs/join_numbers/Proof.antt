@@ -1,4 +1,4 @@
--- `reading::join_numbers` meets its contract: the numbers are given to join as they are.
+-- `entering::join_numbers` meets its contract: the numbers are given to join as they are.
 use mathlib.Core.Path.{ap, _∙_}
 use mir.Syntax.{w64}
 use mir.ValLaws.{toZ-ofZ}
@@ -6,8 +6,8 @@ use Rattle.table.specs.Calls.{done, joinAnswer}
 use Rattle.table.specs.Refusals.{numberTold}
 use Rattle.table.proofs.Refusals.{number-outcome}
 use borrow.Author.Needs.{needs, sfits-of}
-use Rattle.reading.proofs.join_numbers.Statement.{statement}
-use Rattle.reading.proofs.join_numbers.Tie as tie
+use Rattle.entering.proofs.join_numbers.Statement.{statement}
+use Rattle.entering.proofs.join_numbers.Tie as tie
 
 whole-requires : tie.Need-whole-requires
 whole-requires c κs = search needs

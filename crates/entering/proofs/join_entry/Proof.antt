@@ -1,9 +1,9 @@
--- `reading::join_entry` meets its contract.
+-- `entering::join_entry` meets its contract.
 use native.Mathlib.Omega.{arith}
 use Rattle.layout.specs.Format.{planIn}
 use borrow.Author.Needs.{needs}
-use Rattle.reading.proofs.join_entry.Statement.{statement}
-use Rattle.reading.proofs.join_entry.Tie as tie
+use Rattle.entering.proofs.join_entry.Statement.{statement}
+use Rattle.entering.proofs.join_entry.Tie as tie
 
 node-at-requires : tie.Need-node-at-requires
 node-at-requires c κs = search needs

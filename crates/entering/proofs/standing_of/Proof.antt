@@ -1,4 +1,4 @@
--- `reading::standing_of` meets its contract.
+-- `entering::standing_of` meets its contract.
 use Prim.Native.Nat.{_+_, _*_}
 use mathlib.Core.Path.{_≡_}
 use native.Mathlib.Omega.{arith}
@@ -7,8 +7,8 @@ use Rattle.layout.specs.Bytes.{byteAt}
 use Rattle.layout.specs.Format.{entryIn, planIn}
 use Rattle.planlaws.specs.Reading.{standing}
 use borrow.Author.Needs.{needs}
-use Rattle.reading.proofs.standing_of.Statement.{statement}
-use Rattle.reading.proofs.standing_of.Tie as tie
+use Rattle.entering.proofs.standing_of.Statement.{statement}
+use Rattle.entering.proofs.standing_of.Tie as tie
 
 entry-at-requires : tie.Need-entry-at-requires
 entry-at-requires c κs = search needs
