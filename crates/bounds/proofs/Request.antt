@@ -10,7 +10,8 @@ use Rattle.table.specs.Calls.{requested, requestRefusal, requestTable}
 use Rattle.table.proofs.Facts.{InOrder, facts}
 use Rattle.table.proofs.Edits.{Requested, requested-edit}
 use Rattle.keeps.proofs.Nodes.{ready, most-waiting}
-use Rattle.keeps.proofs.Request.{RequestPassed, request-passed, request-keeps, before, next-waiting, requested-tree}
+use Rattle.table.proofs.Passed.{RequestPassed, request-passed}
+use Rattle.keeps.proofs.Request.{request-keeps, before, next-waiting, requested-tree}
 use Rattle.bounds.specs.Events.{request}
 use Rattle.bounds.specs.Observer.{Observer, afterAccepted}
 use Rattle.bounds.specs.Counts.{leaves}

@@ -3,7 +3,6 @@ use mathlib.Core.Path.{_≡_, _∙_}
 use mathlib.Core.Bool.{true}
 use mathlib.Core.List.{List}
 use native.Mathlib.Omega.{arith}
-use borrow.Author.Tests.{not-false}
 use lib.IntN.{ℤ}
 use Rattle.numbers.specs.Whole.{withinℤ}
 use Rattle.numbers.proofs.Tests.{true-false}
@@ -14,8 +13,8 @@ use Rattle.table.specs.Order.{inOrder}
 use Rattle.table.specs.Calls.{changeRateRefusal, changeRateTable}
 use Rattle.table.proofs.Facts.{facts}
 use Rattle.table.proofs.Places.{length-put, header-put, place-put-same, place-put-node, place-put-place}
-use Rattle.table.proofs.Refusals.{none-first}
 use Rattle.laws.proofs.Renewed.{same-tree}
+use Rattle.table.proofs.Passed.{change-rate-passed}
 use Rattle.keeps.proofs.Nodes.{Ready, ready, root-kept}
 use Rattle.keeps.proofs.Ready.{ready-but-rates, ready-renewed, root-there, kept-in-order}
 
@@ -34,18 +33,6 @@ rerated-ready t rate f within =
     (rerated-tree t rate)
     (root-kept t (put t 0 6 rate) (λ p hp. place-put-place t 0 6 rate 0 p (omega arith) (omega arith) (omega arith))
     (rw (place-put-same t 0 6 rate (f .long) (omega arith) (omega arith)) within) (f .root))
-
--- What an accepted call has passed.
-pub record ChangeRatePassed (t : List ℤ) (rate : ℤ) : Type 0 where
-  pub order : inOrder t ≡ true
-  pub within : withinℤ 1 1000000000 rate ≡ true
-
-pub change-rate-passed : (t : List ℤ) (rate : ℤ) → changeRateRefusal t rate ≡ 0 → ChangeRatePassed t rate
-unfolding changeRateRefusal
-change-rate-passed t rate h =
-    let p1 = none-first 1 _ _ (omega arith) h in
-    let p2 = none-first 2 _ _ (omega arith) (p1 .1) in
-    record { order = not-false _ (p1 .0); within = not-false _ (p2 .0) }
 
 changed : (t : List ℤ) (rate : ℤ) → changeRateRefusal t rate ≡ 0 → inOrder (renewed (put t 0 6 rate)) ≡ true
 changed t rate h =

@@ -6,53 +6,20 @@ use mathlib.Core.Bool.{true}
 use mathlib.Core.List.{List}
 use native.Mathlib.Omega.{arith}
 use native.Mathlib.Decide.{ℕ-discrete}
-use borrow.Author.Tests.{not-false, eqb-false, ltb-false}
 use lib.IntN.{ℤ}
 use Rattle.numbers.specs.Whole.{plus, minus, withinℤ}
 use Rattle.numbers.proofs.Tests.{true-false}
-use Rattle.numbers.proofs.Every.{head-holds, rest-hold}
-use Rattle.numbers.proofs.Parts.{zarith}
 use Rattle.table.specs.Places.{place, count, balance, waiting, arrival}
 use Rattle.table.specs.Tree.{treeOf, there, childOf, countIf}
 use Rattle.table.specs.Rates.{fixedSum, fixedShare, renewed}
 use Rattle.table.specs.Order.{inOrder}
-use Rattle.table.specs.Calls.{sharesAbove, reshared, changeShareRefusal, changeShareTable}
+use Rattle.table.specs.Calls.{reshared, changeShareRefusal, changeShareTable}
 use Rattle.table.proofs.Facts.{Child, Class, facts}
-use Rattle.table.proofs.Refusals.{none-first}
 use Rattle.table.proofs.Edits.{Edited, reshared-edit, reshared-rest}
+use Rattle.table.proofs.Passed.{change-share-passed}
 use Rattle.keeps.proofs.Nodes.{Ready, ready, Sums, node-limited, child-kept, most-waiting}
 use Rattle.keeps.proofs.OneNode.{child-same, no-child, count-same, count-none, shares-changed, depths-changed, balances-changed, edited-ready}
 use Rattle.keeps.proofs.Ready.{ready-renewed, kept-in-order}
-
--- What an accepted call has passed, for node k.
-pub record ChangeSharePassed (t : List ℤ) (k : ℕ) (kind share : ℤ) : Type 0 where
-  pub order : inOrder t ≡ true
-  pub node : k < 64
-  pub kinds : withinℤ 0 1 kind ≡ true
-  pub within : withinℤ 1 10000 share ≡ true
-  pub there : there (treeOf t) k ≡ true
-  pub below : k ≡ 0 → ⊥
-  pub shares : fixedSum (treeOf (reshared t k kind share)) (treeOf t .parent k) ≤ 10000
-
-pub change-share-passed : (t : List ℤ) (node kind share : ℤ) → changeShareRefusal t node kind share ≡ 0 → ChangeSharePassed t (plus node) kind share
-unfolding changeShareRefusal sharesAbove
-change-share-passed t node kind share h =
-    let p1 = none-first 1 _ _ (omega arith) h in
-    let p2 = none-first 2 _ _ (omega arith) (p1 .1) in
-    let p3 = none-first 3 _ _ (omega arith) (p2 .1) in
-    let p5 = none-first 5 _ _ (omega arith) (p3 .1) in
-    let p7 = none-first 7 _ _ (omega arith) (p5 .1) in
-    let limits = not-false _ (p2 .0) in
-    let limits' = rest-hold _ _ limits in
-    record {
-      order = not-false _ (p1 .0);
-      node = omega (arith, zarith, head-holds _ _ limits);
-      kinds = head-holds _ _ limits';
-      within = head-holds _ _ (rest-hold _ _ limits');
-      there = not-false _ (p3 .0);
-      below = eqb-false (plus node) 0 (p5 .0);
-      shares = ltb-false 10000 _ (p7 .0);
-    }
 
 -- A table that differs in the kind and share of node k.
 module _ (t u : List ℤ) (k : ℕ) (f : ℕ → ℤ) (hk : k < 64) (edited : Edited t u k f) (rest : (j p : ℕ) → p < 40 → (p ≡ 3 → ⊥) → (p ≡ 4 → ⊥) → place u j p ≡ place t j p) where

@@ -5,11 +5,9 @@ use mathlib.Core.Bool.{true, false}
 use mathlib.Core.List.{List}
 use native.Mathlib.Omega.{arith}
 use native.Mathlib.Decide.{ℕ-discrete}
-use borrow.Author.Tests.{not-false}
 use lib.IntN.{ℤ, pos}
-use Rattle.numbers.specs.Whole.{plus, withinℤ}
+use Rattle.numbers.specs.Whole.{plus}
 use Rattle.numbers.proofs.Tests.{true-false}
-use Rattle.numbers.proofs.Every.{head-holds, rest-hold}
 use Rattle.numbers.proofs.Parts.{zarith, pos-of-within, plus-pos, minus-pos}
 use Rattle.table.specs.Places.{place, rate as rateOf, waiting}
 use Rattle.table.specs.Tree.{treeOf, there}
@@ -17,25 +15,13 @@ use Rattle.table.specs.Rates.{rateIn}
 use Rattle.table.specs.Order.{inOrder}
 use Rattle.table.specs.Calls.{opened, openRefusal, openTable}
 use Rattle.table.proofs.Facts.{Limits, Root, from-facts}
-use Rattle.table.proofs.Refusals.{none-first, kept-new}
+use Rattle.table.proofs.Refusals.{kept-new}
 use Rattle.laws.proofs.Renewed.{rate-at-root}
 use Rattle.table.proofs.Edits.{opened-edit, opened-place, opened-others, blank-header}
+use Rattle.table.proofs.Passed.{OpenPassed, open-passed}
 use Rattle.keeps.proofs.Nodes.{Node, Ready, ready-in-order}
 use Rattle.keeps.proofs.Fresh.{zero-unused, unused-node, fresh-node}
 use Rattle.keeps.proofs.Ready.{root-there, root-level, kept-in-order}
-
--- What an accepted call has passed.
-pub record OpenPassed (rate depth : ℤ) : Type 0 where
-  pub rates : withinℤ 1 1000000000 rate ≡ true
-  pub depths : withinℤ 1 1000000 depth ≡ true
-
-pub open-passed : (t : List ℤ) (rate depth : ℤ) → openRefusal t rate depth ≡ 0 → OpenPassed rate depth
-unfolding openRefusal
-open-passed t rate depth h =
-    let p1 = none-first 1 _ _ (omega arith) h in
-    let p2 = none-first 2 _ _ (omega arith) (p1 .1) in
-    let limits = not-false _ (p2 .0) in
-    record { rates = head-holds _ _ limits; depths = head-holds _ _ (rest-hold _ _ limits) }
 
 module _ (rate depth : ℤ) (passed : OpenPassed rate depth) where
   opened-root : Root (opened rate depth)

@@ -2,17 +2,16 @@
 -- depth by causes 2 and 8, and its arrival number is above all that were given before, so it rises and differs.
 use Prim.Native.Nat.{ℕ, suc, _+_, _*_, _-_, _≤_, _<_}
 use mathlib.Core.Path.{_≡_, refl, sym, ap, _∙_}
-use mathlib.Core.Bool.{true, false}
-use mathlib.Core.List.{List, [], _∷_}
+use mathlib.Core.Bool.{true}
+use mathlib.Core.List.{List}
 use native.Mathlib.Omega.{arith}
 use native.Mathlib.Decide.{ℕ-discrete}
-use borrow.Author.Tests.{not-false, eqb-false, eq-eqb, ne-eqb, ltb-false}
+use borrow.Author.Tests.{eq-eqb, ne-eqb}
 use lib.IntN.{ℤ, pos}
 use lib.Signed.{leZ}
-use Rattle.numbers.specs.Whole.{plus, withinℤ}
+use Rattle.numbers.specs.Whole.{plus}
 use Rattle.numbers.specs.Tests.{every}
 use Rattle.numbers.proofs.Tests.{by-test, true-false}
-use Rattle.numbers.proofs.Every.{head-holds, rest-hold}
 use Rattle.numbers.proofs.Parts.{zarith, one-is-zero, plus-pos, minus-pos}
 use Rattle.numbers.proofs.All.{below-cases}
 use Rattle.table.specs.Places.{place, count, rate, balance, waiting, arrival}
@@ -20,44 +19,11 @@ use Rattle.table.specs.Tree.{treeOf, there, isClass}
 use Rattle.table.specs.Order.{inOrder}
 use Rattle.table.specs.Calls.{requested, requestRefusal, requestTable}
 use Rattle.table.proofs.Facts.{Limits, Spare, Request, facts, from-facts}
-use Rattle.table.proofs.Refusals.{none-first}
 use Rattle.laws.proofs.Renewed.{same-tree}
 use Rattle.table.proofs.Edits.{Requested, requested-edit}
+use Rattle.table.proofs.Passed.{RequestPassed, request-passed}
 use Rattle.keeps.proofs.Nodes.{Node, Ready, ready, ready-in-order, balance-kept, request-kept, node-kept, root-kept, most-waiting, class-or-client}
 use Rattle.keeps.proofs.Ready.{same-sums, kept-in-order}
-
--- What an accepted call has passed, for node k.
-pub record RequestPassed (t : List ℤ) (k : ℕ) (size : ℤ) : Type 0 where
-  pub order : inOrder t ≡ true
-  pub node : k < 64
-  pub least : leZ (pos 1) size ≡ true
-  pub there : there (treeOf t) k ≡ true
-  pub no-class : isClass (treeOf t) k ≡ false
-  pub most : plus size ≤ treeOf t .depth k
-  pub room : waiting t k ≡ 8 → ⊥
-  pub numbers : count t ≡ 9000000000000000000 → ⊥
-
-pub request-passed : (t : List ℤ) (node tag size : ℤ) → requestRefusal t node tag size ≡ 0 → RequestPassed t (plus node) size
-unfolding requestRefusal
-request-passed t node tag size h =
-    let p1 = none-first 1 _ _ (omega arith) h in
-    let p2 = none-first 2 _ _ (omega arith) (p1 .1) in
-    let p3 = none-first 3 _ _ (omega arith) (p2 .1) in
-    let p5 = none-first 5 _ _ (omega arith) (p3 .1) in
-    let p8 = none-first 8 _ _ (omega arith) (p5 .1) in
-    let p11 = none-first 11 _ _ (omega arith) (p8 .1) in
-    let p12 = none-first 12 _ _ (omega arith) (p11 .1) in
-    let limits : every (withinℤ 0 63 node ∷ leZ (pos 1) size ∷ []) ≡ true = not-false _ (p2 .0) in
-    record {
-      order = not-false _ (p1 .0);
-      node = omega (arith, zarith, head-holds _ _ limits);
-      least = head-holds _ _ (rest-hold _ _ limits);
-      there = not-false _ (p3 .0);
-      no-class = p5 .0;
-      most = ltb-false _ _ (p8 .0);
-      room = eqb-false (waiting t (plus node)) 8 (p11 .0);
-      numbers = eqb-false (count t) 9000000000000000000 (p12 .0);
-    }
 
 -- Every arrival number is at most the header's count.
 pub arrival-counted : (t : List ℤ) → Ready t → (k : ℕ) → k < 64 → (i : ℕ) → i < waiting t k → arrival t k i ≤ count t

@@ -18,7 +18,8 @@ use Rattle.laws.specs.Joins.{Join, refusalOf, afterJoin}
 use Rattle.laws.proofs.Joined.{JoinAccepted, join-accepted, givenBy, same-there, JoinLeaves, join-leaves}
 use Rattle.table.proofs.Edits.{same-node, opened-edit, opened-node, opened-others}
 use Rattle.keeps.proofs.Fresh.{zero-unused}
-use Rattle.keeps.proofs.Open.{open-passed, opened-in-order}
+use Rattle.table.proofs.Passed.{open-passed}
+use Rattle.keeps.proofs.Open.{opened-in-order}
 use Rattle.keeps.proofs.Join.{join-keeps}
 use Rattle.layout.specs.Format.{Entry, Plan}
 use Rattle.planlaws.specs.Reading.{sortOf, shareKindOf, joinOf, afterEntries, openedFor}

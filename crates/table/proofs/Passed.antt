@@ -2,22 +2,23 @@
 use Prim.Native.Nat.{ℕ, _≤_, _<_}
 use mathlib.Core.Path.{_≡_}
 use mathlib.Core.Bool.{true, false, not}
-use mathlib.Core.List.{List}
+use mathlib.Core.List.{List, [], _∷_}
 use native.Mathlib.Omega.{arith}
 use borrow.Author.Tests.{not-false, eq-eqb, eqb-false, ltb-false}
 use lib.ListN.{length}
 use lib.Dec.{ltb}
 use lib.IntN.{ℤ, pos}
-use lib.Signed.{ltZ}
+use lib.Signed.{leZ, ltZ}
 use Rattle.numbers.specs.Whole.{plus, withinℤ}
+use Rattle.numbers.specs.Tests.{every}
 use Rattle.numbers.proofs.Tests.{by-test, true-false, or-false-left, or-false-right}
 use Rattle.numbers.proofs.Every.{head-holds, rest-hold, holds-with, none-left}
 use Rattle.numbers.proofs.Parts.{zarith, within-parts}
-use Rattle.table.specs.Places.{balance, waiting}
+use Rattle.table.specs.Places.{count, balance, waiting}
 use Rattle.table.specs.Tree.{treeOf, there, isClass, isClient, childless, sumUnder}
 use Rattle.table.specs.Rates.{fixedSum}
 use Rattle.table.specs.Order.{inOrder}
-use Rattle.table.specs.Calls.{sharesAbove, depthsAbove, joined, joinRefusal, leaveRefusal}
+use Rattle.table.specs.Calls.{sharesAbove, depthsAbove, openRefusal, joined, joinRefusal, leaveRefusal, reshared, changeShareRefusal, changeRateRefusal, requestRefusal}
 use Rattle.table.proofs.Facts.{facts}
 use Rattle.table.proofs.Refusals.{none-first}
 
@@ -27,6 +28,19 @@ long t h = facts t h .long
 
 pub below : (low : ℕ) (z : ℤ) → withinℤ low 63 z ≡ true → plus z < 64
 below low z h = omega (arith, within-parts low 63 z h)
+
+-- Open.
+pub record OpenPassed (rate depth : ℤ) : Type 0 where
+  pub rates : withinℤ 1 1000000000 rate ≡ true
+  pub depths : withinℤ 1 1000000 depth ≡ true
+
+pub open-passed : (t : List ℤ) (rate depth : ℤ) → openRefusal t rate depth ≡ 0 → OpenPassed rate depth
+unfolding openRefusal
+open-passed t rate depth h =
+    let p1 = none-first 1 _ _ (omega arith) h in
+    let p2 = none-first 2 _ _ (omega arith) (p1 .1) in
+    let limits = not-false _ (p2 .0) in
+    record { rates = head-holds _ _ limits; depths = head-holds _ _ (rest-hold _ _ limits) }
 
 -- Join, of node k under class c.
 pub record JoinPassed (t : List ℤ) (k c : ℕ) (sort kind share depth : ℤ) : Type 0 where
@@ -109,4 +123,79 @@ leave-passed t node h =
           by-test (ltZ (balance t (plus node)) (pos 0))
           (λ low. absurd (true-false (holds-with _ _ class (holds-with _ _ low none-left)) (p10 .0)))
           (λ y. y);
+    }
+
+-- Change share, of node k.
+pub record ChangeSharePassed (t : List ℤ) (k : ℕ) (kind share : ℤ) : Type 0 where
+  pub order : inOrder t ≡ true
+  pub node : k < 64
+  pub kinds : withinℤ 0 1 kind ≡ true
+  pub within : withinℤ 1 10000 share ≡ true
+  pub there : there (treeOf t) k ≡ true
+  pub below : k ≡ 0 → ⊥
+  pub shares : fixedSum (treeOf (reshared t k kind share)) (treeOf t .parent k) ≤ 10000
+
+pub change-share-passed : (t : List ℤ) (node kind share : ℤ) → changeShareRefusal t node kind share ≡ 0 → ChangeSharePassed t (plus node) kind share
+unfolding changeShareRefusal sharesAbove
+change-share-passed t node kind share h =
+    let p1 = none-first 1 _ _ (omega arith) h in
+    let p2 = none-first 2 _ _ (omega arith) (p1 .1) in
+    let p3 = none-first 3 _ _ (omega arith) (p2 .1) in
+    let p5 = none-first 5 _ _ (omega arith) (p3 .1) in
+    let p7 = none-first 7 _ _ (omega arith) (p5 .1) in
+    let limits = not-false _ (p2 .0) in
+    let limits' = rest-hold _ _ limits in
+    record {
+      order = not-false _ (p1 .0);
+      node = omega (arith, zarith, head-holds _ _ limits);
+      kinds = head-holds _ _ limits';
+      within = head-holds _ _ (rest-hold _ _ limits');
+      there = not-false _ (p3 .0);
+      below = eqb-false (plus node) 0 (p5 .0);
+      shares = ltb-false 10000 _ (p7 .0);
+    }
+
+-- Change rate.
+pub record ChangeRatePassed (t : List ℤ) (rate : ℤ) : Type 0 where
+  pub order : inOrder t ≡ true
+  pub within : withinℤ 1 1000000000 rate ≡ true
+
+pub change-rate-passed : (t : List ℤ) (rate : ℤ) → changeRateRefusal t rate ≡ 0 → ChangeRatePassed t rate
+unfolding changeRateRefusal
+change-rate-passed t rate h =
+    let p1 = none-first 1 _ _ (omega arith) h in
+    let p2 = none-first 2 _ _ (omega arith) (p1 .1) in
+    record { order = not-false _ (p1 .0); within = not-false _ (p2 .0) }
+
+-- Request, of client k.
+pub record RequestPassed (t : List ℤ) (k : ℕ) (size : ℤ) : Type 0 where
+  pub order : inOrder t ≡ true
+  pub node : k < 64
+  pub least : leZ (pos 1) size ≡ true
+  pub there : there (treeOf t) k ≡ true
+  pub no-class : isClass (treeOf t) k ≡ false
+  pub most : plus size ≤ treeOf t .depth k
+  pub room : waiting t k ≡ 8 → ⊥
+  pub numbers : count t ≡ 9000000000000000000 → ⊥
+
+pub request-passed : (t : List ℤ) (node tag size : ℤ) → requestRefusal t node tag size ≡ 0 → RequestPassed t (plus node) size
+unfolding requestRefusal
+request-passed t node tag size h =
+    let p1 = none-first 1 _ _ (omega arith) h in
+    let p2 = none-first 2 _ _ (omega arith) (p1 .1) in
+    let p3 = none-first 3 _ _ (omega arith) (p2 .1) in
+    let p5 = none-first 5 _ _ (omega arith) (p3 .1) in
+    let p8 = none-first 8 _ _ (omega arith) (p5 .1) in
+    let p11 = none-first 11 _ _ (omega arith) (p8 .1) in
+    let p12 = none-first 12 _ _ (omega arith) (p11 .1) in
+    let limits : every (withinℤ 0 63 node ∷ leZ (pos 1) size ∷ []) ≡ true = not-false _ (p2 .0) in
+    record {
+      order = not-false _ (p1 .0);
+      node = omega (arith, zarith, head-holds _ _ limits);
+      least = head-holds _ _ (rest-hold _ _ limits);
+      there = not-false _ (p3 .0);
+      no-class = p5 .0;
+      most = ltb-false _ _ (p8 .0);
+      room = eqb-false (waiting t (plus node)) 8 (p11 .0);
+      numbers = eqb-false (count t) 9000000000000000000 (p12 .0);
     }

@@ -16,7 +16,7 @@ use Rattle.table.specs.Order.{inOrder}
 use Rattle.table.specs.Rates.{renewed}
 use Rattle.table.specs.Calls.{done, joinRefusal, joinTable, joinAnswer, joined}
 use Rattle.table.proofs.Refusals.{kept-new, kept-old, outcome-accepted}
-use Rattle.table.proofs.Passed.{join-passed}
+use Rattle.table.proofs.Passed.{join-passed, long}
 use Rattle.keeps.proofs.Join.{join-keeps}
 use Rattle.rating.specs.Rated.{Rated}
 use Rattle.rating.proofs.Rated.{rated-before}
@@ -26,7 +26,6 @@ use Rattle.table.specs.Places.{place}
 use Rattle.table.specs.Tree.{treeOf}
 use Rattle.table.proofs.Facts.{facts}
 use Rattle.table.proofs.Edits.{joined-edit}
-use Rattle.table.proofs.Passed.{long}
 use Rattle.joining.proofs.join.Statement.{statement}
 use Rattle.joining.proofs.join.Tie as tie
 

@@ -16,13 +16,12 @@ use Rattle.table.specs.Order.{inOrder}
 use Rattle.table.specs.Rates.{renewed}
 use Rattle.table.specs.Calls.{done, leaveRefusal, leaveTable, leaveAnswer, cleared}
 use Rattle.table.proofs.Refusals.{kept-new, kept-old, outcome-accepted}
-use Rattle.table.proofs.Passed.{leave-passed}
+use Rattle.table.proofs.Passed.{leave-passed, long}
 use Rattle.keeps.proofs.Leave.{leave-keeps}
 use Rattle.rating.specs.Rated.{Rated}
 use Rattle.rating.proofs.Rated.{rated-before}
 use lib.ListN.{length}
 use Rattle.table.proofs.Edits.{cleared-edit}
-use Rattle.table.proofs.Passed.{long}
 use Rattle.leaving.proofs.leave.Statement.{statement}
 use Rattle.leaving.proofs.leave.Tie as tie
 

@@ -18,7 +18,7 @@ use Rattle.table.specs.Refusals.{accepted, refused}
 use Rattle.table.specs.Calls.{requestRefusal, requestTable, requestAnswer}
 use Rattle.table.proofs.Facts.{facts}
 use Rattle.table.proofs.Refusals.{kept-new, kept-old, outcome-accepted, outcome-refused}
-use Rattle.keeps.proofs.Request.{request-passed}
+use Rattle.table.proofs.Passed.{request-passed}
 use Rattle.requesting.proofs.request.Statement.{statement}
 use Rattle.requesting.proofs.request.Tie as tie
 

@@ -15,12 +15,12 @@ use Rattle.table.specs.Order.{inOrder}
 use Rattle.table.specs.Rates.{renewed}
 use Rattle.table.specs.Calls.{done, changeRateRefusal, changeRateTable, changeRateAnswer}
 use Rattle.table.proofs.Refusals.{kept-new, kept-old, outcome-accepted}
-use Rattle.keeps.proofs.ChangeRate.{change-rate-keeps, change-rate-passed}
+use Rattle.table.proofs.Passed.{change-rate-passed, long}
+use Rattle.keeps.proofs.ChangeRate.{change-rate-keeps}
 use Rattle.rating.specs.Rated.{Rated}
 use Rattle.rating.proofs.Rated.{rated-before}
 use Rattle.table.specs.Places.{put}
 use Rattle.table.proofs.Places.{length-put}
-use Rattle.table.proofs.Passed.{long}
 use Rattle.sharing.proofs.change_rate.Statement.{statement}
 use Rattle.sharing.proofs.change_rate.Tie as tie
 

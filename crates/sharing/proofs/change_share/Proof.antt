@@ -16,12 +16,12 @@ use Rattle.table.specs.Order.{inOrder}
 use Rattle.table.specs.Rates.{renewed}
 use Rattle.table.specs.Calls.{done, changeShareRefusal, changeShareTable, changeShareAnswer, reshared}
 use Rattle.table.proofs.Refusals.{kept-new, kept-old, outcome-accepted}
-use Rattle.keeps.proofs.ChangeShare.{change-share-keeps, change-share-passed}
+use Rattle.table.proofs.Passed.{change-share-passed, long}
+use Rattle.keeps.proofs.ChangeShare.{change-share-keeps}
 use Rattle.rating.specs.Rated.{Rated}
 use Rattle.rating.proofs.Rated.{rated-before}
 use lib.ListN.{length}
 use Rattle.table.proofs.Edits.{reshared-edit}
-use Rattle.table.proofs.Passed.{long}
 use Rattle.sharing.proofs.change_share.Statement.{statement}
 use Rattle.sharing.proofs.change_share.Tie as tie
 
