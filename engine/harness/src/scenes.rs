@@ -1,5 +1,6 @@
-//! Lists of steps with known numbers: the edges of document 01, every call at wrong lengths and at every limit, and a
-//! table damaged in every clause of "in order". Each begins with two zeroed tables.
+//! Lists of steps with known numbers: the edges of document 01, every call at wrong lengths and at every limit, a plan
+//! cut short, lengthened and changed byte by byte, and a table damaged in every clause of "in order". Each begins with
+//! two zeroed tables.
 
 use hds_engine::damage;
 use hds_engine::order::CLAUSES;
@@ -19,6 +20,7 @@ pub fn all() -> Vec<Scene> {
     }
     scenes.extend(lengths());
     scenes.extend(limits());
+    scenes.extend(plans());
     scenes.extend(damaged());
     scenes
 }
@@ -65,6 +67,18 @@ fn change_rate(rate: i64) -> Step {
 
 fn same(swapped: bool) -> Step {
     Step::Call(Call::Same { swapped })
+}
+
+fn plan_check(plan: &[u8]) -> Step {
+    Step::Call(Call::PlanCheck { plan: plan.to_vec() })
+}
+
+fn plan_read(plan: &[u8]) -> Step {
+    Step::Call(Call::PlanRead { plan: plan.to_vec() })
+}
+
+fn plan_write(buffer_len: usize) -> Step {
+    Step::Call(Call::PlanWrite { buffer_len })
 }
 
 fn poke(node: usize, place: usize, value: i64) -> Step {
@@ -286,6 +300,9 @@ fn every_call() -> Vec<Step> {
         leave(9),
         same(false),
         same(true),
+        plan_write(100),
+        plan_check(&ONE_CLIENT),
+        plan_read(&ONE_CLIENT),
         open(5, 6),
     ]
 }
@@ -300,6 +317,44 @@ fn lengths() -> Vec<Scene> {
             (format!("length {len}"), [&sound()[..], &cut, &every_call()].concat())
         })
         .collect()
+}
+
+/// Document 01's plan: disk 1000, root depth 40, client 5 with weight 4 and depth 16.
+const ONE_CLIENT: [u8; 20] = [
+    0xE8, 0x03, 0x00, 0x00, 0x28, 0x00, 0x00, 0x00, 0x01, 0x05, 0x00, 0x0D, 0x00, 0x03, 0x04, 0x00,
+    0x10, 0x00, 0x00, 0x00,
+];
+
+/// Document 01's plan and that of the sound table, whole, cut short, lengthened, and with each byte changed; the plan
+/// of the sound table written to buffers about its length.
+fn plans() -> Vec<Scene> {
+    let mut world = World::default();
+    for step in [&sound()[..], &[plan_write(53)]].concat() {
+        world.run(&mut Engine, &step);
+    }
+    let bytes = world.plan.inner().to_vec();
+    let mut written = sound();
+    written.extend([0, 8, 9, 52, 53, 54, 702, 703].map(plan_write));
+    let mut scenes: Vec<Scene> = vec![("plans written".into(), written)];
+    for (name, plan) in [("of document 01", &ONE_CLIENT[..]), ("of the sound table", &bytes[..])] {
+        let mut lengths = Vec::new();
+        for len in 0..plan.len() + 12 {
+            let mut cut = plan.to_vec();
+            cut.resize(len, 0);
+            lengths.extend([plan_check(&cut), plan_read(&cut), plan_write(100)]);
+        }
+        scenes.push((format!("plan {name}, lengths"), lengths));
+        let mut changed = Vec::new();
+        for place in 0..plan.len() {
+            for byte in [0, 1, 2, 3, 4, 5, 9, 63, 64, 255] {
+                let mut other = plan.to_vec();
+                other[place] = byte;
+                changed.extend([plan_check(&other), plan_read(&other), plan_write(100)]);
+            }
+        }
+        scenes.push((format!("plan {name}, bytes"), changed));
+    }
+    scenes
 }
 
 /// Each argument of each call at and beyond its limits, the others sound.

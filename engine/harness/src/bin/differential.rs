@@ -1,7 +1,7 @@
 //! The second engine and the archive, call by call: after each call the answers, all lent buffers and the guards around
 //! them are compared. `differential [random calls] [first seed]`. Clean runs of the archive stand before demand 3's judge
-//! too, and each faulty engine must be told from the archive. Plan calls, which the archive does not have, do not count.
-//! The last line counts scenes, runs, judged runs and faulty engines.
+//! too, and each faulty engine must be told from the archive. The last line counts scenes, runs, judged runs and faulty
+//! engines.
 
 use std::process::ExitCode;
 use std::time::Instant;
@@ -11,7 +11,7 @@ use hds_engine::differential::{differential, first_difference, Difference};
 use hds_engine::faulty::{Fault, Faulty, FAULTS};
 use hds_engine::judge;
 use hds_engine::random::{run, Profile};
-use hds_engine::steps::{Call, Step};
+use hds_engine::steps::Step;
 use hds_engine::Engine;
 
 /// Calls in a random run.
@@ -94,14 +94,7 @@ fn compared(seed: u64, steps: &[Step]) -> Result<(), Box<Difference>> {
     differential(&mut Engine, &mut Cabinet, seed, steps)
 }
 
-/// The calls of a list that the archive has.
+/// How many steps of a list are calls.
 fn calls(steps: &[Step]) -> usize {
-    let ours = |step: &&Step| match step {
-        Step::Call(Call::PlanRead { .. } | Call::PlanWrite { .. } | Call::PlanCheck { .. }) => {
-            false
-        }
-        Step::Call(_) => true,
-        _ => false,
-    };
-    steps.iter().filter(ours).count()
+    steps.iter().filter(|step| matches!(step, Step::Call(_))).count()
 }
