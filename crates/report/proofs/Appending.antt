@@ -41,7 +41,7 @@ module _ (b u after : List ℕ) (next : ℕ) (h : Appended b 0 u after next) whe
   front : after ≡ u ++ drop (length u) b
   front = h .bytes ∙ written-front b u
 
-  pub appended-front : take next after ≡ u
+  appended-front : take next after ≡ u
   appended-front = ap (take next) front ∙ take-at u (drop (length u) b) next (omega (arith, h .behind))
 
   pub appended-counts : Counts next after

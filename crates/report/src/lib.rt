@@ -1,10 +1,12 @@
 // The text that is printed for a plan. Document 01, "Same tree, and the plan file". A function `put_..` puts bytes into a
-// text from place a on, or from the start on, and answers the place behind them.
+// text from place a on, or from the start on, and answers the place behind them. A line has at most 49 bytes: two numbers
+// of up to 20 digits, the word of a sort and a newline.
 ghost use mathlib.Core.Path.{_≡_};
 ghost use Prim.Native.Nat.{_+_, _<_, _≤_};
-ghost use lib.ListN.{length, take};
+ghost use lib.ListN.{length};
 ghost use Rattle.io.specs.Counts.{Counts};
 ghost use Rattle.table.specs.Limits.{tableLength, nodes};
+ghost use Rattle.layout.specs.Written.{written};
 ghost use Rattle.report.specs.Appended.{Appended};
 ghost use Rattle.report.specs.Text.{sortText, nodeLine, line, linesOf, refusedLine, reportOf};
 
@@ -73,10 +75,11 @@ fn put_refused(text: &mut [u8], number: u64) -> usize
     pieces::put_text(text, end, b"\n")
 }
 
-// The text that is printed for a plan, at the start of a buffer; its length.
+// Puts the text that is printed for a plan at the start of a buffer, touches nothing beyond it, and answers its length.
 pub fn report(contents: &[u8], text: &mut [u8; 4096]) -> usize
     ensures count { λ r. ⌜ Counts r (now (text .exit)) ⌝ }
-    ensures text { λ r. ⌜ take r (now (text .exit)) ≡ reportOf (now (contents .entry)) ⌝ }
+    ensures length { λ r. ⌜ r ≡ length (reportOf (now (contents .entry))) ⌝ }
+    ensures text { λ _. ⌜ now (text .exit) ≡ written (now (text .entry)) 0 (reportOf (now (contents .entry))) ⌝ }
 {
     let mut table = [0i64; Table::LENGTH];
     let answer = plan::read(&mut table, contents);

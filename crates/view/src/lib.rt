@@ -1,6 +1,6 @@
 // The view of a plan. Document 01, "Same tree, and the plan file": a plan has its contents first, then the bodies.
-// A proof over a struct that holds a slice is made by hand, so few functions are over the view, and each leaves the work to
-// `parts`, which takes plain bytes. `listed_at` and `body_of` take plain bytes too, and serve all other callers.
+// Few functions are over the view, and each leaves the work to `parts`, which takes plain bytes. `listed_at` and `body_of`
+// take plain bytes too, and serve all other callers.
 ghost use mathlib.Core.Path.{_≡_};
 ghost use mathlib.Core.Bool.{true};
 ghost use Prim.Native.Nat.{_<_};
@@ -8,7 +8,7 @@ ghost use Rattle.layout.specs.Format.{countIn, formed};
 ghost use Rattle.view.specs.Views.{Views, EntryAt, BodyAt};
 ghost use Rattle.view.specs.Answer.{bodyAnswer, toldFound};
 
-pub mod parts;
+mod parts;
 
 use layout::Sort;
 use layout::forms;

@@ -1,11 +1,12 @@
 -- `report::report` meets its contract: the lines of the table that the plan makes, or the line of the refusal.
 use mathlib.Core.Path.{_≡_, sym, ap, _∙_}
+use native.Mathlib.Nat.{zero-add}
 use borrow.Author.Needs.{needs}
 use Rattle.table.specs.Refusals.{numberTold}
 use Rattle.table.specs.Calls.{blank}
 use Rattle.planlaws.specs.Reading.{checkAnswer}
 use Rattle.report.specs.Text.{linesOf, refusedLine}
-use Rattle.report.proofs.Appending.{append-as, appended-front, appended-counts}
+use Rattle.report.proofs.Appending.{append-as, appended-counts}
 use Rattle.report.proofs.Texts.{told-check, accepted-report, refused-report}
 use Rattle.report.proofs.report.Statement.{statement}
 use Rattle.report.proofs.report.Tie as tie
@@ -38,13 +39,13 @@ unfolding blank
 returns c =
     let told = c .before .before .before .before in
     let put = append-as _ _ _ _ _ _ (ap linesOf (told .before .before .read .ensures .1) ∙ accepted-report _ (sym (number told) ∙ c .before .before .before .if1 .taken)) (c .put-lines .ensures) in
-    (appended-counts _ _ _ _ put, appended-front _ _ _ _ put)
+    (appended-counts _ _ _ _ put, (put .behind ∙ zero-add _, put .bytes))
 
 returns-2 : tie.Need-returns-2
 returns-2 c =
     let told = c .before .before .before in
     let put = append-as _ _ _ _ _ _ (ap refusedLine (number told) ∙ refused-report _ (λ z. c .before .before .if1 .left (number told ∙ z))) (c .put-refused .ensures) in
-    (appended-counts _ _ _ _ put, appended-front _ _ _ _ put)
+    (appended-counts _ _ _ _ put, (put .behind ∙ zero-add _, put .bytes))
 
 pub report-spec : {M : Type 1} → statement M
 report-spec =

@@ -1,36 +1,26 @@
--- `view::parts::entry_in` meets its contract: an entry of well formed bytes stands within them.
-use Prim.Native.Nat.{ℕ, _+_}
-use mathlib.Core.Path.{ap, _∙_}
+-- `view::parts::entry_in` meets its contract: the number and the parent of the node that stands there.
+use Prim.Native.Nat.{ℕ}
+use mathlib.Core.Path.{ap}
 use native.Mathlib.Omega.{arith}
-use Rattle.layout.specs.Bytes.{byteAt}
-use Rattle.layout.specs.Format.{entryIn}
+use Rattle.layout.specs.Format.{Entry}
+use Rattle.layout.specs.Nodes.{entryBy}
 use Rattle.layout.proofs.Codec.{formed-facts}
-use borrow.Author.Needs.{needs}
 use Rattle.view.proofs.parts.entry_in.Statement.{statement}
 use Rattle.view.proofs.parts.entry_in.Tie as tie
 
-entry-at-requires : tie.Need-entry-at-requires
-entry-at-requires c κs = let f = formed-facts _ (c .before .pre .0 .right) in omega arith
-
-byte-requires : tie.Need-byte-requires
-byte-requires c κs = let f = formed-facts _ (c .before .before .pre .0 .right) in omega arith
-
-add-byte : tie.Need-add-byte
-add-byte c = search needs
-
-byte-requires-2 : tie.Need-byte-requires-2
-byte-requires-2 c κs = let f = formed-facts _ (c .before .before .before .pre .0 .right) in omega arith
+node-at-requires : tie.Need-node-at-requires
+node-at-requires c κs =
+    let f = formed-facts _ (c .before .pre .0 .right) in
+    (c .before .pre .0 .counted, omega arith, omega arith, omega arith, f .kind (c .before .args .i) (omega arith))
 
 returns : tie.Need-returns
-unfolding entryIn
+unfolding entryBy
 returns c =
-    let s = c .before .before .before .before .args .s .now in
-    let place = c .before .before .entry-at .ensures in
+    let same = c .node-at .ensures .0 in
     record {
-      node = c .before .byte .ensures .0 ∙ ap (byteAt s) place;
-      parent = c .byte2 .ensures .0 ∙ ap (λ (k : ℕ). byteAt s (k + 1)) place;
+      node = ap (λ (e : Entry). e .node) same;
+      parent = ap (λ (e : Entry). e .parent) same;
     }
 
 pub entry-in-spec : {M : Type 1} → statement M
-entry-in-spec =
-    tie.close (tie.spec entry-at-requires byte-requires add-byte byte-requires-2 returns)
+entry-in-spec = tie.close (tie.spec node-at-requires returns)
