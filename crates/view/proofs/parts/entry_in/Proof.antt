@@ -11,7 +11,7 @@ use Rattle.view.proofs.parts.entry_in.Tie as tie
 node-at-requires : tie.Need-node-at-requires
 node-at-requires c κs =
     let f = formed-facts _ (c .before .pre .0 .right) in
-    (c .before .pre .0 .counted, omega arith, omega arith, omega arith, f .kind (c .before .args .i) (omega arith))
+    (c .before .pre .0 .counted, omega arith, omega arith, omega arith, f .kind _ (omega arith))
 
 returns : tie.Need-returns
 unfolding entryBy
