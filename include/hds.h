@@ -47,7 +47,7 @@ enum hds_refusal {
     HDS_OUTSIDE_LIMITS = 2,     /* a number outside its limits; an unknown sort or kind */
     HDS_NOT_THERE = 3,          /* node or parent not there */
     HDS_IN_USE = 4,             /* joining number in use */
-    HDS_WRONG_SORT = 5,         /* parent is a client; request at a class; leave or change share of the root */
+    HDS_WRONG_NODE = 5,         /* parent is a client; request at a class; leave or change share of the root */
     HDS_LEVEL_TOO_LOW = 6,      /* joining class under level 3 */
     HDS_SHARES_ABOVE = 7,       /* fixed shares above 10,000 */
     HDS_DEPTH_ABOVE = 8,        /* children's depths above the class's; size above the client's depth */
@@ -55,7 +55,7 @@ enum hds_refusal {
     HDS_IN_DEBT = 10,           /* leaving class has a balance below 0 */
     HDS_QUEUE_FULL = 11,        /* client has 8 waiting */
     HDS_COUNT_AT_END = 12,      /* the count of accepted requests is at its end */
-    HDS_LIST_SHORT = 13,        /* list shorter than 4 x all waiting, or buffer shorter than the plan */
+    HDS_BUFFER_SHORT = 13,      /* list shorter than 4 x all waiting, or buffer shorter than the plan */
     HDS_PLAN_WRONG = 14,        /* plan length, count, offset or kind wrong */
     HDS_PLAN_OUT_OF_ORDER = 15  /* plan entries out of order */
 };

@@ -14,7 +14,7 @@ use Rattle.table.specs.Places.{place, balance}
 use Rattle.table.specs.Tree.{Tree, treeOf}
 use Rattle.table.specs.Tick.{lower, charge}
 use Rattle.table.proofs.Places.{length-put, place-put-same, place-put-node, place-put-place}
-use Rattle.laws.proofs.Renewed.{same-tree}
+use Rattle.treelaws.proofs.Renewed.{same-tree}
 use Rattle.balances.specs.Within.{Within}
 
 pub charge-last : (t : List ℤ) (amount l k : ℕ) → l ≡ 0 → charge t amount l k ≡ lower t amount k

@@ -13,7 +13,7 @@ use Rattle.numbers.proofs.Tests.{true-false, cond-false}
 use Rattle.numbers.proofs.Every.{head-fails}
 use Rattle.table.specs.Tree.{isClass, isClient}
 use Rattle.table.specs.Calls.{joinTable, joinAnswer, leaveTable, leaveAnswer, changeShareTable, changeShareAnswer, changeRateTable, changeRateAnswer, requestTable, requestAnswer}
-use Rattle.keeps.proofs.Nodes.{class-same, client-same}
+use Rattle.calllaws.proofs.Nodes.{class-same, client-same}
 use Rattle.bounds.specs.Events.{Call, join, leave, changeShare, changeRate, request, tick, tableAfter, answerOf, eventOf}
 use Rattle.bounds.specs.Observer.{Observer, entriesOf, entries, observed}
 use Rattle.bounds.specs.Counts.{accepts, isTick, leaves, rateAt, grainsFor, grainsCharged, waits}

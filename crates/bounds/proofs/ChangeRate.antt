@@ -12,7 +12,7 @@ use Rattle.table.specs.Order.{inOrder}
 use Rattle.table.specs.Calls.{changeRateRefusal, changeRateTable}
 use Rattle.table.proofs.Facts.{facts}
 use Rattle.table.proofs.Places.{place-put-same, place-put-place}
-use Rattle.keeps.proofs.ChangeRate.{change-rate-keeps, rerated-tree}
+use Rattle.calllaws.proofs.ChangeRate.{change-rate-keeps, rerated-tree}
 use Rattle.bounds.specs.Events.{changeRate}
 use Rattle.bounds.specs.Observer.{Observer, afterAccepted}
 use Rattle.bounds.specs.Counts.{leaves}

@@ -14,7 +14,7 @@ use Rattle.table.specs.Calls.{reshared, changeShareRefusal, changeShareTable}
 use Rattle.table.proofs.Facts.{InOrder, facts}
 use Rattle.table.proofs.Edits.{reshared-node, reshared-others, reshared-rest}
 use Rattle.table.proofs.Passed.{ChangeSharePassed, change-share-passed}
-use Rattle.keeps.proofs.ChangeShare.{change-share-keeps}
+use Rattle.calllaws.proofs.ChangeShare.{change-share-keeps}
 use Rattle.bounds.specs.Events.{changeShare}
 use Rattle.bounds.specs.Observer.{Observer, withShare, afterAccepted}
 use Rattle.bounds.specs.Counts.{leaves}

@@ -15,7 +15,7 @@ use Rattle.table.specs.Places.{place, balance, waiting}
 use Rattle.table.specs.Tree.{isClass, isClient}
 use Rattle.table.specs.Refusals.{outcome, kept}
 use Rattle.table.proofs.Refusals.{kept-new, kept-old, outcome-accepted, outcome-refused}
-use Rattle.keeps.proofs.Nodes.{client-same}
+use Rattle.calllaws.proofs.Nodes.{client-same}
 use Rattle.bounds.specs.Events.{Call}
 use Rattle.bounds.specs.Observer.{Observer, afterAccepted, afterAnswer}
 use Rattle.bounds.specs.Counts.{accepts, leaves, waits}

@@ -13,7 +13,7 @@ use Rattle.numbers.specs.Whole.{plus}
 use Rattle.table.specs.Tree.{Tree}
 use Rattle.table.specs.Places.{size, tag}
 use Rattle.table.specs.Tick.{State, grains, dispatched}
-use Rattle.ticks.proofs.Dispatch.{dispatch-entry}
+use Rattle.ticklaws.proofs.Dispatch.{dispatch-entry}
 use Rattle.bounds.specs.Observer.{Entry, entriesIn, entriesFor}
 use Rattle.bounds.specs.Counts.{grainsFor, isAbove, grainsCharged}
 

@@ -10,7 +10,7 @@ use Rattle.numbers.proofs.Tests.{same-truth}
 use Rattle.table.specs.Tree.{Tree}
 use Rattle.table.specs.Places.{size}
 use Rattle.table.specs.Tick.{State, grains, dispatched}
-use Rattle.ticks.specs.Way.{onWay, atOrAbove}
+use Rattle.ticklaws.specs.Way.{onWay, atOrAbove}
 use Rattle.bounds.specs.Observer.{Entry, entriesFor}
 use Rattle.bounds.specs.Counts.{grainsFor, isAbove, grainsCharged}
 use Rattle.bounds.proofs.Decoded.{entriesFor-last, grainsFor-last, grainsCharged-last, told, whole, entryOf, told-dispatched}

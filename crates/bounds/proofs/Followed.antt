@@ -16,10 +16,10 @@ use Rattle.numbers.proofs.Parts.{zarith, sub-parts}
 use Rattle.table.specs.Tree.{Tree, isClient}
 use Rattle.table.specs.Places.{balance, waiting, size}
 use Rattle.table.specs.Tick.{State, grains, dispatched}
-use Rattle.ticks.specs.Way.{atOrAbove}
-use Rattle.ticks.proofs.Sorts.{client-class}
-use Rattle.ticks.proofs.Way.{Ways, At, way-class, above-there}
-use Rattle.ticks.proofs.Dispatch.{Dispatch, takes, dispatch-shifted}
+use Rattle.ticklaws.specs.Way.{atOrAbove}
+use Rattle.ticklaws.proofs.Sorts.{client-class}
+use Rattle.ticklaws.proofs.Way.{Ways, At, way-class, above-there}
+use Rattle.ticklaws.proofs.Dispatch.{Dispatch, takes, dispatch-shifted}
 use Rattle.bounds.specs.Observer.{entriesFor}
 use Rattle.bounds.specs.Counts.{grainsFor, grainsCharged}
 use Rattle.bounds.proofs.Decoded.{told, whole, whole-dispatched}

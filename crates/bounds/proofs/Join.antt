@@ -15,10 +15,10 @@ use Rattle.table.specs.Rates.{renewed}
 use Rattle.table.specs.Order.{inOrder}
 use Rattle.table.specs.Calls.{joined, joinRefusal, joinTable}
 use Rattle.table.proofs.Facts.{InOrder, facts}
-use Rattle.laws.proofs.Children.{class-there}
+use Rattle.treelaws.proofs.Children.{class-there}
 use Rattle.table.proofs.Edits.{joined-edit, joined-node, joined-others, joined-rest}
 use Rattle.table.proofs.Passed.{JoinPassed, join-passed}
-use Rattle.keeps.proofs.Join.{join-keeps}
+use Rattle.calllaws.proofs.Join.{join-keeps}
 use Rattle.bounds.specs.Events.{join}
 use Rattle.bounds.specs.Observer.{Observer, setAt, withNode, afterAccepted}
 use Rattle.bounds.specs.Counts.{leaves, waits}

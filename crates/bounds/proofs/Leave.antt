@@ -15,7 +15,7 @@ use Rattle.table.specs.Calls.{cleared, leaveRefusal, leaveTable}
 use Rattle.table.proofs.Facts.{InOrder, facts}
 use Rattle.table.proofs.Edits.{cleared-edit, cleared-node, cleared-others}
 use Rattle.table.proofs.Passed.{LeavePassed, leave-passed}
-use Rattle.keeps.proofs.Leave.{leave-keeps}
+use Rattle.calllaws.proofs.Leave.{leave-keeps}
 use Rattle.bounds.specs.Events.{leave}
 use Rattle.bounds.specs.Observer.{Observer, withNode, afterAccepted}
 use Rattle.bounds.specs.Counts.{leaves}

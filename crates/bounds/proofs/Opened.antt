@@ -14,7 +14,7 @@ use Rattle.table.specs.Calls.{blank, opened, openRefusal, openTable}
 use Rattle.table.proofs.Refusals.{kept-new}
 use Rattle.table.proofs.Edits.{opened-edit, opened-node, opened-place, blank-place}
 use Rattle.table.proofs.Passed.{open-passed}
-use Rattle.keeps.proofs.Open.{opened-in-order}
+use Rattle.calllaws.proofs.Open.{opened-in-order}
 use Rattle.bounds.specs.Observer.{start}
 use Rattle.bounds.proofs.Simulation.{Agrees}
 use Rattle.bounds.proofs.Trees.{set-column, same-column}

@@ -14,8 +14,8 @@ use Rattle.table.specs.Order.{inOrder}
 use Rattle.table.specs.Refusals.{kept}
 use Rattle.table.proofs.Facts.{facts}
 use Rattle.table.proofs.Refusals.{kept-new}
-use Rattle.laws.proofs.Renewed.{renewed-length, renewed-place, renewed-tree, renewed-disk}
-use Rattle.keeps.proofs.Ready.{root-there, root-level}
+use Rattle.treelaws.proofs.Renewed.{renewed-length, renewed-place, renewed-tree, renewed-disk}
+use Rattle.calllaws.proofs.Ready.{root-there, root-level}
 use Rattle.bounds.specs.Observer.{Observer}
 use Rattle.bounds.proofs.Simulation.{Agrees}
 use Rattle.bounds.proofs.Changes.{Same}

@@ -20,8 +20,8 @@ use Rattle.table.specs.Refusals.{refused}
 use Rattle.table.specs.Calls.{leaveRefusal, leaveAnswer}
 use Rattle.table.proofs.Facts.{InOrder, facts}
 use Rattle.table.proofs.Refusals.{none-first, outcome-refused}
-use Rattle.laws.proofs.Children.{class-there}
-use Rattle.laws.proofs.Floors.{grounds, node-floor}
+use Rattle.treelaws.proofs.Children.{class-there}
+use Rattle.treelaws.proofs.Floors.{grounds, node-floor}
 use Rattle.bounds.specs.Events.{Call, join, leave, changeShare, changeRate, request, tick, tableAfter, answerOf, eventOf, events, tableAfterAll}
 use Rattle.bounds.specs.Observer.{Observer, observedAll}
 use Rattle.bounds.specs.Counts.{accepts, leaves, ratesOver, dispatchedOver, chargedOver, waitsThroughout, staysThroughout}

@@ -16,11 +16,11 @@ use Rattle.table.specs.Rates.{rateIn}
 use Rattle.table.specs.Order.{inOrder}
 use Rattle.table.specs.Tick.{ticked, tickRefusal}
 use Rattle.table.proofs.Facts.{InOrder, facts}
-use Rattle.laws.proofs.Children.{class-there}
-use Rattle.ticks.proofs.Sorts.{client-there}
-use Rattle.ticks.proofs.Frame.{frame-tree, frame-rate}
-use Rattle.ticks.proofs.Grown.{rate-in-order}
-use Rattle.ticks.proofs.Keeps.{tick-keeps, ticked-settled}
+use Rattle.treelaws.proofs.Children.{class-there}
+use Rattle.ticklaws.proofs.Sorts.{client-there}
+use Rattle.ticklaws.proofs.Frame.{frame-tree, frame-rate}
+use Rattle.ticklaws.proofs.Grown.{rate-in-order}
+use Rattle.ticklaws.proofs.Keeps.{tick-keeps, ticked-settled}
 use Rattle.bounds.specs.Events.{tick, tableAfter, eventOf}
 use Rattle.bounds.specs.Observer.{Observer, Entry, entriesFor, observed}
 use Rattle.bounds.specs.Counts.{grainsFor, grainsCharged, waits}

@@ -13,16 +13,16 @@ use Rattle.table.specs.Tree.{Tree, treeOf}
 use Rattle.table.specs.Places.{rate, balance, waiting, depthGrains}
 use Rattle.table.specs.Tick.{State, grown, cut, supplier, allWaiting, stepTwo, stepThree, ticked}
 use Rattle.table.proofs.Facts.{InOrder}
-use Rattle.ticks.specs.Way.{atOrAbove}
-use Rattle.ticks.proofs.Frame.{frame-tree}
-use Rattle.ticks.proofs.Queues.{only-shifted}
-use Rattle.ticks.proofs.Reached.{reached-long}
-use Rattle.ticks.proofs.Way.{ways-of, way-first}
-use Rattle.ticks.proofs.Grown.{grown-swept, grown-reached}
-use Rattle.ticks.proofs.Cut.{cutTo, cut-swept, cut-low, cut-falls}
-use Rattle.ticks.proofs.Served.{client-at, servedAll-with}
-use Rattle.ticks.proofs.Lent.{lent-with}
-use Rattle.ticks.proofs.Keeps.{two-reached, three-settled}
+use Rattle.ticklaws.specs.Way.{atOrAbove}
+use Rattle.ticklaws.proofs.Frame.{frame-tree}
+use Rattle.ticklaws.proofs.Queues.{only-shifted}
+use Rattle.ticklaws.proofs.Reached.{reached-long}
+use Rattle.ticklaws.proofs.Way.{ways-of, way-first}
+use Rattle.ticklaws.proofs.Grown.{grown-swept, grown-reached}
+use Rattle.ticklaws.proofs.Cut.{cutTo, cut-swept, cut-low, cut-falls}
+use Rattle.ticklaws.proofs.Served.{client-at, servedAll-with}
+use Rattle.ticklaws.proofs.Lent.{lent-with}
+use Rattle.ticklaws.proofs.Keeps.{two-reached, three-settled}
 use Rattle.bounds.specs.Observer.{entriesFor}
 use Rattle.bounds.specs.Counts.{grainsCharged}
 use Rattle.bounds.proofs.Decoded.{told, told-none, whole-none}

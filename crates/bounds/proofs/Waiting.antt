@@ -15,14 +15,14 @@ use Rattle.table.specs.Tree.{treeOf, isClient}
 use Rattle.table.specs.Places.{rate, balance, waiting, depthGrains, size}
 use Rattle.table.specs.Tick.{grains, enough, stepTwo, ticked}
 use Rattle.table.proofs.Facts.{InOrder}
-use Rattle.ticks.specs.Way.{atOrAbove}
-use Rattle.ticks.proofs.Sorts.{client-there, client-class}
-use Rattle.ticks.proofs.Frame.{frame-tree, frame-grains}
-use Rattle.ticks.proofs.Reached.{Reached, reached-first}
-use Rattle.ticks.proofs.Way.{ways-of, way-first}
-use Rattle.ticks.proofs.Next.{not-supplied}
-use Rattle.ticks.proofs.Served.{client-at, facts-ready}
-use Rattle.ticks.proofs.Keeps.{two-reached, two-suffices, ticked-settled, ticked-in-order, none-supplied}
+use Rattle.ticklaws.specs.Way.{atOrAbove}
+use Rattle.ticklaws.proofs.Sorts.{client-there, client-class}
+use Rattle.ticklaws.proofs.Frame.{frame-tree, frame-grains}
+use Rattle.ticklaws.proofs.Reached.{Reached, reached-first}
+use Rattle.ticklaws.proofs.Way.{ways-of, way-first}
+use Rattle.ticklaws.proofs.Next.{not-supplied}
+use Rattle.ticklaws.proofs.Served.{client-at, facts-ready}
+use Rattle.ticklaws.proofs.Keeps.{two-reached, two-suffices, ticked-settled, ticked-in-order, none-supplied}
 use Rattle.bounds.specs.Counts.{grainsFor}
 use Rattle.bounds.proofs.Decoded.{told}
 use Rattle.bounds.proofs.Ticked.{ticked-fewer, ticked-fair, ticked-same}

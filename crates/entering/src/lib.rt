@@ -7,7 +7,7 @@ ghost use lib.IntN.{pos};
 ghost use Rattle.table.specs.Limits.{tableLength, nodes, lastLevel};
 ghost use Rattle.table.specs.Tree.{treeOf};
 ghost use Rattle.table.specs.Calls.{joinRefusal, joinTable};
-ghost use Rattle.laws.specs.Joins.{refusalOf, afterJoin};
+ghost use Rattle.treelaws.specs.Joins.{refusalOf, afterJoin};
 ghost use Rattle.layout.specs.Nodes.{shareIn, heldBy, entryBy};
 ghost use Rattle.layout.specs.Format.{lastCount, lastKind, entryAt, planLength, countIn, entryIn, planIn, formed};
 ghost use Rattle.planlaws.specs.Reading.{joinOf, afterEntries, entriesRefusal, standing, rising};

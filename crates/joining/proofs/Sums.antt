@@ -13,9 +13,9 @@ use Rattle.numbers.proofs.Tests.{true-false}
 use Rattle.table.specs.Tree.{Tree, treeOf, there, childOf, sumUnder}
 use Rattle.table.specs.Rates.{fixedShare, fixedSum}
 use Rattle.table.specs.Calls.{joined, sharesAbove, depthsAbove}
-use Rattle.laws.proofs.Children.{child-facts, child-of}
+use Rattle.treelaws.proofs.Children.{child-facts, child-of}
 use Rattle.table.proofs.Edits.{joined-edit, joined-node, joined-others}
-use Rattle.keeps.proofs.OneNode.{count-none, shares-changed, depths-changed}
+use Rattle.calllaws.proofs.OneNode.{count-none, shares-changed, depths-changed}
 use Rattle.rating.proofs.Under.{counted}
 use Rattle.rating.proofs.Rated.{fixed-of}
 

@@ -1,5 +1,5 @@
 -- The stages together are the definition: a table in order passes each, and a table that passes all is in order. Only the
--- floor of the stage of records is no clause of the definition; it follows from the others (laws, Floors).
+-- floor of the stage of records is no clause of the definition; it follows from the others (treelaws, Floors).
 use Prim.Native.Nat.{ℕ, _+_, _≤_, _<_}
 use mathlib.Core.Path.{_≡_, sym, ap, _∙_}
 use mathlib.Core.Bool.{Bool, true, false, not}
@@ -19,9 +19,9 @@ use Rattle.table.specs.Tree.{treeOf, there, isClass, isClient, sumUnder, eachNo
 use Rattle.table.specs.Rates.{fixedSum}
 use Rattle.table.specs.Order.{isZero, headerInOrder, unusedInOrder, limitsKept, spareInOrder, rootInOrder, parentInOrder, classInOrder, rateInOrder, balanceInOrder, requestInOrder, queueInOrder, arrivalsDiffer, inOrder}
 use Rattle.table.proofs.Facts.{InOrder, facts, each-at, at-each, at-zero, zero-at as zero-of, limits-of, root-of, child-of, of-balance}
-use Rattle.laws.proofs.Children.{balances-parts}
-use Rattle.laws.proofs.Children.{class-there}
-use Rattle.laws.proofs.Floors.{grounds, balance-room, node-floor}
+use Rattle.treelaws.proofs.Children.{balances-parts}
+use Rattle.treelaws.proofs.Children.{class-there}
+use Rattle.treelaws.proofs.Floors.{grounds, balance-room, node-floor}
 use Rattle.rating.specs.Rated.{Rated}
 use Rattle.rating.proofs.Rated.{rated-of}
 use Rattle.records.specs.Record.{recordsInOrder}

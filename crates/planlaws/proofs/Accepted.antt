@@ -17,7 +17,7 @@ use Rattle.table.specs.Tree.{treeOf}
 use Rattle.table.specs.Refusals.{Cause, cause, first}
 use Rattle.table.specs.Calls.{openRefusal, openTable, opened}
 use Rattle.table.proofs.Refusals.{first-here, first-past, first-end, first-none, none-first, kept-new}
-use Rattle.laws.specs.Joins.{refusalOf, afterJoin}
+use Rattle.treelaws.specs.Joins.{refusalOf, afterJoin}
 use Rattle.layout.specs.Format.{Plan, planIn, formed}
 use Rattle.planlaws.specs.Reading.{joinOf, afterEntries, refusing, entriesRefusal, openedFor, joinedFor, rising, planRefusal, planTable}
 

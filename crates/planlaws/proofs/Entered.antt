@@ -14,13 +14,13 @@ use Rattle.table.specs.Places.{place, rate}
 use Rattle.table.specs.Tree.{Tree, treeOf, there}
 use Rattle.table.specs.Calls.{opened, openRefusal}
 use Rattle.table.proofs.Facts.{InOrder, facts}
-use Rattle.laws.specs.Joins.{Join, refusalOf, afterJoin}
-use Rattle.laws.proofs.Joined.{JoinAccepted, join-accepted, givenBy, same-there, JoinLeaves, join-leaves}
+use Rattle.treelaws.specs.Joins.{Join, refusalOf, afterJoin}
+use Rattle.treelaws.proofs.Joined.{JoinAccepted, join-accepted, givenBy, same-there, JoinLeaves, join-leaves}
 use Rattle.table.proofs.Edits.{same-node, opened-edit, opened-node, opened-others}
-use Rattle.keeps.proofs.Fresh.{zero-unused}
+use Rattle.calllaws.proofs.Fresh.{zero-unused}
 use Rattle.table.proofs.Passed.{open-passed}
-use Rattle.keeps.proofs.Open.{opened-in-order}
-use Rattle.keeps.proofs.Join.{join-keeps}
+use Rattle.calllaws.proofs.Open.{opened-in-order}
+use Rattle.calllaws.proofs.Join.{join-keeps}
 use Rattle.layout.specs.Format.{Entry, Plan}
 use Rattle.planlaws.specs.Reading.{sortOf, shareKindOf, joinOf, afterEntries, openedFor}
 use Rattle.planlaws.proofs.Accepted.{after-none, after-suc, opened-for}

@@ -20,10 +20,10 @@ use Rattle.table.specs.Rates.{fixedSum}
 use Rattle.table.specs.Calls.{joinRefusal, sharesAbove, depthsAbove}
 use Rattle.table.proofs.Facts.{InOrder, from-facts, Limits, Child}
 use Rattle.table.proofs.Refusals.{first-none, first-end}
-use Rattle.laws.specs.Joins.{Join, refusalOf, joinedBy}
-use Rattle.laws.proofs.Joined.{givenBy, joined-shown, joined-apart, same-there}
+use Rattle.treelaws.specs.Joins.{Join, refusalOf, joinedBy}
+use Rattle.treelaws.proofs.Joined.{givenBy, joined-shown, joined-apart, same-there}
 use Rattle.table.proofs.Edits.{SameNode, same-node}
-use Rattle.keeps.proofs.Nodes.{class-same}
+use Rattle.calllaws.proofs.Nodes.{class-same}
 use Rattle.planlaws.proofs.Part.{PartOf, part-shares, part-depths}
 
 -- The join that gives node k what table t shows of it.

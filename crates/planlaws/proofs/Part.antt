@@ -8,9 +8,9 @@ use Rattle.numbers.proofs.Tests.{by-test}
 use Rattle.numbers.proofs.Sums.{sum-mono}
 use Rattle.table.specs.Tree.{Tree, there, isFixed, childOf, countIf, sumUnder}
 use Rattle.table.specs.Rates.{fixedShare, fixedSum}
-use Rattle.laws.proofs.Children.{ChildOf, child-facts, child-of}
+use Rattle.treelaws.proofs.Children.{ChildOf, child-facts, child-of}
 use Rattle.table.proofs.Edits.{SameNode}
-use Rattle.keeps.proofs.Nodes.{there-same}
+use Rattle.calllaws.proofs.Nodes.{there-same}
 
 pub record PartOf (part whole : Tree) : Type 0 where
   pub same : (k : ℕ) → k < 64 → there part k ≡ true → SameNode part whole k

@@ -14,8 +14,8 @@ use Rattle.numbers.proofs.All.{below-cases}
 use Rattle.table.specs.Places.{place, rate}
 use Rattle.table.specs.Tree.{treeOf, there}
 use Rattle.table.proofs.Facts.{InOrder, Limits, Child}
-use Rattle.laws.proofs.Children.{class-there}
-use Rattle.keeps.proofs.Ready.{root-there}
+use Rattle.treelaws.proofs.Children.{class-there}
+use Rattle.calllaws.proofs.Ready.{root-there}
 use Rattle.planlaws.specs.Reading.{sortOf, shareKindOf, joinOf, standing}
 use Rattle.planlaws.specs.Writing.{order, kindOf, entryOf, planOf}
 use Rattle.layout.proofs.Codec.{Fits}

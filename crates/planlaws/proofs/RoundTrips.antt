@@ -24,7 +24,7 @@ use Rattle.table.specs.Refusals.{accepted}
 use Rattle.table.specs.Calls.{done, sameTree, sameRefusal, sameAnswer}
 use Rattle.table.proofs.Facts.{facts}
 use Rattle.table.proofs.Refusals.{none-first, first-none, first-end, outcome-accepted}
-use Rattle.laws.proofs.Renewed.{same-tree-below}
+use Rattle.treelaws.proofs.Renewed.{same-tree-below}
 use Rattle.layout.specs.Bytes.{byteAt}
 use Rattle.planlaws.specs.Reading.{planRefusal, planTable, planAnswer}
 use Rattle.planlaws.specs.Writing.{order, planOf, planBytes, writeRefusal, writeBuffer, writeAnswer}

@@ -22,11 +22,11 @@ use Rattle.table.specs.Order.{inOrder}
 use Rattle.table.specs.Calls.{openRefusal}
 use Rattle.table.proofs.Facts.{InOrder, Limits, facts}
 use Rattle.table.proofs.Refusals.{first-none, first-end}
-use Rattle.laws.specs.Joins.{refusalOf}
-use Rattle.laws.proofs.Renewed.{same-tree-below}
+use Rattle.treelaws.specs.Joins.{refusalOf}
+use Rattle.treelaws.proofs.Renewed.{same-tree-below}
 use Rattle.table.proofs.Edits.{SameNode}
-use Rattle.keeps.proofs.Nodes.{there-same}
-use Rattle.keeps.proofs.Ready.{root-there}
+use Rattle.calllaws.proofs.Nodes.{there-same}
+use Rattle.calllaws.proofs.Ready.{root-there}
 use Rattle.layout.specs.Format.{Entry, Plan, planIn, formed}
 use Rattle.planlaws.specs.Reading.{joinOf, afterEntries, openedFor, joinedFor, standing, rising, planRefusal, planTable}
 use Rattle.planlaws.specs.Writing.{order, entryOf, planOf, planBytes}

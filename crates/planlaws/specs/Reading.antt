@@ -11,7 +11,7 @@ use Rattle.table.specs.Limits.{tableLength, nodes, class}
 use Rattle.table.specs.Tree.{Tree, treeOf}
 use Rattle.table.specs.Refusals.{Cause, cause, first, Outcome, outcome, kept}
 use Rattle.table.specs.Calls.{done, blank, openRefusal, openTable}
-use Rattle.laws.specs.Joins.{Join, refusalOf, afterJoin}
+use Rattle.treelaws.specs.Joins.{Join, refusalOf, afterJoin}
 use Rattle.layout.specs.Format.{Entry, Plan, planIn, formed}
 
 -- The sort and the share kind that a plan's kind stands for.

@@ -14,7 +14,7 @@ use Rattle.numbers.proofs.Every.{head-holds, rest-hold, holds-with, none-left}
 use Rattle.table.specs.Places.{rate}
 use Rattle.table.specs.Tree.{Tree, treeOf, there}
 use Rattle.table.specs.Rates.{rateIn}
-use Rattle.laws.proofs.Renewed.{rate-at-root}
+use Rattle.treelaws.proofs.Renewed.{rate-at-root}
 use Rattle.rating.specs.Rated.{Rated, RatesAbove, atLevel}
 use Rattle.rating.proofs.Rated.{only-root}
 

@@ -18,9 +18,9 @@ use Rattle.table.specs.Tree.{Tree, treeOf, there, isClass, isFixed, childOf}
 use Rattle.table.specs.Rates.{fixedShare, weight, fixedSum, weightSum, rateIn, renewed}
 use Rattle.table.specs.Order.{inOrder}
 use Rattle.table.proofs.Facts.{Limits, Root, Child, InOrder, facts, root-there, root-level}
-use Rattle.laws.proofs.Children.{child-of, class-there}
-use Rattle.laws.proofs.Renewed.{rate-at-root, renewed-tree, renewed-disk}
-use Rattle.laws.proofs.Rounding.{rate-of-child, child-rate-le, weight-le-sum}
+use Rattle.treelaws.proofs.Children.{child-of, class-there}
+use Rattle.treelaws.proofs.Renewed.{rate-at-root, renewed-tree, renewed-disk}
+use Rattle.treelaws.proofs.Rounding.{rate-of-child, child-rate-le, weight-le-sum}
 use Rattle.rating.specs.Sums.{Summable}
 use Rattle.rating.specs.Rated.{Placed, Rated}
 use Rattle.rating.proofs.Terms.{fixed-term, weight-term}

@@ -15,7 +15,7 @@ use Rattle.table.specs.Tree.{treeOf, there, testIf}
 use Rattle.table.specs.Rates.{rateIn, writeRates, renewed}
 use Rattle.table.specs.Order.{rateInOrder}
 use Rattle.table.proofs.Places.{length-put, place-put-place}
-use Rattle.laws.proofs.Renewed.{same-tree}
+use Rattle.treelaws.proofs.Renewed.{same-tree}
 use Rattle.rating.specs.Renewal.{withRate, hasRate}
 
 -- The table with the rates of the nodes below n renewed.

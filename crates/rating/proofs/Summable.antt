@@ -15,7 +15,7 @@ use Rattle.table.specs.Places.{balance, depthGrains}
 use Rattle.table.specs.Tree.{treeOf, there}
 use Rattle.table.specs.Rates.{fixedShare, weight}
 use Rattle.table.proofs.Facts.{Limits, InOrder}
-use Rattle.laws.proofs.Floors.{grounds, node-floor}
+use Rattle.treelaws.proofs.Floors.{grounds, node-floor}
 use Rattle.rating.specs.Sums.{term, Summable}
 use Rattle.rating.proofs.Rated.{fixed-share-le, weight-le}
 

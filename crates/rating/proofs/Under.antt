@@ -12,7 +12,7 @@ use Rattle.numbers.specs.Below.{sumBelow}
 use Rattle.numbers.proofs.Tests.{by-test, true-false}
 use Rattle.numbers.proofs.Sums.{sum-next, sum-bound}
 use Rattle.table.specs.Tree.{Tree, treeOf, there, childOf, countIf, sumUnder}
-use Rattle.laws.proofs.Children.{child-facts, child-of}
+use Rattle.treelaws.proofs.Children.{child-facts, child-of}
 use Rattle.rating.specs.Sums.{term, Summable}
 
 -- A term that is counted, and one that is not.

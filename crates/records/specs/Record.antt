@@ -23,7 +23,7 @@ unfoldable pub classPlaced : List ℤ → ℕ → Bool
 classPlaced t c = every (leb (treeOf t .level c) lastClassLevel ∷ eqb (waiting t c) 0 ∷ [])
 
 -- No balance exceeds depth x 1000 or stands more than 4 depths below 0, and a client's not below 0 at all. That no class
--- stands lower in a table in order is a law (laws, Floors); it keeps the sums of balances small.
+-- stands lower in a table in order is a law (treelaws, Floors); it keeps the sums of balances small.
 unfoldable pub balanceWithin : List ℤ → ℕ → Bool
 balanceWithin t k =
     every

@@ -16,9 +16,9 @@ use Rattle.table.specs.Tree.{treeOf, there, isClass, isClient, isFixed, childOf
 use Rattle.table.specs.Rates.{fixedShare, weight, fixedSum, weightSum, fixedRate, leftRate, weightedRate, childRate, rateAtLevel, rateIn, renewed}
 use Rattle.table.specs.Calls.{blank, opened, openRefusal, joined, joinRefusal, sharesAbove, depthsAbove}
 use Rattle.table.proofs.Refusals.{first-none, first-end}
-use Rattle.laws.specs.Joins.{Join, refusalOf, joinedBy}
-use Rattle.laws.proofs.Joined.{after-join}
-use Rattle.keeps.proofs.Open.{opened-in-order}
+use Rattle.treelaws.specs.Joins.{Join, refusalOf, joinedBy}
+use Rattle.treelaws.proofs.Joined.{after-join}
+use Rattle.calllaws.proofs.Open.{opened-in-order}
 use Rattle.layout.specs.Bytes.{byteAt, le2, le4, bytesBelow}
 use Rattle.layout.specs.Format.{countIn, entryIn, planIn, entryFormed, formed}
 use Rattle.planlaws.specs.Reading.{sortOf, shareKindOf, joinOf, afterEntries, entriesRefusal, openedFor, joinedFor, rising, planRefusal, planTable, checkAnswer}

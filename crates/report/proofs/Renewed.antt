@@ -11,7 +11,7 @@ use Rattle.numbers.proofs.Tests.{by-test, cond-true, cond-false}
 use Rattle.table.specs.Places.{rate}
 use Rattle.table.specs.Tree.{Tree, treeOf, there, isClass}
 use Rattle.table.specs.Rates.{rateIn, renewed}
-use Rattle.laws.proofs.Renewed.{renewed-rate, renewed-tree}
+use Rattle.treelaws.proofs.Renewed.{renewed-rate, renewed-tree}
 use Rattle.layout.specs.Bytes.{bytesBelow}
 use Rattle.report.specs.Text.{nodeLine, line, linesOf}
 use Rattle.report.proofs.Lines.{line-of, line-none}

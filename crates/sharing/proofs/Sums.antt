@@ -14,9 +14,9 @@ use Rattle.table.specs.Calls.{reshared, sharesAbove}
 use Rattle.numbers.proofs.Parts.{within-parts}
 use Rattle.table.specs.Places.{place}
 use Rattle.table.proofs.Facts.{InOrder}
-use Rattle.laws.proofs.Children.{child-of, child-le-sum}
+use Rattle.treelaws.proofs.Children.{child-of, child-le-sum}
 use Rattle.table.proofs.Edits.{reshared-edit, reshared-node}
-use Rattle.keeps.proofs.OneNode.{shares-changed}
+use Rattle.calllaws.proofs.OneNode.{shares-changed}
 use Rattle.rating.proofs.Under.{counted}
 use Rattle.rating.proofs.Rated.{fixed-of}
 

@@ -4,7 +4,7 @@ use mathlib.Core.List.{[], _∷_}
 use lib.IntN.{pos}
 use Rattle.table.specs.Refusals.{Outcome, accepted, refused}
 use Rattle.table.specs.declared.Refusal.{Refusal}
-use Rattle.table.specs.declared.Refusal.the-variants.{NotInOrder, OutsideLimits, NotThere, InUse, WrongSort, LevelTooLow, SharesAbove, DepthAbove, NotEmpty, InDebt, QueueFull, CountAtEnd, ListShort, PlanWrong, PlanOutOfOrder}
+use Rattle.table.specs.declared.Refusal.the-variants.{NotInOrder, OutsideLimits, NotThere, InUse, WrongNode, LevelTooLow, SharesAbove, DepthAbove, NotEmpty, InDebt, QueueFull, CountAtEnd, BufferShort, PlanWrong, PlanOutOfOrder}
 use Rattle.table.specs.declared.Answer.{Answer}
 use Rattle.table.specs.declared.Answer.the-variants as answer
 use Rattle.table.specs.declared.Seen.{Seen}
@@ -18,7 +18,7 @@ numberOf NotInOrder = 1
 numberOf OutsideLimits = 2
 numberOf NotThere = 3
 numberOf InUse = 4
-numberOf WrongSort = 5
+numberOf WrongNode = 5
 numberOf LevelTooLow = 6
 numberOf SharesAbove = 7
 numberOf DepthAbove = 8
@@ -26,7 +26,7 @@ numberOf NotEmpty = 9
 numberOf InDebt = 10
 numberOf QueueFull = 11
 numberOf CountAtEnd = 12
-numberOf ListShort = 13
+numberOf BufferShort = 13
 numberOf PlanWrong = 14
 numberOf PlanOutOfOrder = 15
 

@@ -1,5 +1,1 @@
-pub mod Within
-pub mod Serving
-pub mod Lending
-pub mod Shows
-pub mod Steps
+pub mod Waiting

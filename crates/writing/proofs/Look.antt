@@ -13,7 +13,7 @@ use Rattle.table.specs.Refusals.{Outcome, accepted, refused, numberTold}
 use Rattle.table.specs.Calls.{lookRefusal, lookAnswer}
 use Rattle.table.proofs.Facts.{facts}
 use Rattle.table.proofs.Refusals.{none-first, first-none, first-end, outcome-accepted, number-outcome}
-use Rattle.keeps.proofs.Ready.{root-there}
+use Rattle.calllaws.proofs.Ready.{root-there}
 
 pub look-accepted : (t : List ℤ) (values : List ℤ) → lookAnswer t (pos 0) ≡ accepted values → inOrder t ≡ true
 unfolding lookAnswer lookRefusal numberTold

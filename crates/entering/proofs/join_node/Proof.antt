@@ -1,7 +1,7 @@
 -- `entering::join_node` meets its contract.
 use mathlib.Core.Path.{_≡_}
 use native.Mathlib.Omega.{arith}
-use Rattle.laws.specs.Joins.{refusalOf, afterJoin}
+use Rattle.treelaws.specs.Joins.{refusalOf, afterJoin}
 use Rattle.layout.specs.Nodes.{shareIn, heldBy, entryBy}
 use Rattle.planlaws.specs.Reading.{joinOf}
 use Rattle.entering.proofs.Sorts.{kind-sort-in, kind-weighted-in}

@@ -17,7 +17,7 @@ use Rattle.table.specs.Rates.{renewed}
 use Rattle.table.specs.Calls.{done, joinRefusal, joinTable, joinAnswer, joined}
 use Rattle.table.proofs.Refusals.{kept-new, kept-old, outcome-accepted}
 use Rattle.table.proofs.Passed.{join-passed, long}
-use Rattle.keeps.proofs.Join.{join-keeps}
+use Rattle.calllaws.proofs.Join.{join-keeps}
 use Rattle.rating.specs.Rated.{Rated}
 use Rattle.rating.proofs.Rated.{rated-before}
 use lib.ListN.{length}

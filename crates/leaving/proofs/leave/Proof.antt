@@ -17,7 +17,7 @@ use Rattle.table.specs.Rates.{renewed}
 use Rattle.table.specs.Calls.{done, leaveRefusal, leaveTable, leaveAnswer, cleared}
 use Rattle.table.proofs.Refusals.{kept-new, kept-old, outcome-accepted}
 use Rattle.table.proofs.Passed.{leave-passed, long}
-use Rattle.keeps.proofs.Leave.{leave-keeps}
+use Rattle.calllaws.proofs.Leave.{leave-keeps}
 use Rattle.rating.specs.Rated.{Rated}
 use Rattle.rating.proofs.Rated.{rated-before}
 use lib.ListN.{length}

@@ -16,7 +16,7 @@ use Rattle.table.specs.Rates.{renewed}
 use Rattle.table.specs.Calls.{done, changeRateRefusal, changeRateTable, changeRateAnswer}
 use Rattle.table.proofs.Refusals.{kept-new, kept-old, outcome-accepted}
 use Rattle.table.proofs.Passed.{change-rate-passed, long}
-use Rattle.keeps.proofs.ChangeRate.{change-rate-keeps}
+use Rattle.calllaws.proofs.ChangeRate.{change-rate-keeps}
 use Rattle.rating.specs.Rated.{Rated}
 use Rattle.rating.proofs.Rated.{rated-before}
 use Rattle.table.specs.Places.{put}

@@ -17,7 +17,7 @@ use Rattle.table.specs.Rates.{renewed}
 use Rattle.table.specs.Calls.{done, changeShareRefusal, changeShareTable, changeShareAnswer, reshared}
 use Rattle.table.proofs.Refusals.{kept-new, kept-old, outcome-accepted}
 use Rattle.table.proofs.Passed.{change-share-passed, long}
-use Rattle.keeps.proofs.ChangeShare.{change-share-keeps}
+use Rattle.calllaws.proofs.ChangeShare.{change-share-keeps}
 use Rattle.rating.specs.Rated.{Rated}
 use Rattle.rating.proofs.Rated.{rated-before}
 use lib.ListN.{length}

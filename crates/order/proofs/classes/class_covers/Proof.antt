@@ -7,7 +7,7 @@ use borrow.Author.Tests.{not-true, not-false}
 use lib.Dec.{leb}
 use Rattle.table.specs.Places.{balance, depthGrains}
 use Rattle.table.specs.Tree.{treeOf, isClass}
-use Rattle.laws.proofs.Children.{class-there}
+use Rattle.treelaws.proofs.Children.{class-there}
 use Rattle.order.specs.Cover.{classCovers}
 use Rattle.records.proofs.Joined.{joined-as, same-tests, last-test, test-here, test-past}
 use Rattle.records.proofs.Nodes.{Node, node-at}

@@ -4,7 +4,7 @@ use mathlib.Core.Path.{_≡_, refl, sym, ap, _∙_}
 use native.Mathlib.Omega.{arith}
 use Rattle.table.specs.Tree.{treeOf}
 use Rattle.table.specs.Rates.{fixedRate, leftRate, weightedRate}
-use Rattle.laws.proofs.Rounding.{left-le, fixed-child, weighted-child}
+use Rattle.treelaws.proofs.Rounding.{left-le, fixed-child, weighted-child}
 use Rattle.rating.proofs.Rated.{weights-there}
 use borrow.Author.Needs.{needs}
 use Rattle.rating.proofs.rates.child_rate.Statement.{statement}

@@ -7,7 +7,7 @@ use lib.ListN.{getD}
 use Rattle.table.specs.Places.{rate}
 use Rattle.table.specs.Tree.{treeOf}
 use Rattle.table.specs.Rates.{rateIn, childRate}
-use Rattle.laws.proofs.Rounding.{rate-of-child}
+use Rattle.treelaws.proofs.Rounding.{rate-of-child}
 use Rattle.rating.specs.Rated.{Placed}
 use Rattle.rating.proofs.Rated.{rate-le-disk}
 use Rattle.rating.proofs.rates.node_rate.Statement.{statement}

@@ -1,0 +1,111 @@
+-- Change share keeps a table in order: it writes a node's kind and share, which are within their limits by cause 2. Only
+-- the fixed shares under the node's parent change, and these are within 10,000 by cause 7.
+use Prim.Native.Nat.{ℕ, _+_, _*_, _≤_, _<_}
+use mathlib.Core.Path.{_≡_, sym, ap, _∙_}
+use mathlib.Core.Bool.{true}
+use mathlib.Core.List.{List}
+use native.Mathlib.Omega.{arith}
+use native.Mathlib.Decide.{ℕ-discrete}
+use lib.IntN.{ℤ}
+use Rattle.numbers.specs.Whole.{plus, minus, withinℤ}
+use Rattle.numbers.proofs.Tests.{true-false}
+use Rattle.table.specs.Places.{place, count, balance, waiting, arrival}
+use Rattle.table.specs.Tree.{treeOf, there, childOf, countIf}
+use Rattle.table.specs.Rates.{fixedSum, fixedShare, renewed}
+use Rattle.table.specs.Order.{inOrder}
+use Rattle.table.specs.Calls.{reshared, changeShareRefusal, changeShareTable}
+use Rattle.table.proofs.Facts.{Child, Class, facts}
+use Rattle.table.proofs.Edits.{Edited, reshared-edit, reshared-rest}
+use Rattle.table.proofs.Passed.{change-share-passed}
+use Rattle.calllaws.proofs.Nodes.{Ready, ready, Sums, node-limited, child-kept, most-waiting}
+use Rattle.calllaws.proofs.OneNode.{child-same, no-child, count-same, count-none, shares-changed, depths-changed, balances-changed, edited-ready}
+use Rattle.calllaws.proofs.Ready.{ready-renewed, kept-in-order}
+
+-- A table that differs in the kind and share of node k.
+module _ (t u : List ℤ) (k : ℕ) (f : ℕ → ℤ) (hk : k < 64) (edited : Edited t u k f) (rest : (j p : ℕ) → p < 40 → (p ≡ 3 → ⊥) → (p ≡ 4 → ⊥) → place u j p ≡ place t j p) where
+  -- Sorts, parents and levels stay.
+  stays : (j p : ℕ) → p < 3 → plus (place u j p) ≡ plus (place t j p)
+  stays j p hp = ap plus (rest j p (omega arith) (omega arith) (omega arith))
+
+  same-child : (j : ℕ) → Child (treeOf t) j → Child (treeOf u) j
+  unfolding treeOf
+  same-child j = child-kept (treeOf u) (treeOf t) j (stays j 1 (omega arith)) (stays j 2 (omega arith)) (stays _ 0 (omega arith)) (stays _ 2 (omega arith))
+
+  same-children : (c : ℕ) → childOf (treeOf u) c k ≡ childOf (treeOf t) c k
+  unfolding treeOf
+  same-children c = child-same (treeOf u) (treeOf t) c k (stays k 0 (omega arith)) (stays k 1 (omega arith))
+
+  same-part : (part : ℤ → ℕ) (c : ℕ) → countIf (childOf (treeOf u) c k) (λ j. part (balance u j)) k ≡ countIf (childOf (treeOf t) c k) (λ j. part (balance t j)) k
+  unfolding balance
+  same-part part c = count-same _ _ (λ j. part (balance u j)) (λ j. part (balance t j)) k (same-children c) (ap part (rest k 7 (omega arith) (omega arith) (omega arith)))
+
+  same-depth : (c : ℕ) → countIf (childOf (treeOf u) c k) (treeOf u .depth) k ≡ countIf (childOf (treeOf t) c k) (treeOf t .depth) k
+  unfolding treeOf
+  same-depth c = count-same _ _ (treeOf u .depth) (treeOf t .depth) k (same-children c) (ap plus (rest k 5 (omega arith) (omega arith) (omega arith)))
+
+  -- Under another class than the parent nothing changes.
+  other-shares : (c : ℕ) → (c ≡ treeOf t .parent k → ⊥) → Class t c → fixedSum (treeOf u) c ≤ 10000
+  other-shares c ne class =
+      let none = no-child (treeOf t) c k (λ child. ne (sym (child .parent))) in
+      omega (
+        arith,
+        class .shares,
+        shares-changed t u k f hk edited c,
+        count-none (childOf (treeOf u) c k) (fixedShare (treeOf u)) k (same-children c ∙ none),
+      )
+
+  share-sums : fixedSum (treeOf u) (treeOf t .parent k) ≤ 10000 → (c : ℕ) → Class t c → Sums t u c
+  share-sums within c class =
+      record {
+        shares = elim (ℕ-discrete c (treeOf t .parent k)) [ yes e ↦ rw e within | no ne ↦ other-shares c ne class ];
+        depths = omega (arith, class .depths, depths-changed t u k f hk edited c, same-depth c);
+        balances = balances-changed t u k f hk edited c (omega (arith, same-part plus c, same-part minus c));
+      }
+
+  share-ready : (k ≡ 0 → ⊥) → there (treeOf t) k ≡ true → withinℤ 0 1 (place u k 3) ≡ true → withinℤ 1 10000 (place u k 4) ≡ true → fixedSum (treeOf u) (treeOf t .parent k) ≤ 10000 → Ready t → Ready u
+  unfolding count waiting arrival
+  share-ready below here kind share within r =
+      edited-ready t u k f hk edited below
+      (ap plus (rest k 8 (omega arith) (omega arith) (omega arith)))
+      (λ i hi. ap plus (rest k (16 + 3 * i + 2) (omega (arith, most-waiting t k (r .node k hk))) (omega arith) (omega arith)))
+      (λ j hj ne e root. same-child j)
+      (λ c hc ne e. share-sums within c (r .node c hc .class e))
+      (node-limited t u k (omega (arith, ap plus (edited .heading 0 (omega arith))))
+      (λ p hp ne3 ne4 ne6. rest k p hp ne3 ne4)
+      (λ e. absurd (true-false here e))
+      (λ e.
+      let old = r .node k hk .limits e in
+      record {
+        sort = rw (rest k 0 (omega arith) (omega arith) (omega arith)) (old .sort);
+        parent = rw (rest k 1 (omega arith) (omega arith) (omega arith)) (old .parent);
+        level = rw (rest k 2 (omega arith) (omega arith) (omega arith)) (old .level);
+        kind = kind;
+        share = share;
+        depth = rw (rest k 5 (omega arith) (omega arith) (omega arith)) (old .depth);
+        waiting = rw (rest k 8 (omega arith) (omega arith) (omega arith)) (old .waiting);
+      })
+      (λ e root. same-child k)
+      (λ e. share-sums within k (r .node k hk .class e))
+      (r .node k hk))
+      r
+
+changed : (t : List ℤ) (node kind share : ℤ) → changeShareRefusal t node kind share ≡ 0 → inOrder (renewed (reshared t (plus node) kind share)) ≡ true
+changed t node kind share h =
+    let passed = change-share-passed t node kind share h in
+    let r = ready t (facts t (passed .order)) in
+    let e = reshared-edit t (plus node) kind share (r .long) (passed .node) in
+    ready-renewed (reshared t (plus node) kind share)
+    (share-ready t _ (plus node) _ (passed .node) e (reshared-rest t (plus node) kind share (r .long) (passed .node)) (passed .below) (passed .there)
+    (rw (e .here 3 (omega arith)) (passed .kinds))
+    (rw (e .here 4 (omega arith)) (passed .within))
+    (passed .shares)
+    r)
+
+-- Accepted or not, and accepted.
+pub change-share-keeps-order : (t : List ℤ) (node kind share : ℤ) → inOrder t ≡ true → inOrder (changeShareTable t node kind share) ≡ true
+unfolding changeShareTable
+change-share-keeps-order t node kind share =
+    kept-in-order (changeShareRefusal t node kind share) (renewed (reshared t (plus node) kind share)) t (changed t node kind share)
+
+pub change-share-keeps : (t : List ℤ) (node kind share : ℤ) → changeShareRefusal t node kind share ≡ 0 → inOrder (changeShareTable t node kind share) ≡ true
+change-share-keeps t node kind share h = change-share-keeps-order t node kind share (change-share-passed t node kind share h .order)

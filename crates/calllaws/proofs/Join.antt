@@ -1,0 +1,151 @@
+-- Join keeps a table in order: the new node was unused, so it was nobody's parent, and it comes with balance 0. It adds only
+-- to the sums under its parent, which causes 7 and 8 tested on the table as the call leaves it.
+use Prim.Native.Nat.{ℕ, suc, _+_, _*_, _≤_, _<_}
+use mathlib.Core.Path.{_≡_, sym, ap, _∙_}
+use mathlib.Core.Bool.{true, false, not}
+use mathlib.Core.List.{List}
+use native.Mathlib.Omega.{arith}
+use native.Mathlib.Decide.{ℕ-discrete}
+use borrow.Author.Tests.{eqb-true, ne-eqb}
+use lib.IntN.{ℤ, pos}
+use Rattle.numbers.specs.Whole.{plus, minus}
+use Rattle.numbers.proofs.Tests.{true-false}
+use Rattle.numbers.proofs.Parts.{zarith, plus-pos, minus-pos}
+use Rattle.table.specs.Places.{place, balance, waiting, arrival}
+use Rattle.table.specs.Tree.{treeOf, there, isClass, childOf}
+use Rattle.table.specs.Rates.{renewed}
+use Rattle.table.specs.Order.{inOrder}
+use Rattle.table.specs.Calls.{joined, joinRefusal, joinTable}
+use Rattle.table.proofs.Facts.{Limits, Child, Class, facts}
+use Rattle.table.proofs.Passed.{JoinPassed, join-passed}
+use Rattle.treelaws.proofs.Children.{ChildOf, class-there}
+use Rattle.table.proofs.Edits.{Edited, SameNode, NodeIs, joinedPlace, joined-edit, joined-node, joined-others, joined-rest}
+use Rattle.calllaws.proofs.Nodes.{Ready, ready, Sums, there-same, class-same, child-kept, most-waiting, client-or-class}
+use Rattle.calllaws.proofs.OneNode.{no-child, count-none, count-zero, balances-changed, sums-fall, edited-ready}
+use Rattle.calllaws.proofs.Fresh.{fresh-node}
+use Rattle.calllaws.proofs.Ready.{ready-renewed, kept-in-order}
+
+-- Node k joins under class c.
+module _ (t : List ℤ) (k c : ℕ) (sort kind share depth : ℤ) (passed : JoinPassed t k c sort kind share depth) (r : Ready t) where
+  edited : Edited t (joined t k c sort kind share depth) k (joinedPlace t k c sort kind share depth)
+  edited = joined-edit t k c sort kind share depth (r .long) (passed .node)
+
+  rest : (j p : ℕ) → p < 40 → 6 ≤ p → place (joined t k c sort kind share depth) j p ≡ place t j p
+  rest = joined-rest t k c sort kind share depth (r .long) (passed .node)
+
+  here : NodeIs (treeOf (joined t k c sort kind share depth)) k (plus sort) c (suc (treeOf t .level c)) (plus kind) (plus share) (plus depth)
+  here = joined-node t k c sort kind share depth (r .long) (passed .node)
+
+  others : (j : ℕ) → (j ≡ k → ⊥) → SameNode (treeOf (joined t k c sort kind share depth)) (treeOf t) j
+  others = joined-others t k c sort kind share depth (r .long) (passed .node)
+
+  -- A class is not the new node.
+  class-other : (j : ℕ) → isClass (treeOf t) j ≡ true → j ≡ k → ⊥
+  class-other j class e = true-false (class-there (treeOf t) j class) (rw e (passed .unused))
+
+  parent-class : isClass (treeOf t) c ≡ true
+  parent-class = client-or-class t c (r .node c (passed .parent)) (passed .there) (passed .no-client)
+
+  parent-level : treeOf t .level c ≤ 3
+  parent-level = r .node c (passed .parent) .class parent-class .level
+
+  parent-same : SameNode (treeOf (joined t k c sort kind share depth)) (treeOf t) c
+  parent-same = others c (class-other c parent-class)
+
+  -- The new node was unused, so it was no child and its places were zero.
+  zeros : (p : ℕ) → p < 40 → 6 ≤ p → place (joined t k c sort kind share depth) k p ≡ pos 0
+  zeros p hp low = rest k p hp low ∙ r .node k (passed .node) .empty (passed .unused) p hp
+
+  was-no-child : (a : ℕ) → childOf (treeOf t) a k ≡ false
+  was-no-child a = no-child (treeOf t) a k (λ child. true-false (child .there) (passed .unused))
+
+  -- It has no children.
+  childless : (j : ℕ) → j < 64 → ChildOf (treeOf (joined t k c sort kind share depth)) k j → ⊥
+  childless j hj child =
+      elim (ℕ-discrete j k) [
+        | yes e ↦ class-other c parent-class (sym (here .parent) ∙ ap (treeOf (joined t k c sort kind share depth) .parent) (sym e) ∙ child .parent)
+        | no ne ↦
+            class-other (treeOf t .parent j)
+            (r .node j hj .child (sym (there-same (treeOf (joined t k c sort kind share depth)) (treeOf t) j (others j ne .sort)) ∙ child .there) (child .below) .class)
+            (sym (others j ne .parent) ∙ child .parent)
+      ]
+
+  new-limits : Limits (joined t k c sort kind share depth) k
+  new-limits =
+      record {
+        sort = rw (edited .here 0 (omega arith)) (passed .sorts);
+        parent = rw (edited .here 1 (omega arith)) (omega (arith, zarith, passed .parent, plus-pos c, minus-pos c));
+        level = rw (edited .here 2 (omega arith)) (omega (arith, zarith, parent-level, plus-pos (suc (treeOf t .level c)), minus-pos (suc (treeOf t .level c))));
+        kind = rw (edited .here 3 (omega arith)) (passed .kinds);
+        share = rw (edited .here 4 (omega arith)) (passed .within);
+        depth = rw (edited .here 5 (omega arith)) (passed .deep);
+        waiting = rw (zeros 8 (omega arith) (omega arith)) (omega (arith, zarith, plus-pos 0, minus-pos 0));
+      }
+
+  new-child : Child (treeOf (joined t k c sort kind share depth)) k
+  new-child =
+      record {
+        class = rw (here .parent) (class-same (treeOf (joined t k c sort kind share depth)) (treeOf t) c (parent-same .sort) ∙ parent-class);
+        level = rw (here .level, here .parent, parent-same .level);
+      }
+
+  new-there : there (treeOf (joined t k c sort kind share depth)) k ≡ true
+  unfolding there
+  new-there = ap not (ne-eqb (treeOf (joined t k c sort kind share depth) .sort k) 0 (λ e. omega (arith, zarith, passed .sorts, here .sort)))
+
+  new-level : isClass (treeOf (joined t k c sort kind share depth)) k ≡ true → treeOf (joined t k c sort kind share depth) .level k ≤ 3
+  unfolding isClass
+  new-level e =
+      let class : plus sort ≡ 1 = sym (here .sort) ∙ eqb-true (treeOf (joined t k c sort kind share depth) .sort k) 1 e in
+      let room : treeOf t .level c ≡ 3 → ⊥ = passed .levels class in
+      omega (arith, here .level, parent-level)
+
+  -- The sums under the parent are as tested; those under another class stay.
+  parent-sums : Sums t (joined t k c sort kind share depth) c
+  unfolding balance
+  parent-sums =
+      record {
+        shares = passed .shares;
+        depths = omega (arith, passed .depths, parent-same .depth);
+        balances =
+            balances-changed t _ k _ (passed .node) edited c
+            (omega (
+              arith,
+              count-zero (childOf (treeOf (joined t k c sort kind share depth)) c k) (λ j. plus (balance (joined t k c sort kind share depth) j)) k (λ e. ap plus (zeros 7 (omega arith) (omega arith)) ∙ plus-pos 0),
+              count-none (childOf (treeOf t) c k) (λ j. minus (balance t j)) k (was-no-child c),
+            ));
+      }
+
+  other-sums : (a : ℕ) → (a ≡ c → ⊥) → Class t a → Sums t (joined t k c sort kind share depth) a
+  other-sums a ne =
+      sums-fall t _ k _ (passed .node) edited a
+      (no-child (treeOf (joined t k c sort kind share depth)) a k (λ child. ne (sym (child .parent) ∙ here .parent)))
+      (λ e. absurd (true-false e (was-no-child a)))
+
+  joined-ready : Ready (joined t k c sort kind share depth)
+  unfolding waiting arrival
+  joined-ready =
+      edited-ready t _ k _ (passed .node) edited (passed .below)
+      (ap plus (rest k 8 (omega arith) (omega arith)))
+      (λ i hi. ap plus (rest k (16 + 3 * i + 2) (omega (arith, most-waiting t k (r .node k (passed .node)))) (omega arith)))
+      (λ j hj ne e below child.
+      let above = others (treeOf t .parent j) (class-other (treeOf t .parent j) (child .class)) in
+      child-kept (treeOf (joined t k c sort kind share depth)) (treeOf t) j (others j ne .parent) (others j ne .level) (above .sort) (above .level) child)
+      (λ a ha ne e. elim (ℕ-discrete a c) [ yes same ↦ rw same parent-sums | no other ↦ other-sums a other (r .node a ha .class e) ])
+      (fresh-node _ k (λ p hp low. zeros p hp (omega arith)) childless new-there new-limits (λ ne. new-child) new-level)
+      r
+
+entered : (t : List ℤ) (node parent sort kind share depth : ℤ) → joinRefusal t node parent sort kind share depth ≡ 0 → inOrder (renewed (joined t (plus node) (plus parent) sort kind share depth)) ≡ true
+entered t node parent sort kind share depth h =
+    let passed = join-passed t node parent sort kind share depth h in
+    ready-renewed _ (joined-ready t (plus node) (plus parent) sort kind share depth passed (ready t (facts t (passed .order))))
+
+-- Accepted or not, and accepted.
+pub join-keeps-order : (t : List ℤ) (node parent sort kind share depth : ℤ) → inOrder t ≡ true → inOrder (joinTable t node parent sort kind share depth) ≡ true
+unfolding joinTable
+join-keeps-order t node parent sort kind share depth =
+    kept-in-order (joinRefusal t node parent sort kind share depth) (renewed (joined t (plus node) (plus parent) sort kind share depth)) t (entered t node parent sort kind share depth)
+
+pub join-keeps : (t : List ℤ) (node parent sort kind share depth : ℤ) → joinRefusal t node parent sort kind share depth ≡ 0 → inOrder (joinTable t node parent sort kind share depth) ≡ true
+join-keeps t node parent sort kind share depth h =
+    join-keeps-order t node parent sort kind share depth (join-passed t node parent sort kind share depth h .order)

@@ -1,0 +1,80 @@
+-- Leave keeps a table in order: the node has no children and nothing waiting by cause 9, and its balance is not below 0, a
+-- class's by cause 10. So the sums under its parent fall or stay.
+use Prim.Native.Nat.{ℕ, _<_}
+use mathlib.Core.Path.{_≡_, sym, ap, _∙_}
+use mathlib.Core.Bool.{true, false, not}
+use mathlib.Core.List.{List}
+use native.Mathlib.Omega.{arith}
+use borrow.Author.Tests.{not-true}
+use lib.IntN.{ℤ, pos}
+use Rattle.numbers.specs.Whole.{plus, minus}
+use Rattle.numbers.proofs.Tests.{by-test, true-false}
+use Rattle.numbers.proofs.Parts.{zarith, one-is-zero, plus-pos, minus-pos}
+use Rattle.numbers.proofs.All.{all-at}
+use Rattle.table.specs.Places.{balance, waiting}
+use Rattle.table.specs.Tree.{Tree, treeOf, there, isClass, childOf, childless}
+use Rattle.table.specs.Rates.{renewed}
+use Rattle.table.specs.Order.{inOrder}
+use Rattle.table.specs.Calls.{cleared, leaveRefusal, leaveTable}
+use Rattle.table.proofs.Facts.{facts}
+use Rattle.table.proofs.Passed.{LeavePassed, leave-passed}
+use Rattle.treelaws.proofs.Children.{ChildOf, child-of}
+use Rattle.table.proofs.Edits.{Edited, SameNode, cleared-edit, cleared-others}
+use Rattle.calllaws.proofs.Nodes.{Ready, ready, child-kept}
+use Rattle.calllaws.proofs.OneNode.{no-child, sums-fall, edited-ready}
+use Rattle.calllaws.proofs.Fresh.{zero-unused, unused-node}
+use Rattle.calllaws.proofs.Ready.{ready-renewed, kept-in-order}
+
+none-below : (tree : Tree) (k : ℕ) → childless tree k ≡ true → (j : ℕ) → j < 64 → ChildOf tree k j → ⊥
+unfolding childless
+none-below tree k h j hj child = true-false (child-of tree k j child) (not-true _ (all-at 64 (λ j. not (childOf tree k j)) h j hj))
+
+-- Node k leaves.
+module _ (t : List ℤ) (k : ℕ) (passed : LeavePassed t k) (r : Ready t) where
+  edited : Edited t (cleared t k) k (λ q. pos 0)
+  edited = cleared-edit t k (r .long) (passed .node)
+
+  others : (j : ℕ) → (j ≡ k → ⊥) → SameNode (treeOf (cleared t k)) (treeOf t) j
+  others = cleared-others t k (r .long) (passed .node)
+
+  gone : there (treeOf (cleared t k)) k ≡ false
+  gone = zero-unused (cleared t k) k (edited .here 0 (omega arith))
+
+  not-below-zero : minus (balance t k) ≡ 0
+  not-below-zero =
+      by-test (isClass (treeOf t) k)
+      (λ c. omega (arith, zarith, passed .no-debt c, one-is-zero (balance t k), plus-pos 0, minus-pos 0))
+      (λ c. omega (arith, zarith, r .node k (passed .node) .balance (passed .there) .client c, one-is-zero (balance t k), plus-pos 0, minus-pos 0))
+
+  busy : (i : ℕ) → i < waiting t k → ⊥
+  busy i hi = omega (arith, passed .idle)
+
+  left-ready : Ready (cleared t k)
+  unfolding waiting
+  left-ready =
+      edited-ready t (cleared t k) k (λ q. pos 0) (passed .node) edited (passed .below)
+      (ap plus (edited .here 8 (omega arith)) ∙ plus-pos 0 ∙ sym (passed .idle))
+      (λ i hi. absurd (busy i hi))
+      (λ j hj ne e below child.
+      let above = others (treeOf t .parent j) (λ same. none-below (treeOf t) k (passed .childless) j hj (record { there = e; below = below; parent = same })) in
+      child-kept (treeOf (cleared t k)) (treeOf t) j (others j ne .parent) (others j ne .level) (above .sort) (above .level) child)
+      (λ c hc ne e.
+      sums-fall t (cleared t k) k (λ q. pos 0) (passed .node) edited c
+      (no-child (treeOf (cleared t k)) c k (λ child. true-false (child .there) gone))
+      (λ was. not-below-zero)
+      (r .node c hc .class e))
+      (unused-node (cleared t k) k (edited .here))
+      r
+
+left : (t : List ℤ) (node : ℤ) → leaveRefusal t node ≡ 0 → inOrder (renewed (cleared t (plus node))) ≡ true
+left t node h =
+    let passed = leave-passed t node h in
+    ready-renewed (cleared t (plus node)) (left-ready t (plus node) passed (ready t (facts t (passed .order))))
+
+-- Accepted or not, and accepted.
+pub leave-keeps-order : (t : List ℤ) (node : ℤ) → inOrder t ≡ true → inOrder (leaveTable t node) ≡ true
+unfolding leaveTable
+leave-keeps-order t node = kept-in-order (leaveRefusal t node) (renewed (cleared t (plus node))) t (left t node)
+
+pub leave-keeps : (t : List ℤ) (node : ℤ) → leaveRefusal t node ≡ 0 → inOrder (leaveTable t node) ≡ true
+leave-keeps t node h = leave-keeps-order t node (leave-passed t node h .order)

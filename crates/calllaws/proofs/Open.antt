@@ -1,0 +1,111 @@
+-- Open leaves a table in order: the root alone is there, a class without children.
+use Prim.Native.Nat.{ℕ, suc, _≤_, _<_}
+use mathlib.Core.Path.{_≡_, refl, sym, ap, _∙_}
+use mathlib.Core.Bool.{true, false}
+use mathlib.Core.List.{List}
+use native.Mathlib.Omega.{arith}
+use native.Mathlib.Decide.{ℕ-discrete}
+use lib.IntN.{ℤ, pos}
+use Rattle.numbers.specs.Whole.{plus}
+use Rattle.numbers.proofs.Tests.{true-false}
+use Rattle.numbers.proofs.Parts.{zarith, pos-of-within, plus-pos, minus-pos}
+use Rattle.table.specs.Places.{place, rate as rateOf, waiting}
+use Rattle.table.specs.Tree.{treeOf, there}
+use Rattle.table.specs.Rates.{rateIn}
+use Rattle.table.specs.Order.{inOrder}
+use Rattle.table.specs.Calls.{opened, openRefusal, openTable}
+use Rattle.table.proofs.Facts.{Limits, Root, from-facts}
+use Rattle.table.proofs.Refusals.{kept-new}
+use Rattle.treelaws.proofs.Renewed.{rate-at-root}
+use Rattle.table.proofs.Edits.{opened-edit, opened-place, opened-others, blank-header}
+use Rattle.table.proofs.Passed.{OpenPassed, open-passed}
+use Rattle.calllaws.proofs.Nodes.{Node, Ready, ready-in-order}
+use Rattle.calllaws.proofs.Fresh.{zero-unused, unused-node, fresh-node}
+use Rattle.calllaws.proofs.Ready.{root-there, root-level, kept-in-order}
+
+module _ (rate depth : ℤ) (passed : OpenPassed rate depth) where
+  opened-root : Root (opened rate depth)
+  opened-root =
+      record {
+        sort = opened-edit rate depth .here 0 (omega arith);
+        parent = opened-place rate depth 1 (omega arith) (omega arith) (omega arith) (omega arith) (omega arith);
+        level = opened-place rate depth 2 (omega arith) (omega arith) (omega arith) (omega arith) (omega arith);
+        kind = opened-place rate depth 3 (omega arith) (omega arith) (omega arith) (omega arith) (omega arith);
+        share = opened-edit rate depth .here 4 (omega arith);
+        rate = rw (opened-edit rate depth .here 6 (omega arith)) (passed .rates);
+      }
+
+  -- No other node is there.
+  opened-unused : (j : ℕ) → j < 64 → (j ≡ 0 → ⊥) → there (treeOf (opened rate depth)) j ≡ false
+  opened-unused j hj ne = zero-unused (opened rate depth) j (opened-others rate depth j 0 hj ne (omega arith))
+
+  opened-limits : Limits (opened rate depth) 0
+  opened-limits =
+      record {
+        sort = rw (opened-root .sort) (omega (arith, zarith, plus-pos 1, minus-pos 1));
+        parent = rw (opened-root .parent) (omega (arith, zarith, plus-pos 0, minus-pos 0));
+        level = rw (opened-root .level) (omega (arith, zarith, plus-pos 0, minus-pos 0));
+        kind = rw (opened-root .kind) (omega (arith, zarith, plus-pos 0, minus-pos 0));
+        share = rw (opened-root .share) (omega (arith, zarith, plus-pos 10000, minus-pos 10000));
+        depth = rw (opened-edit rate depth .here 5 (omega arith)) (passed .depths);
+        waiting = rw (opened-place rate depth 8 (omega arith) (omega arith) (omega arith) (omega arith) (omega arith)) (omega (arith, zarith, plus-pos 0, minus-pos 0));
+      }
+
+  opened-zeros : (p : ℕ) → p < 40 → 7 ≤ p → place (opened rate depth) 0 p ≡ pos 0
+  opened-zeros p hp low = opened-place rate depth p hp (omega arith) (omega arith) (omega arith) (omega arith)
+
+  opened-nodes : (k : ℕ) → k < 64 → Node (opened rate depth) k
+  opened-nodes k hk =
+      elim (ℕ-discrete k 0) [
+        | yes e ↦
+            rw e
+            (fresh-node (opened rate depth) 0 opened-zeros
+            (λ j hj child. true-false (child .there) (opened-unused j hj (child .below)))
+            (root-there (opened rate depth) opened-root)
+            opened-limits
+            (λ ne. absurd (ne refl))
+            (λ c. omega (arith, root-level (opened rate depth) opened-root)))
+        | no ne ↦ unused-node (opened rate depth) k (λ p hp. opened-others rate depth k p hk ne hp)
+      ]
+
+  opened-waiting : (k : ℕ) → k < 64 → waiting (opened rate depth) k ≡ 0
+  unfolding waiting
+  opened-waiting k hk =
+      elim (ℕ-discrete k 0) [
+        | yes e ↦ rw e (ap plus (opened-zeros 8 (omega arith) (omega arith)) ∙ plus-pos 0)
+        | no ne ↦ ap plus (opened-others rate depth k 8 hk ne (omega arith)) ∙ plus-pos 0
+      ]
+
+  opened-ready : Ready (opened rate depth)
+  opened-ready =
+      record {
+        long = opened-edit rate depth .long;
+        counted = rw (opened-edit rate depth .heading 0 (omega arith), blank-header 0 (omega arith)) (omega (arith, zarith, plus-pos 0, minus-pos 0));
+        heading = λ p hp. opened-edit rate depth .heading (suc p) (omega arith) ∙ blank-header (suc p) (omega arith);
+        root = opened-root;
+        node = opened-nodes;
+        differ = λ k hk i hi j hj l hl e. omega (arith, opened-waiting k hk);
+      }
+
+  -- The root has the disk's rate.
+  opened-rates : (k : ℕ) → k < 64 → there (treeOf (opened rate depth)) k ≡ true → place (opened rate depth) k 6 ≡ pos (rateIn (treeOf (opened rate depth)) (rateOf (opened rate depth) 0) k)
+  unfolding rateOf
+  opened-rates k hk e =
+      elim (ℕ-discrete k 0) [
+        | yes same ↦
+            rw (same, rate-at-root (treeOf (opened rate depth)) (plus (place (opened rate depth) 0 6)) 0 (root-level (opened rate depth) opened-root))
+            (sym (pos-of-within 1 1000000000 (place (opened rate depth) 0 6) (opened-root .rate)))
+        | no ne ↦ absurd (true-false e (opened-unused k hk ne))
+      ]
+
+  pub opened-in-order : inOrder (opened rate depth) ≡ true
+  opened-in-order = from-facts _ (ready-in-order _ opened-ready opened-rates)
+
+-- Accepted, and accepted or not.
+pub open-keeps : (t : List ℤ) (rate depth : ℤ) → openRefusal t rate depth ≡ 0 → inOrder (openTable t rate depth) ≡ true
+unfolding openTable
+open-keeps t rate depth h = ap inOrder (kept-new (openRefusal t rate depth) (opened rate depth) t h) ∙ opened-in-order rate depth (open-passed t rate depth h)
+
+pub open-keeps-order : (t : List ℤ) (rate depth : ℤ) → inOrder t ≡ true → inOrder (openTable t rate depth) ≡ true
+unfolding openTable
+open-keeps-order t rate depth = kept-in-order (openRefusal t rate depth) (opened rate depth) t (λ h. opened-in-order rate depth (open-passed t rate depth h))

@@ -1,0 +1,75 @@
+-- `steps::serve_all` meets its contract. The invariant: the table and the list show the state in which the clients so far are
+-- served.
+use Prim.Native.Nat.{_-_, _≤_}
+use mathlib.Core.Path.{_≡_, refl, _∙_}
+use mathlib.Core.List.{[]}
+use native.Mathlib.Omega.{arith}
+use lib.ListN.{length}
+use Rattle.numbers.specs.Below.{forBelow}
+use Rattle.numbers.proofs.Steps.{for-next}
+use Rattle.table.specs.Tick.{servedAll}
+use Rattle.steps.specs.Steps.{Shows, serving}
+use Rattle.steps.proofs.Shows.{shows-first}
+use Rattle.steps.proofs.Serving.{passed}
+use Rattle.steps.proofs.serve_all.Statement.{statement}
+use Rattle.steps.proofs.serve_all.Tie as tie
+
+abbrev Inv-loop : tie.InvT-loop
+Inv-loop table₀ list₀ written₀ k₀ table list written k =
+    (k ≤ 64)
+    × (length table ≡ length table₀)
+    × (length list ≡ length list₀)
+    × Shows list₀ (forBelow k serving (record { table = table₀; entries = [] })) table list written
+
+abbrev μ-loop : tie.MeasureT-loop
+μ-loop table₀ list₀ written₀ k₀ table list written k = 64 - k
+
+loop-holds : tie.Need-loop-holds Inv-loop μ-loop
+unfolding forBelow
+loop-holds c = (omega arith, refl, refl, shows-first _ _)
+
+serve-requires : tie.Need-serve-requires Inv-loop μ-loop
+serve-requires c κs =
+    let at = c .before .before .before .loop in
+    let start = c .before .before .before .before in
+    let p = passed _ _ (start .pre .0) (at .k) (at .inv .0) _ _ _ (at .inv .3) in
+    (p .on, omega arith, omega (arith, p .sum, start .pre .1, at .inv .2))
+
+add-k : tie.Need-add-k Inv-loop μ-loop
+add-k c = omega arith
+
+loop-less : tie.Need-loop-less Inv-loop μ-loop
+loop-less c = omega arith
+
+loop-again : tie.Need-loop-again Inv-loop μ-loop
+loop-again c =
+    let at = c .before .before .before .before .before .before .loop in
+    let made = c .before .before .serve in
+    (omega arith, made .kept .0 ∙ at .inv .1, made .kept .1 .0 ∙ at .inv .2, rw (for-next (at .k) serving _) (made .ensures .shows _ _ (at .inv .3)))
+
+same-length : tie.Need-same-length Inv-loop μ-loop
+same-length c = c .before .loop .inv .1
+
+same-length-2 : tie.Need-same-length-2 Inv-loop μ-loop
+same-length-2 c = c .before .loop .inv .2
+
+returns : tie.Need-returns Inv-loop μ-loop
+unfolding servedAll serving
+returns c =
+    let end : c .before .loop .k ≡ 64 = omega arith in
+    rw end at (c .before .loop .inv .3)
+
+pub serve-all-spec : {M : Type 1} → statement M
+serve-all-spec =
+    tie.close
+    (tie.spec
+    Inv-loop
+    μ-loop
+    loop-holds
+    serve-requires
+    add-k
+    loop-less
+    loop-again
+    same-length
+    same-length-2
+    returns)

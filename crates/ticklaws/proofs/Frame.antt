@@ -1,0 +1,102 @@
+-- What a tick leaves alone: the table's length, its header, and of each record the places of the tree, the rate and the
+-- spare places. It changes balances, waiting counts and waiting places only.
+use Prim.Native.Nat.{ℕ, _+_, _*_, _-_, _<_}
+use mathlib.Core.Path.{_≡_, refl, ap, _∙_, subst}
+use mathlib.Core.List.{List}
+use native.Mathlib.Omega.{arith}
+use native.Mathlib.Decide.{decLt, ℕ-discrete}
+use lib.ListN.{length}
+use lib.IntN.{ℤ}
+use Rattle.numbers.specs.Whole.{plus}
+use Rattle.table.specs.Places.{place, put, header, count, rate, depthGrains}
+use Rattle.table.specs.Tree.{treeOf}
+use Rattle.table.proofs.Places.{length-put, header-put, place-put-place}
+use Rattle.treelaws.proofs.Renewed.{same-tree}
+
+-- The places of a record by what they hold: tree and rate, balance, waiting count, spare places, waiting places.
+pub by-place {ℓ} : (P : ℕ → Type ℓ) → ((p : ℕ) → p < 7 → P p) → P 7 → P 8 → ((p : ℕ) → p < 7 → P (9 + p)) → ((p : ℕ) → p < 24 → P (16 + p)) → (p : ℕ) → p < 40 → P p
+by-place P early balance waits spare queue p hp =
+    elim (decLt p 7) [
+      | yes l ↦ early p l
+      | no l ↦ elim (ℕ-discrete p 7) [
+        | yes e ↦ rw e balance
+        | no e ↦ elim (ℕ-discrete p 8) [
+          | yes d ↦ rw d waits
+          | no d ↦ elim (decLt p 16) [
+            | yes m ↦ subst P (omega arith) (spare (p - 9) (omega arith))
+            | no m ↦ subst P (omega arith) (queue (p - 16) (omega arith))
+          ]
+        ]
+      ]
+    ]
+
+pub record Frame (t u : List ℤ) : Type 0 where
+  pub long : length u ≡ length t
+  pub heading : (q : ℕ) → q < 8 → header u q ≡ header t q
+  pub early : (k p : ℕ) → p < 7 → place u k p ≡ place t k p
+  pub spare : (k p : ℕ) → p < 7 → place u k (9 + p) ≡ place t k (9 + p)
+
+pub frame-refl : (t : List ℤ) → Frame t t
+frame-refl t = record { long = refl; heading = λ q h. refl; early = λ k p h. refl; spare = λ k p h. refl }
+
+pub frame-trans : {t u v : List ℤ} → Frame t u → Frame u v → Frame t v
+frame-trans f g =
+    record {
+      long = g .long ∙ f .long;
+      heading = λ q h. g .heading q h ∙ f .heading q h;
+      early = λ k p h. g .early k p h ∙ f .early k p h;
+      spare = λ k p h. g .spare k p h ∙ f .spare k p h;
+    }
+
+-- Nothing but balances is changed.
+pub record OnlyBalances (t u : List ℤ) : Type 0 where
+  pub long : length u ≡ length t
+  pub heading : (q : ℕ) → q < 8 → header u q ≡ header t q
+  pub others : (k p : ℕ) → p < 40 → (p ≡ 7 → ⊥) → place u k p ≡ place t k p
+
+pub only-refl : (t : List ℤ) → OnlyBalances t t
+only-refl t = record { long = refl; heading = λ q h. refl; others = λ k p h ne. refl }
+
+pub only-trans : {t u v : List ℤ} → OnlyBalances t u → OnlyBalances u v → OnlyBalances t v
+only-trans f g =
+    record {
+      long = g .long ∙ f .long;
+      heading = λ q h. g .heading q h ∙ f .heading q h;
+      others = λ k p h ne. g .others k p h ne ∙ f .others k p h ne;
+    }
+
+pub only-put : (t : List ℤ) (k : ℕ) (v : ℤ) → OnlyBalances t (put t k 7 v)
+only-put t k v =
+    record {
+      long = length-put t k 7 v;
+      heading = λ q h. header-put t k 7 v q h;
+      others = λ j p h ne. place-put-place t k 7 v j p (omega arith) h ne;
+    }
+
+pub only-frame : {t u : List ℤ} → OnlyBalances t u → Frame t u
+only-frame f =
+    record {
+      long = f .long;
+      heading = f .heading;
+      early = λ k p h. f .others k p (omega arith) (λ e. omega arith);
+      spare = λ k p h. f .others k (9 + p) (omega arith) (λ e. omega arith);
+    }
+
+pub frame-tree : (t u : List ℤ) → Frame t u → treeOf u ≡ treeOf t
+frame-tree t u f = same-tree u t (λ k p h. f .early k p (omega arith))
+
+pub frame-rate : (t u : List ℤ) → Frame t u → (k : ℕ) → rate u k ≡ rate t k
+unfolding rate
+frame-rate t u f k = ap plus (f .early k 6 (omega arith))
+
+pub frame-depth : (t u : List ℤ) → Frame t u → (k : ℕ) → depthGrains u k ≡ depthGrains t k
+unfolding depthGrains
+frame-depth t u f k = rw (f .early k 5 (omega arith))
+
+pub frame-grains : (t u : List ℤ) → Frame t u → (k : ℕ) → depthGrains u k ≡ treeOf t .depth k * 1000
+unfolding depthGrains treeOf
+frame-grains t u f k = frame-depth t u f k
+
+pub frame-count : (t u : List ℤ) → Frame t u → count u ≡ count t
+unfolding count
+frame-count t u f = ap plus (f .heading 0 (omega arith))

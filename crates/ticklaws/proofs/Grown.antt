@@ -1,0 +1,93 @@
+-- Step 1: every node's balance grows by its rate. Floors are kept, since the rates of a class's children sum to at most
+-- the class's rate.
+use Prim.Native.Nat.{ℕ, _+_, _≤_, _<_}
+use mathlib.Core.Path.{_≡_, refl, ap, _∙_}
+use mathlib.Core.Bool.{true, false}
+use mathlib.Core.List.{List}
+use native.Mathlib.Omega.{arith}
+use lib.ListN.{length}
+use lib.IntN.{ℤ, pos, _+ℤ_}
+use Rattle.numbers.specs.Whole.{plus, minus}
+use Rattle.numbers.proofs.Parts.{zarith, add-parts, plus-pos}
+use Rattle.table.specs.Places.{put, rate, balance}
+use Rattle.table.specs.Tree.{Tree, treeOf, there, isClass, sumUnder}
+use Rattle.table.specs.Rates.{rateIn, childRate}
+use Rattle.table.specs.Tick.{grown}
+use Rattle.table.proofs.Facts.{InOrder}
+use Rattle.treelaws.proofs.Children.{class-there}
+use Rattle.treelaws.proofs.Rounding.{children-rates, rate-of-child}
+use Rattle.treelaws.proofs.Children.{under-le, under-add}
+use Rattle.treelaws.proofs.Floors.{Floor}
+use Rattle.ticklaws.proofs.Frame.{only-frame, frame-rate}
+use Rattle.ticklaws.proofs.Reached.{Reached, reached-first, reached-balances}
+use Rattle.ticklaws.proofs.Sweep.{set-put, Swept, sweep}
+
+pub grown-swept : (t : List ℤ) → length t ≡ 2568 → Swept t (λ k. balance t k +ℤ pos (rate t k)) 64 (grown t)
+unfolding grown
+grown-swept t n =
+    sweep t (λ k. balance t k +ℤ pos (rate t k)) (λ k u. put u k 7 (balance u k +ℤ pos (rate u k)))
+    (λ k u hk only e. rw (e, frame-rate t u (only-frame only) k) (set-put u k (balance t k +ℤ pos (rate t k)) (only .long ∙ n) hk))
+
+-- Balances grow from B to B' by the amounts r, of which a class's children have at most the class's.
+module _ (tree : Tree) (r : ℕ → ℕ) (fair : (c : ℕ) → c < 64 → isClass tree c ≡ true → sumUnder tree c r ≤ r c) (B B' : ℕ → ℤ) (new : (k : ℕ) → k < 64 → B' k ≡ B k +ℤ pos (r k)) where
+  grows : (k : ℕ) → k < 64 → plus (B' k) + minus (B k) ≡ minus (B' k) + (plus (B k) + r k)
+  unfolding plus minus
+  grows k hk = omega (arith, zarith, new k hk, add-parts (B k) (pos (r k)))
+
+  pub floor-grown : Floor tree B → Floor tree B'
+  floor-grown f =
+      record {
+        room = λ k hk h.
+            record {
+              class = λ c.
+                  omega (
+                    arith,
+                    f .room k hk h .class c,
+                    fair k hk c,
+                    grows k hk,
+                    under-le tree k (λ j. plus (B' j) + minus (B j)) (λ j. minus (B' j) + (plus (B j) + r j)) (λ j hj child. omega (arith, grows j hj)),
+                    under-add tree k (λ j. plus (B' j)) (λ j. minus (B j)),
+                    under-add tree k (λ j. minus (B' j)) (λ j. plus (B j) + r j),
+                    under-add tree k (λ j. plus (B j)) r,
+                  );
+              client = λ c. omega (arith, f .room k hk h .client c, grows k hk);
+            };
+      }
+
+-- A node's rate is the one that the tree gives it.
+pub rate-in-order : (t : List ℤ) → InOrder t → (k : ℕ) → k < 64 → there (treeOf t) k ≡ true → rate t k ≡ rateIn (treeOf t) (rate t 0) k
+unfolding rate
+rate-in-order t f k hk h = ap plus (f .rates k hk h) ∙ plus-pos (rateIn (treeOf t) (rate t 0) k)
+
+fair-rates : (t : List ℤ) → InOrder t → (c : ℕ) → c < 64 → isClass (treeOf t) c ≡ true → sumUnder (treeOf t) c (rate t) ≤ rate t c
+fair-rates t f c hc e =
+    let tree = treeOf t in
+    let disk = rate t 0 in
+    omega (
+      arith,
+      under-le tree c (rate t) (childRate tree (rateIn tree disk c))
+          (λ k hk child.
+          omega (
+            arith,
+            rate-in-order t f k hk (child .there),
+            rate-of-child tree disk k (f .child k hk (child .there) (child .below) .level),
+            ap (λ p. childRate tree (rateIn tree disk p) k) (child .parent),
+          )),
+      children-rates tree c (rateIn tree disk c) (f .class c hc e .shares),
+      rate-in-order t f c hc (class-there tree c e),
+    )
+
+no-rate : (t : List ℤ) → InOrder t → (k : ℕ) → k < 64 → there (treeOf t) k ≡ false → rate t k ≡ 0
+unfolding rate
+no-rate t f k hk h = ap plus (f .empty k hk h 6 (omega arith)) ∙ plus-pos 0
+
+module _ (t : List ℤ) (f : InOrder t) where
+  swept : Swept t (λ k. balance t k +ℤ pos (rate t k)) 64 (grown t)
+  swept = grown-swept t (f .long)
+
+  pub grown-reached : Reached t (grown t)
+  grown-reached =
+      let first = reached-first t f in
+      reached-balances t t (grown t) first (swept .only)
+      (floor-grown (treeOf t) (rate t) (fair-rates t f) (balance t) (balance (grown t)) (swept .new) (first .floor))
+      (record { zero = λ k hk h. swept .new k hk ∙ rw (no-rate t f k hk h, first .vacant .zero k hk h) refl })

@@ -1,0 +1,163 @@
+-- The rounding law: the rates of a class's children sum to at most the class's rate, for any number of children of mixed
+-- kinds. Rounding down each part of a sum gives at most the sum rounded down; so the fixed children get at most the
+-- class's rate x their shares / 10,000, and the weighted ones at most what is left.
+use Prim.Native.Nat.{ℕ, zero, suc, _+_, _*_, _-_, _/_, _≤_, _<_}
+use mathlib.Core.Path.{_≡_, refl, _∙_}
+use mathlib.Core.Bool.{true, false, cond}
+use mathlib.Core.List.{List, [], _∷_}
+use native.Mathlib.Omega.{arith}
+use native.Mathlib.Nat.{div-mul-le-self, le-div-iff-mul-le, div-le-of-le-mul, div-zero, mul-le-mul-left, add-zero}
+use native.Mathlib.Decide.{ℕ-discrete}
+use lib.IntN.{ℤ}
+use Rattle.numbers.specs.Below.{sumBelow}
+use Rattle.numbers.proofs.Tests.{by-test, cond-true, cond-false}
+use Rattle.numbers.proofs.Parts.{plus-pos, zarith}
+use Rattle.table.specs.Tree.{Tree, treeOf, there, isFixed, childOf, countIf, sumUnder}
+use Rattle.table.specs.Places.{rate}
+use Rattle.table.specs.Rates.{fixedShare, weight, fixedSum, weightSum, fixedRate, leftRate, weightedRate, childRate, rateAtLevel, rateIn}
+use Rattle.table.proofs.Facts.{InOrder}
+use Rattle.treelaws.proofs.Children.{class-there, child-facts, child-of, child-le-sum}
+use Rattle.treelaws.specs.Shares.{Share, fixed, weighted, fixedPart, weightPart, sumOf, shareRate, ratesOf}
+
+-- Rounding down.
+parts-le : (a s u m : ℕ) → a * s / m + a * u / m ≤ a * (s + u) / m
+parts-le a s u zero = omega (arith, div-zero (a * s), div-zero (a * u))
+parts-le a s u (suc m) =
+    le-div-iff-mul-le {k = suc m} {x = a * s / suc m + a * u / suc m} {y = a * (s + u)} (omega arith) .1
+    (omega (arith, div-mul-le-self (a * s) (suc m), div-mul-le-self (a * u) (suc m)))
+
+part-le : (a s m : ℕ) → s ≤ m → a * s / m ≤ a
+part-le a s m h = div-le-of-le-mul m (omega (arith, mul-le-mul-left a h))
+
+-- The pieces of a rate.
+pub fixed-le : (r s : ℕ) → s ≤ 10000 → fixedRate r s ≤ r
+unfolding fixedRate
+fixed-le r s h = part-le r s 10000 h
+
+pub left-le : (r f : ℕ) → leftRate r f ≤ r
+unfolding leftRate
+left-le r f = part-le r (10000 - f) 10000 (omega arith)
+
+pub weighted-le : (l s w : ℕ) → s ≤ w → weightedRate l s w ≤ l
+unfolding weightedRate
+weighted-le l s w h = part-le l s w h
+
+-- The rates of any list of shares, whatever sums they are reckoned with.
+rates-le : (r f w : ℕ) (shares : List Share) → sumOf (shareRate r f w) shares ≤ fixedRate r (sumOf fixedPart shares) + weightedRate (leftRate r f) (sumOf weightPart shares) w
+unfolding sumOf shareRate fixedPart weightPart fixedRate weightedRate
+rates-le r f w [] = omega arith
+rates-le r f w (fixed s ∷ shares) = rw add-zero (omega (arith, rates-le r f w shares, parts-le r (sumOf fixedPart shares) s 10000))
+rates-le r f w (weighted s ∷ shares) = omega (arith, rates-le r f w shares, parts-le (leftRate r f) (sumOf weightPart shares) s w)
+
+-- The fixed part and what is left are at most the whole.
+fixed-and-left : (r f : ℕ) → f ≤ 10000 → fixedRate r f + leftRate r f ≤ r
+unfolding fixedRate leftRate
+fixed-and-left r f h = let whole : f + (10000 - f) ≡ 10000 = omega arith in omega (arith, rw whole at (parts-le r f (10000 - f) 10000))
+
+-- The law, for a class of any rate and any list of shares.
+pub rounding : (r : ℕ) (shares : List Share) → sumOf fixedPart shares ≤ 10000 → ratesOf r shares ≤ r
+unfolding ratesOf
+rounding r shares h =
+    omega (arith, rates-le r (sumOf fixedPart shares) (sumOf weightPart shares) shares, fixed-and-left r (sumOf fixedPart shares) h, weighted-le (leftRate r (sumOf fixedPart shares)) (sumOf weightPart shares) (sumOf weightPart shares) (omega arith))
+
+-- The share of node k, and the shares of the children of class c below n.
+shareOf : Tree → ℕ → Share
+shareOf tree k = cond (isFixed tree k) (fixed (tree .share k)) (weighted (tree .share k))
+
+children : Tree → ℕ → ℕ → List Share
+children tree c zero = []
+children tree c (suc n) = cond (childOf tree c n) (shareOf tree n ∷ children tree c n) (children tree c n)
+
+-- A sum over the children is one over their shares, where the terms agree.
+sum-of-children : (tree : Tree) (c n : ℕ) (f : ℕ → ℕ) (g : Share → ℕ) → ((k : ℕ) → childOf tree c k ≡ true → f k ≡ g (shareOf tree k)) → sumBelow n (λ k. countIf (childOf tree c k) f k) ≡ sumOf g (children tree c n)
+unfolding sumBelow countIf sumOf children
+sum-of-children tree c zero f g h = refl
+sum-of-children tree c (suc n) f g h =
+    by-test (childOf tree c n)
+    (λ e. rw e (omega (arith, sum-of-children tree c n f g h, h n e)))
+    (λ e. rw e (omega (arith, sum-of-children tree c n f g h)))
+
+-- The terms of the three sums agree.
+fixed-share : (tree : Tree) (k : ℕ) → fixedShare tree k ≡ fixedPart (shareOf tree k)
+unfolding fixedShare fixedPart shareOf
+fixed-share tree k = by-test (isFixed tree k) (λ e. rw e) (λ e. rw e)
+
+weight-share : (tree : Tree) (k : ℕ) → weight tree k ≡ weightPart (shareOf tree k)
+unfolding weight weightPart shareOf
+weight-share tree k = by-test (isFixed tree k) (λ e. rw e) (λ e. rw e)
+
+rate-share : (tree : Tree) (r c k : ℕ) → tree .parent k ≡ c → childRate tree r k ≡ shareRate r (fixedSum tree c) (weightSum tree c) (shareOf tree k)
+unfolding childRate shareRate shareOf
+rate-share tree r c k p = rw p (by-test (isFixed tree k) (λ e. rw e) (λ e. rw e))
+
+-- The law by node numbers: the rates of the children of class c, where its rate is r.
+pub children-rates : (tree : Tree) (c r : ℕ) → fixedSum tree c ≤ 10000 → sumUnder tree c (childRate tree r) ≤ r
+unfolding fixedSum weightSum sumUnder ratesOf
+children-rates tree c r h =
+    let shares : List Share = children tree c 64 in
+    let fixedShares : fixedSum tree c ≡ sumOf fixedPart shares = sum-of-children tree c 64 (fixedShare tree) fixedPart (λ k e. fixed-share tree k) in
+    let weights : weightSum tree c ≡ sumOf weightPart shares = sum-of-children tree c 64 (weight tree) weightPart (λ k e. weight-share tree k) in
+    let rates = sum-of-children tree c 64 (childRate tree r) (shareRate r (sumOf fixedPart shares) (sumOf weightPart shares)) (λ k e. rate-share tree r c k (child-facts tree c k e .parent) ∙ rw (fixedShares, weights)) in
+    omega (arith, rounding r shares (omega arith))
+
+-- A node one level below its parent has the rate of a child of it.
+pub rate-of-child : (tree : Tree) (disk k : ℕ) → tree .level k ≡ suc (tree .level (tree .parent k)) → rateIn tree disk k ≡ childRate tree (rateIn tree disk (tree .parent k)) k
+unfolding rateIn rateAtLevel
+rate-of-child tree disk k e = rw e
+
+-- A child's rate by its kind.
+pub fixed-child : (tree : Tree) (r k : ℕ) → isFixed tree k ≡ true → childRate tree r k ≡ fixedRate r (tree .share k)
+unfolding childRate
+fixed-child tree r k e = cond-true (isFixed tree k) _ _ e
+
+pub weighted-child : (tree : Tree) (c r k : ℕ) → tree .parent k ≡ c → isFixed tree k ≡ false → childRate tree r k ≡ weightedRate (leftRate r (fixedSum tree c)) (tree .share k) (weightSum tree c)
+unfolding childRate
+weighted-child tree c r k p e = rw p (cond-false (isFixed tree k) _ _ e)
+
+pub weight-le-sum : (tree : Tree) (c k : ℕ) → k < 64 → childOf tree c k ≡ true → isFixed tree k ≡ false → tree .share k ≤ weightSum tree c
+unfolding weightSum weight
+weight-le-sum tree c k hk h e = rw (cond-false (isFixed tree k) 0 (tree .share k) e) at (child-le-sum tree c (weight tree) k hk h)
+
+-- A child's rate is at most its class's.
+pub fixed-child-le : (tree : Tree) (r k : ℕ) → isFixed tree k ≡ true → tree .share k ≤ 10000 → childRate tree r k ≤ r
+fixed-child-le tree r k e small = rw (fixed-child tree r k e) (fixed-le r (tree .share k) small)
+
+pub child-rate-le : (tree : Tree) (c r k : ℕ) → k < 64 → childOf tree c k ≡ true → tree .share k ≤ 10000 → childRate tree r k ≤ r
+child-rate-le tree c r k hk h small =
+    by-test (isFixed tree k) (λ e. fixed-child-le tree r k e small)
+    (λ e.
+    omega
+    (arith, weighted-child tree c r k (child-facts tree c k h .parent) e, left-le r (fixedSum tree c), weighted-le (leftRate r (fixedSum tree c)) (tree .share k) (weightSum tree c) (weight-le-sum tree c k hk h e)))
+
+-- What bounds every rate: the root is fixed; of each node that is there the share is at most 10,000, and its parent is
+-- there.
+pub record Bounded (tree : Tree) : Type 0 where
+  pub root : isFixed tree 0 ≡ true
+  pub share : (k : ℕ) → k < 64 → there tree k ≡ true → tree .share k ≤ 10000
+  pub parent : (k : ℕ) → k < 64 → there tree k ≡ true → tree .parent k < 64
+  pub above : (k : ℕ) → k < 64 → there tree k ≡ true → there tree (tree .parent k) ≡ true
+
+-- Then no rate exceeds the disk's, at whatever level it is reckoned.
+pub rate-bounded : (tree : Tree) → Bounded tree → (disk l k : ℕ) → k < 64 → there tree k ≡ true → rateAtLevel tree disk l k ≤ disk
+unfolding rateAtLevel
+rate-bounded tree b disk zero k hk e = omega arith
+rate-bounded tree b disk (suc l) k hk e = omega (arith, rate-bounded tree b disk l (tree .parent k) (b .parent k hk e) (b .above k hk e), step (rateAtLevel tree disk l (tree .parent k)))
+  where
+    step : (r : ℕ) → childRate tree r k ≤ r
+    step r = elim (ℕ-discrete k 0) [ yes z ↦ fixed-child-le tree r k (rw z (b .root)) (b .share k hk e) | no ne ↦ child-rate-le tree (tree .parent k) r k hk (child-of tree (tree .parent k) k (record { there = e; below = ne; parent = refl })) (b .share k hk e) ]
+
+-- A table in order meets this.
+pub in-order-bounded : (t : List ℤ) → InOrder t → Bounded (treeOf t)
+unfolding treeOf isFixed
+in-order-bounded t f =
+    record {
+      root = rw (f .root .kind, plus-pos);
+      share = λ k hk e. let l = f .limits k hk e .share in omega (arith, zarith);
+      parent = λ k hk e. let l = f .limits k hk e .parent in omega (arith, zarith);
+      above = λ k hk e. elim (ℕ-discrete k 0) [ yes z ↦ rw (z, f .root .parent, plus-pos) (rw z at e) | no ne ↦ class-there (treeOf t) (treeOf t .parent k) (f .child k hk e ne .class) ];
+    }
+
+-- So its rates are at most the disk's.
+pub rates-in-order : (t : List ℤ) → InOrder t → (k : ℕ) → k < 64 → there (treeOf t) k ≡ true → rateIn (treeOf t) (rate t 0) k ≤ rate t 0
+unfolding rateIn
+rates-in-order t f k hk e = rate-bounded (treeOf t) (in-order-bounded t f) (rate t 0) (treeOf t .level k) k hk e
