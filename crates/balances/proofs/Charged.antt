@@ -10,6 +10,7 @@ use lib.ListN.{length}
 use lib.IntN.{ℤ, pos, _-ℤ_}
 use Rattle.numbers.specs.Whole.{minus}
 use Rattle.numbers.proofs.Parts.{one-is-zero, sub-parts, plus-pos, minus-pos}
+use Rattle.table.specs.Limits.{tableLength, recordLength, nodes, balanceAt, lastLevel}
 use Rattle.table.specs.Places.{place, balance}
 use Rattle.table.specs.Tree.{Tree, treeOf}
 use Rattle.table.specs.Tick.{lower, charge}
@@ -29,38 +30,38 @@ charge-above t amount (suc l) k e = let less : suc l - 1 ≡ l = omega arith in 
 
 pub lower-length : (t : List ℤ) (amount k : ℕ) → length (lower t amount k) ≡ length t
 unfolding lower
-lower-length t amount k = length-put t k 7 (balance t k -ℤ pos amount)
+lower-length t amount k = length-put t k balanceAt (balance t k -ℤ pos amount)
 
 pub lower-tree : (t : List ℤ) (amount k : ℕ) → treeOf (lower t amount k) ≡ treeOf t
 unfolding lower
-lower-tree t amount k = same-tree _ t (λ j p hp. place-put-place t k 7 (balance t k -ℤ pos amount) j p (omega arith) (omega arith) (λ e. omega arith))
+lower-tree t amount k = same-tree _ t (λ j p hp. place-put-place t k balanceAt (balance t k -ℤ pos amount) j p (omega arith) (omega arith) (λ e. omega arith))
 
 -- A charge writes balances alone.
-pub charge-place : (l : ℕ) (t : List ℤ) (amount k j p : ℕ) → p < 40 → (p ≡ 7 → ⊥) → place (charge t amount l k) j p ≡ place t j p
+pub charge-place : (l : ℕ) (t : List ℤ) (amount k j p : ℕ) → p < recordLength → (p ≡ balanceAt → ⊥) → place (charge t amount l k) j p ≡ place t j p
 unfolding charge lower
-charge-place zero t amount k j p hp ne = place-put-place t k 7 (balance t k -ℤ pos amount) j p (omega arith) hp ne
+charge-place zero t amount k j p hp ne = place-put-place t k balanceAt (balance t k -ℤ pos amount) j p (omega arith) hp ne
 charge-place (suc l) t amount k j p hp ne =
     charge-place l (lower t amount k) amount (treeOf t .parent k) j p hp ne
-    ∙ place-put-place t k 7 (balance t k -ℤ pos amount) j p (omega arith) hp ne
+    ∙ place-put-place t k balanceAt (balance t k -ℤ pos amount) j p (omega arith) hp ne
 
 less-debt : (z : ℤ) (amount : ℕ) → minus (z -ℤ pos amount) ≤ minus z + amount
 less-debt z amount = omega (arith, sub-parts z (pos amount), one-is-zero (z -ℤ pos amount), plus-pos amount, minus-pos amount)
 
-lower-debt : (t : List ℤ) (amount k j : ℕ) → length t ≡ 2568 → k < 64 → minus (balance (lower t amount k) j) ≤ minus (balance t j) + amount
+lower-debt : (t : List ℤ) (amount k j : ℕ) → length t ≡ tableLength → k < nodes → minus (balance (lower t amount k) j) ≤ minus (balance t j) + amount
 unfolding lower balance
 lower-debt t amount k j n low =
     elim (ℕ-discrete j k) [
-      | yes e ↦ rw (e, place-put-same t k 7 (place t k 7 -ℤ pos amount) n low (omega arith)) (less-debt (place t k 7) amount)
-      | no ne ↦ rw (place-put-node t k 7 (place t k 7 -ℤ pos amount) j 7 (omega arith) (omega arith) ne) (omega arith)
+      | yes e ↦ rw (e, place-put-same t k balanceAt (place t k balanceAt -ℤ pos amount) n low (omega arith)) (less-debt (place t k balanceAt) amount)
+      | no ne ↦ rw (place-put-node t k balanceAt (place t k balanceAt -ℤ pos amount) j balanceAt (omega arith) (omega arith) ne) (omega arith)
     ]
 
 -- The table u, which shows the tree, can be charged an amount at l levels and at one more, at whichever nodes.
 pub record Chargeable (tree : Tree) (amount l : ℕ) (u : List ℤ) : Type 0 where
-  pub long : length u ≡ 2568
+  pub long : length u ≡ tableLength
   pub same : treeOf u ≡ tree
-  pub debt : (j : ℕ) → j < 64 → minus (balance u j) + suc l * amount ≤ 2 ^ 63
+  pub debt : (j : ℕ) → j < nodes → minus (balance u j) + suc l * amount ≤ 2 ^ 63
 
-pub chargeable-first : (t : List ℤ) → Within t → (amount l : ℕ) → amount ≤ 2 ^ 60 → l ≤ 4 → Chargeable (treeOf t) amount l t
+pub chargeable-first : (t : List ℤ) → Within t → (amount l : ℕ) → amount ≤ 2 ^ 60 → l ≤ lastLevel → Chargeable (treeOf t) amount l t
 chargeable-first t w amount l small few =
     record {
       long = w .long;
@@ -68,7 +69,7 @@ chargeable-first t w amount l small few =
       debt = λ j h. omega (arith, w .debt j h, mul-le-mul-right amount few);
     }
 
-pub chargeable-next : (tree : Tree) (amount l : ℕ) (u : List ℤ) → Chargeable tree amount l u → 0 < l → (k : ℕ) → k < 64 → Chargeable tree amount (l - 1) (lower u amount k)
+pub chargeable-next : (tree : Tree) (amount l : ℕ) (u : List ℤ) → Chargeable tree amount l u → 0 < l → (k : ℕ) → k < nodes → Chargeable tree amount (l - 1) (lower u amount k)
 chargeable-next tree amount zero u r more k low = absurd (omega arith)
 chargeable-next tree amount (suc l) u r more k low =
     let less : suc l - 1 ≡ l = omega arith in
@@ -79,8 +80,8 @@ chargeable-next tree amount (suc l) u r more k low =
       debt = λ j h. omega (arith, r .debt j h, lower-debt u amount k j (r .long) low);
     })
 
-pub chargeable-here : (tree : Tree) (amount l : ℕ) (u : List ℤ) → Chargeable tree amount l u → (k : ℕ) → k < 64 → minus (balance u k) + amount ≤ 2 ^ 63
+pub chargeable-here : (tree : Tree) (amount l : ℕ) (u : List ℤ) → Chargeable tree amount l u → (k : ℕ) → k < nodes → minus (balance u k) + amount ≤ 2 ^ 63
 chargeable-here tree amount l u r k low = omega (arith, r .debt k low)
 
-pub chargeable-parent : (t : List ℤ) (amount l : ℕ) (u : List ℤ) → Within t → Chargeable (treeOf t) amount l u → (k : ℕ) → k < 64 → treeOf u .parent k < 64
+pub chargeable-parent : (t : List ℤ) (amount l : ℕ) (u : List ℤ) → Within t → Chargeable (treeOf t) amount l u → (k : ℕ) → k < nodes → treeOf u .parent k < nodes
 chargeable-parent t amount l u w r k low = rw (r .same) (w .parent k low)

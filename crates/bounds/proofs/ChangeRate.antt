@@ -6,6 +6,7 @@ use mathlib.Core.List.{List, []}
 use native.Mathlib.Omega.{arith}
 use lib.IntN.{ℤ}
 use Rattle.numbers.specs.Whole.{plus}
+use Rattle.table.specs.Limits.{recordLength, rateAt, balanceAt, waitingAt, root}
 use Rattle.table.specs.Places.{place, put, rate as rateOf, balance, waiting}
 use Rattle.table.specs.Rates.{renewed}
 use Rattle.table.specs.Order.{inOrder}
@@ -21,17 +22,17 @@ use Rattle.bounds.proofs.Changes.{Change, all-same}
 use Rattle.bounds.proofs.Renewing.{kept-order, renewed-agrees, renewed-same}
 
 pub rate-change :
-    (t : List ℤ) (o : Observer) (rate : ℤ) → Agrees t o → changeRateRefusal t rate ≡ 0
-    → Change t (renewed (put t 0 6 rate)) o (afterAccepted o (changeRate rate) []) (λ c. leaves c (changeRate rate))
+    (t : List ℤ) (o : Observer) (rate : ℤ) → Agrees t o → changeRateRefusal t rate ≡ root
+    → Change t (renewed (put t root rateAt rate)) o (afterAccepted o (changeRate rate) []) (λ c. leaves c (changeRate rate))
 unfolding changeRateTable afterAccepted rateOf balance waiting
 rate-change t o rate a h =
     all-same t (renewed u) o p _
-    (renewed-agrees u order p (rerated-tree t rate ∙ a .tree) (ap plus (place-put-same t 0 6 rate (facts t (a .order) .long) (omega arith) (omega arith)))
-    (λ j e. a .queue j e ∙ ap (λ (w : ℕ). o .sent j + w) (sym (ap plus (rest j 8 (omega arith) (omega arith))))))
-    (λ j. renewed-same u order t o p j (record { sort = refl; depth = refl; balance = rest j 7 (omega arith) (omega arith) }))
+    (renewed-agrees u order p (rerated-tree t rate ∙ a .tree) (ap plus (place-put-same t root rateAt rate (facts t (a .order) .long) (omega arith) (omega arith)))
+    (λ j e. a .queue j e ∙ ap (λ (w : ℕ). o .sent j + w) (sym (ap plus (rest j waitingAt (omega arith) (omega arith))))))
+    (λ j. renewed-same u order t o p j (record { sort = refl; depth = refl; balance = rest j balanceAt (omega arith) (omega arith) }))
   where
     u : List ℤ
-    u = put t 0 6 rate
+    u = put t root rateAt rate
 
     p : Observer
     p = afterAccepted o (changeRate rate) []
@@ -39,5 +40,5 @@ rate-change t o rate a h =
     order : inOrder (renewed u) ≡ true
     order = kept-order _ (renewed u) t h (change-rate-keeps t rate h)
 
-    rest : (j p : ℕ) → p < 40 → (p ≡ 6 → ⊥) → place u j p ≡ place t j p
-    rest j p = place-put-place t 0 6 rate j p (omega arith)
+    rest : (j p : ℕ) → p < recordLength → (p ≡ rateAt → ⊥) → place u j p ≡ place t j p
+    rest j p = place-put-place t root rateAt rate j p (omega arith)

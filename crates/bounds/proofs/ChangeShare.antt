@@ -6,6 +6,7 @@ use mathlib.Core.List.{List, []}
 use native.Mathlib.Omega.{arith}
 use lib.IntN.{ℤ}
 use Rattle.numbers.specs.Whole.{plus}
+use Rattle.table.specs.Limits.{recordLength, kindAt, shareAt, rateAt, balanceAt, waitingAt, root}
 use Rattle.table.specs.Places.{place, rate as rateOf, balance, waiting}
 use Rattle.table.specs.Tree.{Tree, treeOf, isClient}
 use Rattle.table.specs.Rates.{renewed}
@@ -29,9 +30,9 @@ pub share-change :
 unfolding changeShareTable afterAccepted withShare rateOf balance waiting isClient
 share-change t o node kind share a h =
     all-same t (renewed u) o p _
-    (renewed-agrees u order p tree (ap plus (rest 0 6 (omega arith) (omega arith) (omega arith)) ∙ a .disk)
-    (λ j e. a .queue j e ∙ ap (λ (w : ℕ). o .sent j + w) (sym (ap plus (rest j 8 (omega arith) (omega arith) (omega arith))))))
-    (λ j. renewed-same u order t o p j (record { sort = refl; depth = refl; balance = rest j 7 (omega arith) (omega arith) (omega arith) }))
+    (renewed-agrees u order p tree (ap plus (rest root rateAt (omega arith) (omega arith) (omega arith)) ∙ a .disk)
+    (λ j e. a .queue j e ∙ ap (λ (w : ℕ). o .sent j + w) (sym (ap plus (rest j waitingAt (omega arith) (omega arith) (omega arith))))))
+    (λ j. renewed-same u order t o p j (record { sort = refl; depth = refl; balance = rest j balanceAt (omega arith) (omega arith) (omega arith) }))
   where
     k : ℕ
     k = plus node
@@ -51,7 +52,7 @@ share-change t o node kind share a h =
     order : inOrder (renewed u) ≡ true
     order = kept-order _ (renewed u) t h (change-share-keeps t node kind share h)
 
-    rest : (j p : ℕ) → p < 40 → (p ≡ 3 → ⊥) → (p ≡ 4 → ⊥) → place u j p ≡ place t j p
+    rest : (j p : ℕ) → p < recordLength → (p ≡ kindAt → ⊥) → (p ≡ shareAt → ⊥) → place u j p ≡ place t j p
     rest = reshared-rest t k kind share (f .long) (passed .node)
 
     tree : treeOf u ≡ p .tree

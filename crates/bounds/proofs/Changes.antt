@@ -11,6 +11,7 @@ use Rattle.numbers.specs.Whole.{plus}
 use Rattle.numbers.specs.Tests.{every}
 use Rattle.numbers.proofs.Tests.{by-test, true-false}
 use Rattle.numbers.proofs.Every.{none-left, holds-with}
+use Rattle.table.specs.Limits.{recordLength, balanceAt, waitingAt}
 use Rattle.table.specs.Places.{place, balance, waiting}
 use Rattle.table.specs.Tree.{isClass, isClient}
 use Rattle.table.specs.Refusals.{outcome, kept}
@@ -42,7 +43,7 @@ unchanged t o out a = all-same t t o o out a (λ j. record { sort = refl; depth 
 
 -- The table u is t and the observer p is o, but for node k.
 pub record Others (t u : List ℤ) (o p : Observer) (k : ℕ) : Type 0 where
-  pub places : (j q : ℕ) → (j ≡ k → ⊥) → q < 40 → place u j q ≡ place t j q
+  pub places : (j q : ℕ) → (j ≡ k → ⊥) → q < recordLength → place u j q ≡ place t j q
   pub sort : (j : ℕ) → (j ≡ k → ⊥) → p .tree .sort j ≡ o .tree .sort j
   pub depth : (j : ℕ) → (j ≡ k → ⊥) → p .tree .depth j ≡ o .tree .depth j
   pub asked : (j : ℕ) → (j ≡ k → ⊥) → p .asked j ≡ o .asked j
@@ -51,7 +52,7 @@ pub record Others (t u : List ℤ) (o p : Observer) (k : ℕ) : Type 0 where
 module _ (t u : List ℤ) (o p : Observer) (k : ℕ) (others : Others t u o p k) where
   pub other-same : (j : ℕ) → (j ≡ k → ⊥) → Same t u o p j
   unfolding balance
-  other-same j ne = record { sort = others .sort j ne; depth = others .depth j ne; balance = others .places j 7 ne (omega arith) }
+  other-same j ne = record { sort = others .sort j ne; depth = others .depth j ne; balance = others .places j balanceAt ne (omega arith) }
 
   pub queues : Agrees t o → (isClient (p .tree) k ≡ true → p .asked k ≡ p .sent k + waiting u k) → (j : ℕ) → isClient (p .tree) j ≡ true → p .asked j ≡ p .sent j + waiting u j
   unfolding waiting
@@ -63,7 +64,7 @@ module _ (t u : List ℤ) (o p : Observer) (k : ℕ) (others : Others t u o p k)
               arith,
               others .asked j ne,
               others .sent j ne,
-              ap plus (others .places j 8 ne (omega arith)),
+              ap plus (others .places j waitingAt ne (omega arith)),
               a .queue j (sym (client-same (p .tree) (o .tree) j (others .sort j ne)) ∙ e),
             )
       ]

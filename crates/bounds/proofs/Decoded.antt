@@ -10,6 +10,7 @@ use lib.Dec.{eqb}
 use lib.ListN.{length}
 use lib.IntN.{ℤ, pos}
 use Rattle.numbers.specs.Whole.{plus}
+use Rattle.table.specs.Limits.{entryLength}
 use Rattle.table.specs.Tree.{Tree}
 use Rattle.table.specs.Places.{size, tag}
 use Rattle.table.specs.Tick.{State, grains, dispatched}
@@ -18,7 +19,7 @@ use Rattle.bounds.specs.Observer.{Entry, entriesIn, entriesFor}
 use Rattle.bounds.specs.Counts.{grainsFor, isAbove, grainsCharged}
 
 -- The entries of a list of numbers, and then those of what stands behind it.
-pub entries-append : (n m : ℕ) (list more : List ℤ) → length list ≡ 4 * n → entriesIn (n + m) (list ++ more) ≡ entriesIn n list ++ entriesIn m more
+pub entries-append : (n m : ℕ) (list more : List ℤ) → length list ≡ entryLength * n → entriesIn (n + m) (list ++ more) ≡ entriesIn n list ++ entriesIn m more
 unfolding entriesIn
 entries-append zero m [] more e = rw (zero-add m)
 entries-append zero m (a ∷ list) more e = absurd (omega arith)
@@ -49,10 +50,10 @@ grainsCharged-last tree x =
 
 -- The entries that a list of numbers holds, four for each, and that it holds nothing else.
 unfoldable pub told : List ℤ → List Entry
-told list = entriesIn (length list / 4) list
+told list = entriesIn (length list / entryLength) list
 
 unfoldable pub whole : List ℤ → Type 0
-whole list = length list ≡ 4 * (length list / 4)
+whole list = length list ≡ entryLength * (length list / entryLength)
 
 pub told-none : told [] ≡ []
 unfolding told entriesIn
@@ -63,11 +64,11 @@ unfolding whole
 whole-none = refl
 
 -- An observer reads them from any list that begins with them.
-pub told-first : (list more : List ℤ) → whole list → entriesIn (length list / 4) (list ++ more) ≡ told list
+pub told-first : (list more : List ℤ) → whole list → entriesIn (length list / entryLength) (list ++ more) ≡ told list
 unfolding told whole entriesIn
 told-first list more w =
-    let none : length list / 4 ≡ length list / 4 + 0 = omega arith in
-    ap (λ (n : ℕ). entriesIn n (list ++ more)) none ∙ entries-append (length list / 4) 0 list more w ∙ append-nil (told list)
+    let none : length list / entryLength ≡ length list / entryLength + 0 = omega arith in
+    ap (λ (n : ℕ). entriesIn n (list ++ more)) none ∙ entries-append (length list / entryLength) 0 list more w ∙ append-nil (told list)
 
 -- The entry of a dispatch for client k with node s as supplier.
 unfoldable pub entryOf : List ℤ → ℕ → ℕ → Entry
@@ -77,9 +78,9 @@ module _ (st : State) (k s : ℕ) (w : whole (st .entries)) where
   pub told-dispatched : told (dispatched st k s .entries) ≡ told (st .entries) ++ (entryOf (st .table) k s ∷ [])
   unfolding told whole dispatched entriesIn plus entryOf
   told-dispatched =
-      let one : length (dispatched st k s .entries) / 4 ≡ length (st .entries) / 4 + 1 = omega (arith, dispatch-entry st k s) in
+      let one : length (dispatched st k s .entries) / entryLength ≡ length (st .entries) / entryLength + 1 = omega (arith, dispatch-entry st k s) in
       ap (λ (n : ℕ). entriesIn n (dispatched st k s .entries)) one
-      ∙ entries-append (length (st .entries) / 4) 1 (st .entries) (pos k ∷ tag (st .table) k 0 ∷ pos (size (st .table) k 0) ∷ pos s ∷ []) w
+      ∙ entries-append (length (st .entries) / entryLength) 1 (st .entries) (pos k ∷ tag (st .table) k 0 ∷ pos (size (st .table) k 0) ∷ pos s ∷ []) w
 
   pub whole-dispatched : whole (dispatched st k s .entries)
   unfolding whole

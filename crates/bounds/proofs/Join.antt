@@ -9,6 +9,7 @@ use lib.IntN.{ℤ}
 use Rattle.numbers.specs.Whole.{plus}
 use Rattle.numbers.proofs.Tests.{true-false}
 use Rattle.numbers.proofs.Parts.{plus-pos}
+use Rattle.table.specs.Limits.{recordLength, rateAt, waitingAt, root}
 use Rattle.table.specs.Places.{place, rate as rateOf, waiting}
 use Rattle.table.specs.Tree.{Tree, treeOf}
 use Rattle.table.specs.Rates.{renewed}
@@ -34,7 +35,7 @@ unfolding joinTable afterAccepted withNode rateOf waiting waits
 join-change t o node parent sort kind share depth a h =
     record {
       agrees =
-          renewed-agrees u order p tree (ap plus (rest 0 6 (omega arith) (omega arith)) ∙ a .disk)
+          renewed-agrees u order p tree (ap plus (rest root rateAt (omega arith) (omega arith)) ∙ a .disk)
           (queues t u o p k others a (λ e. omega (arith, idle, nothing (o .asked), nothing (o .sent))));
       class = λ c e stays. same c (λ at. true-false (class-there (o .tree) c e) (rw at (rw (a .tree) at (passed .unused))));
       client = λ j e busy. same j (λ at. omega (arith, ltb-true (p .sent j) (p .asked j) busy, ap (p .asked) at, nothing (o .asked)));
@@ -58,7 +59,7 @@ join-change t o node parent sort kind share depth a h =
     order : inOrder (renewed u) ≡ true
     order = kept-order _ (renewed u) t h (join-keeps t node parent sort kind share depth h)
 
-    rest : (j p : ℕ) → p < 40 → 6 ≤ p → place u j p ≡ place t j p
+    rest : (j p : ℕ) → p < recordLength → rateAt ≤ p → place u j p ≡ place t j p
     rest = joined-rest t k (plus parent) sort kind share depth (f .long) (passed .node)
 
     tree : treeOf u ≡ p .tree
@@ -81,7 +82,7 @@ join-change t o node parent sort kind share depth a h =
     same j ne = renewed-same u order t o p j (other-same t u o p k others j ne)
 
     idle : waiting u k ≡ 0
-    idle = ap plus (rest k 8 (omega arith) (omega arith) ∙ f .empty k (passed .node) (passed .unused) 8 (omega arith)) ∙ plus-pos 0
+    idle = ap plus (rest k waitingAt (omega arith) (omega arith) ∙ f .empty k (passed .node) (passed .unused) waitingAt (omega arith)) ∙ plus-pos 0
 
     nothing : (g : ℕ → ℕ) → setAt k 0 g k ≡ 0
     nothing g = set-here k 0 g k refl

@@ -7,6 +7,7 @@ use native.Mathlib.Omega.{arith}
 use borrow.Author.Tests.{eqb-true, eqb-false}
 use lib.IntN.{ℤ}
 use Rattle.numbers.specs.Whole.{plus}
+use Rattle.table.specs.Limits.{rateAt, client, root}
 use Rattle.table.specs.Places.{rate as rateOf}
 use Rattle.table.specs.Tree.{Tree, treeOf, isClient}
 use Rattle.table.specs.Rates.{renewed}
@@ -31,7 +32,7 @@ unfolding leaveTable afterAccepted withNode rateOf isClient leaves
 leave-change t o node a h =
     record {
       agrees =
-          renewed-agrees u order p tree (ap plus (others .places 0 6 (λ e. passed .below (sym e)) (omega arith)) ∙ a .disk)
+          renewed-agrees u order p tree (ap plus (others .places root rateAt (λ e. passed .below (sym e)) (omega arith)) ∙ a .disk)
           (queues t u o p k others a (λ e. absurd (no-client k e refl)));
       class = λ c e stays. same c (λ at. eqb-false k c stays (sym at));
       client = λ j e busy. same j (no-client j e);
@@ -74,4 +75,4 @@ leave-change t o node a h =
     same j ne = renewed-same u order t o p j (other-same t u o p k others j ne)
 
     no-client : (j : ℕ) → isClient (p .tree) j ≡ true → j ≡ k → ⊥
-    no-client j e at = omega (arith, eqb-true (p .tree .sort j) 2 e, set-here k 0 (o .tree .sort) j at)
+    no-client j e at = omega (arith, eqb-true (p .tree .sort j) client e, set-here k 0 (o .tree .sort) j at)

@@ -8,6 +8,7 @@ use lib.ListN.{length, length-replicate, List·getD-eq-default}
 use lib.IntN.{ℤ, pos}
 use Rattle.numbers.specs.Whole.{plus}
 use Rattle.numbers.proofs.Parts.{plus-pos}
+use Rattle.table.specs.Limits.{tableLength, headerLength, recordLength, nodes, sortAt, parentAt, levelAt, kindAt, shareAt, depthAt, rateAt, waitingAt, wholeShare}
 use Rattle.table.specs.Places.{place, rate as rateOf, waiting}
 use Rattle.table.specs.Tree.{treeOf}
 use Rattle.table.specs.Calls.{blank, opened, openRefusal, openTable}
@@ -20,16 +21,16 @@ use Rattle.bounds.proofs.Simulation.{Agrees}
 use Rattle.bounds.proofs.Trees.{set-column, same-column}
 
 -- A table of zeros shows zeros, also beyond its end.
-blank-beyond : (j p : ℕ) → 64 ≤ j → place blank j p ≡ pos 0
+blank-beyond : (j p : ℕ) → nodes ≤ j → place blank j p ≡ pos 0
 unfolding place blank
 blank-beyond j p far =
-    let past : length blank ≤ 8 + 40 * j + p = omega (arith, length-replicate 2568 (pos 0)) in
+    let past : length blank ≤ headerLength + recordLength * j + p = omega (arith, length-replicate tableLength (pos 0)) in
     List·getD-eq-default blank (pos 0) past
 
-blank-everywhere : (j p : ℕ) → p < 40 → place blank j p ≡ pos 0
-blank-everywhere j p hp = elim (decLt j 64) [ yes l ↦ blank-place j p l hp | no l ↦ blank-beyond j p (omega arith) ]
+blank-everywhere : (j p : ℕ) → p < recordLength → place blank j p ≡ pos 0
+blank-everywhere j p hp = elim (decLt j nodes) [ yes l ↦ blank-place j p l hp | no l ↦ blank-beyond j p (omega arith) ]
 
-opened-zero : (rate depth : ℤ) (p : ℕ) → p < 40 → (j : ℕ) → (j ≡ 0 → ⊥) → plus (place (opened rate depth) j p) ≡ 0
+opened-zero : (rate depth : ℤ) (p : ℕ) → p < recordLength → (j : ℕ) → (j ≡ 0 → ⊥) → plus (place (opened rate depth) j p) ≡ 0
 opened-zero rate depth p hp j ne = ap plus (opened-edit rate depth .others j p ne hp ∙ blank-everywhere j p hp) ∙ plus-pos 0
 
 opened-tree : (rate depth : ℤ) → treeOf (opened rate depth) ≡ start rate depth .tree
@@ -38,20 +39,20 @@ opened-tree rate depth =
     let here = opened-node rate depth in
     λ i.
     record {
-      sort = set-column 0 1 (λ k. 0) (λ k. plus (place (opened rate depth) k 0)) (here .sort) (opened-zero rate depth 0 (omega arith)) i;
-      parent = same-column 0 (λ k. 0) (λ k. plus (place (opened rate depth) k 1)) (here .parent) (opened-zero rate depth 1 (omega arith)) i;
-      level = same-column 0 (λ k. 0) (λ k. plus (place (opened rate depth) k 2)) (here .level) (opened-zero rate depth 2 (omega arith)) i;
-      kind = same-column 0 (λ k. 0) (λ k. plus (place (opened rate depth) k 3)) (here .kind) (opened-zero rate depth 3 (omega arith)) i;
-      share = set-column 0 10000 (λ k. 0) (λ k. plus (place (opened rate depth) k 4)) (here .share) (opened-zero rate depth 4 (omega arith)) i;
-      depth = set-column 0 (plus depth) (λ k. 0) (λ k. plus (place (opened rate depth) k 5)) (here .depth) (opened-zero rate depth 5 (omega arith)) i;
+      sort = set-column 0 1 (λ k. 0) (λ k. plus (place (opened rate depth) k sortAt)) (here .sort) (opened-zero rate depth sortAt (omega arith)) i;
+      parent = same-column 0 (λ k. 0) (λ k. plus (place (opened rate depth) k parentAt)) (here .parent) (opened-zero rate depth parentAt (omega arith)) i;
+      level = same-column 0 (λ k. 0) (λ k. plus (place (opened rate depth) k levelAt)) (here .level) (opened-zero rate depth levelAt (omega arith)) i;
+      kind = same-column 0 (λ k. 0) (λ k. plus (place (opened rate depth) k kindAt)) (here .kind) (opened-zero rate depth kindAt (omega arith)) i;
+      share = set-column 0 wholeShare (λ k. 0) (λ k. plus (place (opened rate depth) k shareAt)) (here .share) (opened-zero rate depth shareAt (omega arith)) i;
+      depth = set-column 0 (plus depth) (λ k. 0) (λ k. plus (place (opened rate depth) k depthAt)) (here .depth) (opened-zero rate depth depthAt (omega arith)) i;
     }
 
 opened-idle : (rate depth : ℤ) (k : ℕ) → waiting (opened rate depth) k ≡ 0
 unfolding waiting
 opened-idle rate depth k =
     elim (ℕ-discrete k 0) [
-      | yes e ↦ rw e (ap plus (opened-place rate depth 8 (omega arith) (omega arith) (omega arith) (omega arith) (omega arith)) ∙ plus-pos 0)
-      | no ne ↦ opened-zero rate depth 8 (omega arith) k ne
+      | yes e ↦ rw e (ap plus (opened-place rate depth waitingAt (omega arith) (omega arith) (omega arith) (omega arith) (omega arith)) ∙ plus-pos 0)
+      | no ne ↦ opened-zero rate depth waitingAt (omega arith) k ne
     ]
 
 pub opened-agrees : (t : List ℤ) (rate depth : ℤ) → openRefusal t rate depth ≡ 0 → Agrees (openTable t rate depth) (start rate depth)
@@ -61,6 +62,6 @@ opened-agrees t rate depth h =
     (record {
       order = opened-in-order rate depth (open-passed t rate depth h);
       tree = opened-tree rate depth;
-      disk = ap plus (opened-edit rate depth .here 6 (omega arith));
+      disk = ap plus (opened-edit rate depth .here rateAt (omega arith));
       queue = λ k e. omega (arith, opened-idle rate depth k);
     })

@@ -7,6 +7,7 @@ use mathlib.Core.List.{List}
 use native.Mathlib.Omega.{arith}
 use lib.IntN.{ℤ}
 use Rattle.numbers.specs.Whole.{plus}
+use Rattle.table.specs.Limits.{balanceAt, waitingAt}
 use Rattle.table.specs.Places.{rate as rateOf, balance, waiting}
 use Rattle.table.specs.Tree.{treeOf, isClient}
 use Rattle.table.specs.Rates.{renewed}
@@ -28,7 +29,7 @@ kept-order refusal new old h e = rw (kept-new refusal new old h) at e
 module _ (u : List ℤ) (order : inOrder (renewed u) ≡ true) where
   renewed-waiting : (k : ℕ) → waiting (renewed u) k ≡ waiting u k
   unfolding waiting
-  renewed-waiting k = ap plus (renewed-place u k 8 (omega arith) (omega arith))
+  renewed-waiting k = ap plus (renewed-place u k waitingAt (omega arith) (omega arith))
 
   pub renewed-agrees :
       (p : Observer) → treeOf u ≡ p .tree → rateOf u 0 ≡ p .disk
@@ -48,4 +49,4 @@ module _ (u : List ℤ) (order : inOrder (renewed u) ≡ true) where
 
   pub renewed-same : (t : List ℤ) (o p : Observer) (j : ℕ) → Same t u o p j → Same t (renewed u) o p j
   unfolding balance
-  renewed-same t o p j same = record { sort = same .sort; depth = same .depth; balance = renewed-place u j 7 (omega arith) (omega arith) ∙ same .balance }
+  renewed-same t o p j same = record { sort = same .sort; depth = same .depth; balance = renewed-place u j balanceAt (omega arith) (omega arith) ∙ same .balance }

@@ -5,6 +5,7 @@ use mathlib.Core.List.{List, []}
 use native.Mathlib.Omega.{arith}
 use lib.IntN.{ℤ}
 use Rattle.numbers.specs.Whole.{plus}
+use Rattle.table.specs.Limits.{rateAt, balanceAt, waitingAt, root, mostWaiting}
 use Rattle.table.specs.Places.{place, rate as rateOf, balance, waiting}
 use Rattle.table.specs.Calls.{requested, requestRefusal, requestTable}
 use Rattle.table.proofs.Facts.{InOrder, facts}
@@ -29,12 +30,12 @@ request-change t o node tag size a h =
     (record {
       order = kept-order _ u t h (request-keeps t node tag size h);
       tree = requested-tree t u k tag size (passed .node) more ∙ a .tree;
-      disk = ap plus (stays 0 6 (omega arith)) ∙ a .disk;
+      disk = ap plus (stays root rateAt (omega arith)) ∙ a .disk;
       queue =
           queues t u o p k others a
           (λ e. omega (arith, set-here k (suc (o .asked k)) (o .asked) k refl, next-waiting t u k tag size (passed .node) more, a .queue k e));
     })
-    (λ j. record { sort = refl; depth = refl; balance = stays j 7 (omega arith) })
+    (λ j. record { sort = refl; depth = refl; balance = stays j balanceAt (omega arith) })
   where
     k : ℕ
     k = plus node
@@ -51,7 +52,7 @@ request-change t o node tag size a h =
     passed : RequestPassed t k size
     passed = request-passed t node tag size h
 
-    room : waiting t k < 8
+    room : waiting t k < mostWaiting
     room = omega (arith, most-waiting t k (ready t f .node k (passed .node)), passed .room)
 
     more : Requested t u k tag size
@@ -60,5 +61,5 @@ request-change t o node tag size a h =
     others : Others t u o p k
     others = record { places = more .others; sort = λ j ne. refl; depth = λ j ne. refl; asked = set-other k _ (o .asked); sent = λ j ne. refl }
 
-    stays : (j p : ℕ) → p < 8 → place u j p ≡ place t j p
+    stays : (j p : ℕ) → p < waitingAt → place u j p ≡ place t j p
     stays = before t u k tag size (passed .node) more

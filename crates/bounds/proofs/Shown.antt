@@ -8,6 +8,7 @@ use lib.ListN.{length, drop}
 use lib.IntN.{ℤ, pos}
 use Rattle.numbers.specs.Whole.{plus}
 use Rattle.numbers.specs.Tests.{every}
+use Rattle.table.specs.Limits.{entryLength}
 use Rattle.table.specs.Rates.{rateIn}
 use Rattle.table.specs.Refusals.{Outcome, accepted, refused}
 use Rattle.table.specs.Tick.{ticked, listed, tickRefusal, tickTable, tickList, tickAnswer}
@@ -42,9 +43,9 @@ module _ (t : List ℤ) (o : Observer) (list : List ℤ) where
   event-rate k answer e = rw e
 
   module _ (e : tickRefusal t list ≡ 0) where
-    answer-accepted : tickAnswer t list ≡ accepted (pos (length (ticked t .entries) / 4) ∷ [])
+    answer-accepted : tickAnswer t list ≡ accepted (pos (length (ticked t .entries) / entryLength) ∷ [])
     unfolding tickAnswer
-    answer-accepted = outcome-accepted (tickRefusal t list) (pos (length (ticked t .entries) / 4) ∷ []) e
+    answer-accepted = outcome-accepted (tickRefusal t list) (pos (length (ticked t .entries) / entryLength) ∷ []) e
 
     list-accepted : tickList t list ≡ listed (ticked t .entries) list
     unfolding tickList
@@ -76,7 +77,7 @@ module _ (t : List ℤ) (o : Observer) (list : List ℤ) where
   module _ (ne : tickRefusal t list ≡ 0 → ⊥) where
     answer-refused : tickAnswer t list ≡ refused (tickRefusal t list)
     unfolding tickAnswer
-    answer-refused = outcome-refused (tickRefusal t list) (pos (length (ticked t .entries) / 4) ∷ []) ne
+    answer-refused = outcome-refused (tickRefusal t list) (pos (length (ticked t .entries) / entryLength) ∷ []) ne
 
     entries-refused : entries (eventOf t (tick list)) ≡ []
     unfolding dispatchedBy

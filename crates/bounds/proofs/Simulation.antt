@@ -8,6 +8,7 @@ use mathlib.Core.List.{List, [], _∷_}
 use lib.IntN.{ℤ}
 use Rattle.numbers.specs.Whole.{plus, minus}
 use Rattle.numbers.specs.Tests.{every}
+use Rattle.table.specs.Limits.{root, grainScale}
 use Rattle.table.specs.Places.{rate, balance, waiting}
 use Rattle.table.specs.Tree.{treeOf, isClass, isClient}
 use Rattle.table.specs.Order.{inOrder}
@@ -18,7 +19,7 @@ use Rattle.bounds.specs.Counts.{accepts, leaves, rateAt, grainsFor, grai
 pub record Agrees (t : List ℤ) (o : Observer) : Type 0 where
   pub order : inOrder t ≡ true
   pub tree : treeOf t ≡ o .tree
-  pub disk : rate t 0 ≡ o .disk
+  pub disk : rate t root ≡ o .disk
   pub queue : (k : ℕ) → isClient (o .tree) k ≡ true → o .asked k ≡ o .sent k + waiting t k
 
 -- What one call does to a class that it does not take out: the balance after and what was charged are at most the balance
@@ -38,7 +39,7 @@ pub record ClientStep (t : List ℤ) (o : Observer) (call : Call) (k : ℕ) : Ty
   pub line : plus (balance t k) + rateAt o k (eventOf t call) ≤ plus (balance (tableAfter t call) k) + grainsFor k (entries (eventOf t call))
   pub end :
       ((rateAt o k (eventOf t call) ≡ 0) × (plus (balance (tableAfter t call) k) ≡ plus (balance t k)))
-      ⊎ (plus (balance (tableAfter t call) k) < o .tree .depth k * 1000)
+      ⊎ (plus (balance (tableAfter t call) k) < o .tree .depth k * grainScale)
 
 -- The laws of one call that the stretch is made of.
 pub record Steps : Type 0 where

@@ -14,6 +14,7 @@ use Rattle.numbers.specs.Tests.{every}
 use Rattle.numbers.proofs.Tests.{by-test, true-false}
 use Rattle.numbers.proofs.Every.{none-left, holds-with, head-fails, rest-fail}
 use Rattle.numbers.proofs.Parts.{zarith, plus-pos, minus-pos, within-parts}
+use Rattle.table.specs.Limits.{tableLength, headerLength, recordLength, nodes, depthAt, client, greatestDepth, grainScale}
 use Rattle.table.specs.Places.{place, depthGrains}
 use Rattle.table.specs.Tree.{Tree, treeOf, there, isClass, isClient}
 use Rattle.table.specs.Refusals.{refused}
@@ -30,19 +31,19 @@ use Rattle.bounds.proofs.Simulation.{Agrees, Steps}
 use Rattle.bounds.proofs.Telescope.{agrees-all, class-over, client-over}
 
 -- A node that is there has a number below 64.
-pub there-below : (t : List ℤ) (k : ℕ) → length t ≡ 2568 → there (treeOf t) k ≡ true → k < 64
+pub there-below : (t : List ℤ) (k : ℕ) → length t ≡ tableLength → there (treeOf t) k ≡ true → k < nodes
 unfolding there treeOf place plus
 there-below t k long e =
-    elim (decLt k 64) [
+    elim (decLt k nodes) [
       | yes low ↦ low
       | no high ↦
-          let beyond : length t ≤ 8 + 40 * k + 0 = omega arith in
+          let beyond : length t ≤ headerLength + recordLength * k + 0 = omega arith in
           absurd (true-false e (ap (λ (z : ℤ). not (lib.Dec.eqb (plus z) 0)) (lib.ListN.List·getD-eq-default t (pos 0) beyond ∙ refl)))
     ]
 
 client-there : (tree : Tree) (k : ℕ) → isClient tree k ≡ true → there tree k ≡ true
 unfolding there isClient
-client-there tree k e = ap not (ne-eqb (tree .sort k) 0 (λ z. omega (arith, eqb-true (tree .sort k) 2 e)))
+client-there tree k e = ap not (ne-eqb (tree .sort k) 0 (λ z. omega (arith, eqb-true (tree .sort k) client e)))
 
 -- Leave of the root is refused.
 root-refused : (t : List ℤ) (node : ℤ) → plus node ≡ 0 → leaveRefusal t node ≡ 0 → ⊥
@@ -77,16 +78,16 @@ root-class : (t : List ℤ) → InOrder t → isClass (treeOf t) 0 ≡ true
 unfolding isClass treeOf
 root-class t f = eq-eqb _ 1 (ap plus (f .root .sort) ∙ plus-pos 1)
 
-depth-in-grains : (t : List ℤ) (o : Observer) (k : ℕ) → Agrees t o → depthGrains t k ≡ o .tree .depth k * 1000
+depth-in-grains : (t : List ℤ) (o : Observer) (k : ℕ) → Agrees t o → depthGrains t k ≡ o .tree .depth k * grainScale
 unfolding depthGrains treeOf
-depth-in-grains t o k a = ap (λ (tree : Tree). tree .depth k * 1000) (a .tree)
+depth-in-grains t o k a = ap (λ (tree : Tree). tree .depth k * grainScale) (a .tree)
 
 client-depth : (t : List ℤ) (k : ℕ) → InOrder t → isClient (treeOf t) k ≡ true → 1 ≤ treeOf t .depth k
 unfolding treeOf
 client-depth t k f e =
     let here = client-there (treeOf t) k e in
     let depth = f .limits k (there-below t k (f .long) here) here .depth in
-    omega (arith, within-parts 1 1000000 (place t k 5) depth)
+    omega (arith, within-parts 1 greatestDepth (place t k depthAt) depth)
 
 pub bounds-from : Steps → (t : List ℤ) (o : Observer) → Agrees t o → (calls : List Call) → Bounds o (events t calls)
 bounds-from laws t o a calls =
@@ -103,7 +104,7 @@ bounds-from laws t o a calls =
 
     of-class :
         (c : ℕ) → isClass (o .tree) c ≡ true → staysThroughout c (events t calls) ≡ true
-        → chargedOver o c (events t calls) ≤ ratesOver o c (events t calls) + 5 * (o .tree .depth c * 1000)
+        → chargedOver o c (events t calls) ≤ ratesOver o c (events t calls) + 5 * (o .tree .depth c * grainScale)
     of-class c e h =
         let over = class-over laws t o calls a c e h in
         let here : isClass (treeOf t) c ≡ true = rw (a .tree) e in
@@ -121,12 +122,12 @@ bounds-from laws t o a calls =
           minus-pos (depthGrains t c),
           depth-in-grains t o c a,
           depth-in-grains (tableAfterAll t calls) (observedAll o (events t calls)) c b,
-          ap (λ (d : ℕ). d * 1000) (over .depth),
+          ap (λ (d : ℕ). d * grainScale) (over .depth),
         )
 
     of-client :
         (k : ℕ) → isClient (observedAll o (events t calls) .tree) k ≡ true → waitsThroughout o k (events t calls) ≡ true
-        → ratesOver o k (events t calls) < dispatchedOver k (events t calls) + observedAll o (events t calls) .tree .depth k * 1000
+        → ratesOver o k (events t calls) < dispatchedOver k (events t calls) + observedAll o (events t calls) .tree .depth k * grainScale
     of-client k e h =
         let over = client-over laws t o calls a k e h in
-        ⊎-elim (λ u. omega (arith, client-depth (tableAfterAll t calls) k g (rw (b .tree) e), ap (λ (tree : Tree). tree .depth k) (b .tree))) (λ u. omega (arith, over .line, ap (λ (d : ℕ). d * 1000) (over .depth))) (over .end)
+        ⊎-elim (λ u. omega (arith, client-depth (tableAfterAll t calls) k g (rw (b .tree) e), ap (λ (tree : Tree). tree .depth k) (b .tree))) (λ u. omega (arith, over .line, ap (λ (d : ℕ). d * grainScale) (over .depth))) (over .end)

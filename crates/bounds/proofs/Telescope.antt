@@ -11,6 +11,7 @@ use borrow.Author.Tests.{not-true}
 use lib.IntN.{ℤ}
 use Rattle.numbers.specs.Whole.{plus, minus}
 use Rattle.numbers.proofs.Every.{head-holds, rest-hold}
+use Rattle.table.specs.Limits.{grainScale}
 use Rattle.table.specs.Places.{balance}
 use Rattle.table.specs.Tree.{isClass, isClient}
 use Rattle.bounds.specs.Events.{Call, tableAfter, eventOf, events, tableAfterAll}
@@ -49,7 +50,7 @@ pub record ClientOver (t : List ℤ) (o : Observer) (calls : List Call) (k : ℕ
       plus (balance t k) + ratesOver o k (events t calls) ≤ plus (balance (tableAfterAll t calls) k) + dispatchedOver k (events t calls)
   pub end :
       ((ratesOver o k (events t calls) ≡ 0) × (plus (balance (tableAfterAll t calls) k) ≡ plus (balance t k)))
-      ⊎ (plus (balance (tableAfterAll t calls) k) < o .tree .depth k * 1000)
+      ⊎ (plus (balance (tableAfterAll t calls) k) < o .tree .depth k * grainScale)
 
 pub client-over :
     Steps → (t : List ℤ) (o : Observer) (calls : List Call) → Agrees t o → (k : ℕ)
@@ -63,7 +64,7 @@ client-over laws t o (call ∷ calls) a k e h =
       client = first .client;
       depth = rest .depth ∙ first .depth;
       line = omega (arith, first .line, rest .line);
-      end = ends (rest .end) (first .end) (ap (λ (d : ℕ). d * 1000) (first .depth));
+      end = ends (rest .end) (first .end) (ap (λ (d : ℕ). d * grainScale) (first .depth));
     }
   where
     ends : {r₁ r₂ b₀ b₁ b₂ d d′ : ℕ} → ((r₂ ≡ 0) × (b₂ ≡ b₁)) ⊎ (b₂ < d′) → ((r₁ ≡ 0) × (b₁ ≡ b₀)) ⊎ (b₁ < d) → d′ ≡ d → ((r₁ + r₂ ≡ 0) × (b₂ ≡ b₀)) ⊎ (b₂ < d)

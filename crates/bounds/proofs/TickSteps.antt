@@ -10,6 +10,7 @@ use native.Mathlib.Decide.{ℕ-discrete}
 use borrow.Author.Tests.{ltb-true}
 use lib.IntN.{ℤ}
 use Rattle.numbers.specs.Whole.{plus, minus}
+use Rattle.table.specs.Limits.{nodes, root, grainScale}
 use Rattle.table.specs.Tree.{Tree, treeOf, there, isClass, isClient}
 use Rattle.table.specs.Places.{rate, balance, waiting}
 use Rattle.table.specs.Rates.{rateIn}
@@ -33,12 +34,12 @@ use Rattle.bounds.proofs.Shown.{Shown, shown-accepted, shown-refused}
 
 -- A tick of a table that agrees with the observer, by what it shows.
 module _ (t : List ℤ) (o : Observer) (list : List ℤ) (a : Agrees t o) (u : List ℤ) (es : List Entry) (r : ℕ → ℕ) (s : Shown t o list u es r) where
-  agrees-shown : inOrder u ≡ true → treeOf u ≡ treeOf t → rate u 0 ≡ rate t 0 → ((k : ℕ) → waiting u k + entriesFor k es ≡ waiting t k) → Agrees (tableAfter t (tick list)) (observed o (eventOf t (tick list)))
+  agrees-shown : inOrder u ≡ true → treeOf u ≡ treeOf t → rate u root ≡ rate t root → ((k : ℕ) → waiting u k + entriesFor k es ≡ waiting t k) → Agrees (tableAfter t (tick list)) (observed o (eventOf t (tick list)))
   agrees-shown order tree disk waits =
       record {
         order = rw (s .table) order;
         tree = ap treeOf (s .table) ∙ tree ∙ a .tree ∙ sym (s .tree);
-        disk = ap (λ v. rate v 0) (s .table) ∙ disk ∙ a .disk ∙ sym (s .disk);
+        disk = ap (λ v. rate v root) (s .table) ∙ disk ∙ a .disk ∙ sym (s .disk);
         queue = λ k client.
             omega (
               arith,
@@ -60,7 +61,7 @@ module _ (t : List ℤ) (o : Observer) (list : List ℤ) (a : Agrees t o) (u : L
 
   client-shown :
       (k : ℕ) → isClient (o .tree) k ≡ true → plus (balance t k) + r k ≤ plus (balance u k) + grainsFor k es
-      → ((r k ≡ 0) × (plus (balance u k) ≡ plus (balance t k))) ⊎ (plus (balance u k) < o .tree .depth k * 1000)
+      → ((r k ≡ 0) × (plus (balance u k) ≡ plus (balance t k))) ⊎ (plus (balance u k) < o .tree .depth k * grainScale)
       → ClientStep t o (tick list) k
   client-shown k client line end =
       record {
@@ -75,7 +76,7 @@ module _ (t : List ℤ) (o : Observer) (list : List ℤ) (a : Agrees t o) where
   f = facts t (a .order)
 
   -- The rate that the observer counts is the one in the table.
-  rate-told : (k : ℕ) → k < 64 → there (treeOf t) k ≡ true → rateIn (o .tree) (o .disk) k ≡ rate t k
+  rate-told : (k : ℕ) → k < nodes → there (treeOf t) k ≡ true → rateIn (o .tree) (o .disk) k ≡ rate t k
   rate-told k hk here = rw (← a .tree, ← a .disk) (sym (rate-in-order t f k hk here))
 
   accepted : tickRefusal t list ≡ 0 → Shown t o list (ticked t .table) (told (ticked t .entries)) (rateIn (o .tree) (o .disk))

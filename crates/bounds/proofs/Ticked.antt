@@ -9,6 +9,7 @@ use lib.IntN.{ℤ, pos}
 use lib.Signed.{leZ}
 use Rattle.numbers.specs.Whole.{plus, minus}
 use Rattle.numbers.proofs.Parts.{zarith, add-parts}
+use Rattle.table.specs.Limits.{nodes}
 use Rattle.table.specs.Tree.{Tree, treeOf}
 use Rattle.table.specs.Places.{rate, balance, waiting, depthGrains}
 use Rattle.table.specs.Tick.{State, grown, cut, supplier, allWaiting, stepTwo, stepThree, ticked}
@@ -93,7 +94,7 @@ module _ (t : List ℤ) (f : InOrder t) where
   pub ticked-fair : Fair (treeOf t) (ticked t .entries)
   ticked-fair = four .1
 
-  module _ (x : ℕ) (hx : x < 64) where
+  module _ (x : ℕ) (hx : x < nodes) where
     -- Steps 1 and 2, in parts: the rate added, and what is charged taken.
     grown-served :
         plus (balance (stepTwo t .table) x) + minus (balance t x) + grainsCharged (treeOf t) x (told (stepTwo t .entries))

@@ -11,6 +11,7 @@ use lib.Signed.{leZ}
 use Rattle.numbers.specs.Whole.{plus, minus}
 use Rattle.numbers.proofs.Tests.{by-test, true-false}
 use Rattle.numbers.proofs.Parts.{zarith, one-is-zero}
+use Rattle.table.specs.Limits.{nodes, grainScale}
 use Rattle.table.specs.Tree.{treeOf, isClient}
 use Rattle.table.specs.Places.{rate, balance, waiting, depthGrains, size}
 use Rattle.table.specs.Tick.{grains, enough, stepTwo, ticked}
@@ -27,7 +28,7 @@ use Rattle.bounds.specs.Counts.{grainsFor}
 use Rattle.bounds.proofs.Decoded.{told}
 use Rattle.bounds.proofs.Ticked.{ticked-fewer, ticked-fair, ticked-same}
 
-module _ (t u : List ℤ) (r : Reached t u) (k : ℕ) (hk : k < 64) where
+module _ (t u : List ℤ) (r : Reached t u) (k : ℕ) (hk : k < nodes) where
   -- A client's balance is at least 0.
   client-floor : isClient (treeOf t) k ≡ true → minus (balance u k) ≡ 0
   client-floor client =
@@ -38,11 +39,11 @@ module _ (t u : List ℤ) (r : Reached t u) (k : ℕ) (hk : k < 64) where
       )
 
   -- With too little for its oldest request it stands below its depth.
-  short-below : 0 < waiting u k → enough u (grains (size u k 0)) k ≡ false → plus (balance u k) < treeOf t .depth k * 1000
+  short-below : 0 < waiting u k → enough u (grains (size u k 0)) k ≡ false → plus (balance u k) < treeOf t .depth k * grainScale
   unfolding enough grains size plus minus
   short-below waits short = omega (arith, zarith, r .queues .size k hk 0 waits, one-is-zero (balance u k))
 
-module _ (t : List ℤ) (f : InOrder t) (k : ℕ) (hk : k < 64) (client : isClient (treeOf t) k ≡ true) (waits : 0 < waiting (ticked t .table) k) where
+module _ (t : List ℤ) (f : InOrder t) (k : ℕ) (hk : k < nodes) (client : isClient (treeOf t) k ≡ true) (waits : 0 < waiting (ticked t .table) k) where
   -- After step 2.
   two-short : enough (stepTwo t .table) (grains (size (stepTwo t .table) k 0)) k ≡ false
   unfolding enough
@@ -70,7 +71,7 @@ module _ (t : List ℤ) (f : InOrder t) (k : ℕ) (hk : k < 64) (client : isClie
         client-floor t (ticked t .table) (ticked-settled t f .reached) k hk client,
       )
 
-  pub waiting-end : plus (balance (ticked t .table) k) < treeOf t .depth k * 1000
+  pub waiting-end : plus (balance (ticked t .table) k) < treeOf t .depth k * grainScale
   unfolding atOrAbove
   waiting-end =
       let u = ticked t .table in

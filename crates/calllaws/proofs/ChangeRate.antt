@@ -6,6 +6,7 @@ use native.Mathlib.Omega.{arith}
 use lib.IntN.{ℤ}
 use Rattle.numbers.specs.Whole.{withinℤ}
 use Rattle.numbers.proofs.Tests.{true-false}
+use Rattle.table.specs.Limits.{rateAt, root, greatestRate}
 use Rattle.table.specs.Places.{put}
 use Rattle.table.specs.Tree.{treeOf}
 use Rattle.table.specs.Rates.{renewed}
@@ -19,30 +20,30 @@ use Rattle.calllaws.proofs.Nodes.{Ready, ready, root-kept}
 use Rattle.calllaws.proofs.Ready.{ready-but-rates, ready-renewed, root-there, kept-in-order}
 
 -- The tree stays.
-pub rerated-tree : (t : List ℤ) (rate : ℤ) → treeOf (put t 0 6 rate) ≡ treeOf t
-rerated-tree t rate = same-tree (put t 0 6 rate) t (λ k p hp. place-put-place t 0 6 rate k p (omega arith) (omega arith) (omega arith))
+pub rerated-tree : (t : List ℤ) (rate : ℤ) → treeOf (put t root rateAt rate) ≡ treeOf t
+rerated-tree t rate = same-tree (put t root rateAt rate) t (λ k p hp. place-put-place t root rateAt rate k p (omega arith) (omega arith) (omega arith))
 
-rerated-ready : (t : List ℤ) (rate : ℤ) → Ready t → withinℤ 1 1000000000 rate ≡ true → Ready (put t 0 6 rate)
+rerated-ready : (t : List ℤ) (rate : ℤ) → Ready t → withinℤ 1 greatestRate rate ≡ true → Ready (put t root rateAt rate)
 rerated-ready t rate f within =
-    ready-but-rates t (put t 0 6 rate) f (length-put t 0 6 rate ∙ f .long) (header-put t 0 6 rate)
+    ready-but-rates t (put t root rateAt rate) f (length-put t root rateAt rate ∙ f .long) (header-put t root rateAt rate)
     (λ j.
     record {
-      places = λ p hp ne. place-put-place t 0 6 rate j p (omega arith) hp ne;
-      unused = λ e. place-put-node t 0 6 rate j 6 (omega arith) (omega arith) (λ same. true-false (root-there t (f .root)) (rw same at e));
+      places = λ p hp ne. place-put-place t root rateAt rate j p (omega arith) hp ne;
+      unused = λ e. place-put-node t root rateAt rate j rateAt (omega arith) (omega arith) (λ same. true-false (root-there t (f .root)) (rw same at e));
     })
     (rerated-tree t rate)
-    (root-kept t (put t 0 6 rate) (λ p hp. place-put-place t 0 6 rate 0 p (omega arith) (omega arith) (omega arith))
-    (rw (place-put-same t 0 6 rate (f .long) (omega arith) (omega arith)) within) (f .root))
+    (root-kept t (put t root rateAt rate) (λ p hp. place-put-place t root rateAt rate 0 p (omega arith) (omega arith) (omega arith))
+    (rw (place-put-same t root rateAt rate (f .long) (omega arith) (omega arith)) within) (f .root))
 
-changed : (t : List ℤ) (rate : ℤ) → changeRateRefusal t rate ≡ 0 → inOrder (renewed (put t 0 6 rate)) ≡ true
+changed : (t : List ℤ) (rate : ℤ) → changeRateRefusal t rate ≡ root → inOrder (renewed (put t root rateAt rate)) ≡ true
 changed t rate h =
     let passed = change-rate-passed t rate h in
-    ready-renewed (put t 0 6 rate) (rerated-ready t rate (ready t (facts t (passed .order))) (passed .within))
+    ready-renewed (put t root rateAt rate) (rerated-ready t rate (ready t (facts t (passed .order))) (passed .within))
 
 -- Accepted or not, and accepted.
 pub change-rate-keeps-order : (t : List ℤ) (rate : ℤ) → inOrder t ≡ true → inOrder (changeRateTable t rate) ≡ true
 unfolding changeRateTable
-change-rate-keeps-order t rate = kept-in-order (changeRateRefusal t rate) (renewed (put t 0 6 rate)) t (changed t rate)
+change-rate-keeps-order t rate = kept-in-order (changeRateRefusal t rate) (renewed (put t root rateAt rate)) t (changed t rate)
 
-pub change-rate-keeps : (t : List ℤ) (rate : ℤ) → changeRateRefusal t rate ≡ 0 → inOrder (changeRateTable t rate) ≡ true
+pub change-rate-keeps : (t : List ℤ) (rate : ℤ) → changeRateRefusal t rate ≡ root → inOrder (changeRateTable t rate) ≡ true
 change-rate-keeps t rate h = change-rate-keeps-order t rate (change-rate-passed t rate h .order)

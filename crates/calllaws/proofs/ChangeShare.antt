@@ -9,7 +9,8 @@ use native.Mathlib.Decide.{ℕ-discrete}
 use lib.IntN.{ℤ}
 use Rattle.numbers.specs.Whole.{plus, minus, withinℤ}
 use Rattle.numbers.proofs.Tests.{true-false}
-use Rattle.table.specs.Places.{place, count, balance, waiting, arrival}
+use Rattle.table.specs.Limits.{recordLength, nodes, sortAt, parentAt, levelAt, kindAt, shareAt, depthAt, balanceAt, waitingAt, arrivalAt, fixed, weighted, wholeShare}
+use Rattle.table.specs.Places.{queuePlace, place, count, balance, waiting, arrival}
 use Rattle.table.specs.Tree.{treeOf, there, childOf, countIf}
 use Rattle.table.specs.Rates.{fixedSum, fixedShare, renewed}
 use Rattle.table.specs.Order.{inOrder}
@@ -22,29 +23,29 @@ use Rattle.calllaws.proofs.OneNode.{child-same, no-child, count-same, c
 use Rattle.calllaws.proofs.Ready.{ready-renewed, kept-in-order}
 
 -- A table that differs in the kind and share of node k.
-module _ (t u : List ℤ) (k : ℕ) (f : ℕ → ℤ) (hk : k < 64) (edited : Edited t u k f) (rest : (j p : ℕ) → p < 40 → (p ≡ 3 → ⊥) → (p ≡ 4 → ⊥) → place u j p ≡ place t j p) where
+module _ (t u : List ℤ) (k : ℕ) (f : ℕ → ℤ) (hk : k < nodes) (edited : Edited t u k f) (rest : (j p : ℕ) → p < recordLength → (p ≡ kindAt → ⊥) → (p ≡ shareAt → ⊥) → place u j p ≡ place t j p) where
   -- Sorts, parents and levels stay.
-  stays : (j p : ℕ) → p < 3 → plus (place u j p) ≡ plus (place t j p)
+  stays : (j p : ℕ) → p < kindAt → plus (place u j p) ≡ plus (place t j p)
   stays j p hp = ap plus (rest j p (omega arith) (omega arith) (omega arith))
 
   same-child : (j : ℕ) → Child (treeOf t) j → Child (treeOf u) j
   unfolding treeOf
-  same-child j = child-kept (treeOf u) (treeOf t) j (stays j 1 (omega arith)) (stays j 2 (omega arith)) (stays _ 0 (omega arith)) (stays _ 2 (omega arith))
+  same-child j = child-kept (treeOf u) (treeOf t) j (stays j parentAt (omega arith)) (stays j levelAt (omega arith)) (stays _ sortAt (omega arith)) (stays _ levelAt (omega arith))
 
   same-children : (c : ℕ) → childOf (treeOf u) c k ≡ childOf (treeOf t) c k
   unfolding treeOf
-  same-children c = child-same (treeOf u) (treeOf t) c k (stays k 0 (omega arith)) (stays k 1 (omega arith))
+  same-children c = child-same (treeOf u) (treeOf t) c k (stays k sortAt (omega arith)) (stays k parentAt (omega arith))
 
   same-part : (part : ℤ → ℕ) (c : ℕ) → countIf (childOf (treeOf u) c k) (λ j. part (balance u j)) k ≡ countIf (childOf (treeOf t) c k) (λ j. part (balance t j)) k
   unfolding balance
-  same-part part c = count-same _ _ (λ j. part (balance u j)) (λ j. part (balance t j)) k (same-children c) (ap part (rest k 7 (omega arith) (omega arith) (omega arith)))
+  same-part part c = count-same _ _ (λ j. part (balance u j)) (λ j. part (balance t j)) k (same-children c) (ap part (rest k balanceAt (omega arith) (omega arith) (omega arith)))
 
   same-depth : (c : ℕ) → countIf (childOf (treeOf u) c k) (treeOf u .depth) k ≡ countIf (childOf (treeOf t) c k) (treeOf t .depth) k
   unfolding treeOf
-  same-depth c = count-same _ _ (treeOf u .depth) (treeOf t .depth) k (same-children c) (ap plus (rest k 5 (omega arith) (omega arith) (omega arith)))
+  same-depth c = count-same _ _ (treeOf u .depth) (treeOf t .depth) k (same-children c) (ap plus (rest k depthAt (omega arith) (omega arith) (omega arith)))
 
   -- Under another class than the parent nothing changes.
-  other-shares : (c : ℕ) → (c ≡ treeOf t .parent k → ⊥) → Class t c → fixedSum (treeOf u) c ≤ 10000
+  other-shares : (c : ℕ) → (c ≡ treeOf t .parent k → ⊥) → Class t c → fixedSum (treeOf u) c ≤ wholeShare
   other-shares c ne class =
       let none = no-child (treeOf t) c k (λ child. ne (sym (child .parent))) in
       omega (
@@ -54,7 +55,7 @@ module _ (t u : List ℤ) (k : ℕ) (f : ℕ → ℤ) (hk : k < 64) (edited : Ed
         count-none (childOf (treeOf u) c k) (fixedShare (treeOf u)) k (same-children c ∙ none),
       )
 
-  share-sums : fixedSum (treeOf u) (treeOf t .parent k) ≤ 10000 → (c : ℕ) → Class t c → Sums t u c
+  share-sums : fixedSum (treeOf u) (treeOf t .parent k) ≤ wholeShare → (c : ℕ) → Class t c → Sums t u c
   share-sums within c class =
       record {
         shares = elim (ℕ-discrete c (treeOf t .parent k)) [ yes e ↦ rw e within | no ne ↦ other-shares c ne class ];
@@ -62,12 +63,12 @@ module _ (t u : List ℤ) (k : ℕ) (f : ℕ → ℤ) (hk : k < 64) (edited : Ed
         balances = balances-changed t u k f hk edited c (omega (arith, same-part plus c, same-part minus c));
       }
 
-  share-ready : (k ≡ 0 → ⊥) → there (treeOf t) k ≡ true → withinℤ 0 1 (place u k 3) ≡ true → withinℤ 1 10000 (place u k 4) ≡ true → fixedSum (treeOf u) (treeOf t .parent k) ≤ 10000 → Ready t → Ready u
+  share-ready : (k ≡ 0 → ⊥) → there (treeOf t) k ≡ true → withinℤ fixed weighted (place u k kindAt) ≡ true → withinℤ 1 wholeShare (place u k shareAt) ≡ true → fixedSum (treeOf u) (treeOf t .parent k) ≤ wholeShare → Ready t → Ready u
   unfolding count waiting arrival
   share-ready below here kind share within r =
       edited-ready t u k f hk edited below
-      (ap plus (rest k 8 (omega arith) (omega arith) (omega arith)))
-      (λ i hi. ap plus (rest k (16 + 3 * i + 2) (omega (arith, most-waiting t k (r .node k hk))) (omega arith) (omega arith)))
+      (ap plus (rest k waitingAt (omega arith) (omega arith) (omega arith)))
+      (λ i hi. ap plus (rest k (queuePlace i + arrivalAt) (omega (arith, most-waiting t k (r .node k hk))) (omega arith) (omega arith)))
       (λ j hj ne e root. same-child j)
       (λ c hc ne e. share-sums within c (r .node c hc .class e))
       (node-limited t u k (omega (arith, ap plus (edited .heading 0 (omega arith))))
@@ -76,13 +77,13 @@ module _ (t u : List ℤ) (k : ℕ) (f : ℕ → ℤ) (hk : k < 64) (edited : Ed
       (λ e.
       let old = r .node k hk .limits e in
       record {
-        sort = rw (rest k 0 (omega arith) (omega arith) (omega arith)) (old .sort);
-        parent = rw (rest k 1 (omega arith) (omega arith) (omega arith)) (old .parent);
-        level = rw (rest k 2 (omega arith) (omega arith) (omega arith)) (old .level);
+        sort = rw (rest k sortAt (omega arith) (omega arith) (omega arith)) (old .sort);
+        parent = rw (rest k parentAt (omega arith) (omega arith) (omega arith)) (old .parent);
+        level = rw (rest k levelAt (omega arith) (omega arith) (omega arith)) (old .level);
         kind = kind;
         share = share;
-        depth = rw (rest k 5 (omega arith) (omega arith) (omega arith)) (old .depth);
-        waiting = rw (rest k 8 (omega arith) (omega arith) (omega arith)) (old .waiting);
+        depth = rw (rest k depthAt (omega arith) (omega arith) (omega arith)) (old .depth);
+        waiting = rw (rest k waitingAt (omega arith) (omega arith) (omega arith)) (old .waiting);
       })
       (λ e root. same-child k)
       (λ e. share-sums within k (r .node k hk .class e))
@@ -96,8 +97,8 @@ changed t node kind share h =
     let e = reshared-edit t (plus node) kind share (r .long) (passed .node) in
     ready-renewed (reshared t (plus node) kind share)
     (share-ready t _ (plus node) _ (passed .node) e (reshared-rest t (plus node) kind share (r .long) (passed .node)) (passed .below) (passed .there)
-    (rw (e .here 3 (omega arith)) (passed .kinds))
-    (rw (e .here 4 (omega arith)) (passed .within))
+    (rw (e .here kindAt (omega arith)) (passed .kinds))
+    (rw (e .here shareAt (omega arith)) (passed .within))
     (passed .shares)
     r)
 

@@ -10,6 +10,7 @@ use Rattle.numbers.specs.Whole.{plus, minus}
 use Rattle.numbers.proofs.Tests.{true-false}
 use Rattle.numbers.proofs.Parts.{zarith, plus-pos, minus-pos, add-parts}
 use Rattle.numbers.proofs.Sums.{sum-zero}
+use Rattle.table.specs.Limits.{recordLength, nodes, sortAt, balanceAt, waitingAt, spareAt, queueAt, lastClassLevel}
 use Rattle.table.specs.Places.{place, balance, waiting, depthGrains}
 use Rattle.table.specs.Tree.{Tree, treeOf, there, isClass, isClient, childOf, countIf, sumUnder}
 use Rattle.table.specs.Rates.{fixedSum, fixedShare}
@@ -18,11 +19,11 @@ use Rattle.treelaws.proofs.Children.{ChildOf, balances-parts}
 use Rattle.calllaws.proofs.Nodes.{Node}
 use Rattle.calllaws.proofs.OneNode.{no-child, count-none}
 
-pub zero-unused : (t : List ℤ) (k : ℕ) → place t k 0 ≡ pos 0 → there (treeOf t) k ≡ false
+pub zero-unused : (t : List ℤ) (k : ℕ) → place t k sortAt ≡ pos 0 → there (treeOf t) k ≡ false
 unfolding there treeOf plus
 zero-unused t k e = rw e
 
-pub unused-node : (t : List ℤ) (k : ℕ) → ((p : ℕ) → p < 40 → place t k p ≡ pos 0) → Node t k
+pub unused-node : (t : List ℤ) (k : ℕ) → ((p : ℕ) → p < recordLength → place t k p ≡ pos 0) → Node t k
 unfolding isClass isClient treeOf plus
 unused-node t k h =
     record {
@@ -30,27 +31,27 @@ unused-node t k h =
       limits = λ e. absurd (none e);
       spare = λ e. absurd (none e);
       child = λ e. absurd (none e);
-      class = λ e. absurd (true-false e (rw (h 0 (omega arith))));
+      class = λ e. absurd (true-false e (rw (h sortAt (omega arith))));
       balance = λ e. absurd (none e);
-      requests = λ e. absurd (true-false e (rw (h 0 (omega arith))));
+      requests = λ e. absurd (true-false e (rw (h sortAt (omega arith))));
     }
   where
     none : there (treeOf t) k ≡ true → ⊥
-    none e = true-false e (zero-unused t k (h 0 (omega arith)))
+    none e = true-false e (zero-unused t k (h sortAt (omega arith)))
 
-under-none : (tree : Tree) (c : ℕ) (f : ℕ → ℕ) → ((j : ℕ) → j < 64 → ChildOf tree c j → ⊥) → sumUnder tree c f ≡ 0
+under-none : (tree : Tree) (c : ℕ) (f : ℕ → ℕ) → ((j : ℕ) → j < nodes → ChildOf tree c j → ⊥) → sumUnder tree c f ≡ 0
 unfolding sumUnder
-under-none tree c f h = sum-zero 64 (λ j. countIf (childOf tree c j) f j) (λ j hj. count-none (childOf tree c j) f j (no-child tree c j (h j hj)))
+under-none tree c f h = sum-zero nodes (λ j. countIf (childOf tree c j) f j) (λ j hj. count-none (childOf tree c j) f j (no-child tree c j (h j hj)))
 
-module _ (t : List ℤ) (k : ℕ) (zeros : (p : ℕ) → p < 40 → 7 ≤ p → place t k p ≡ pos 0) (childless : (j : ℕ) → j < 64 → ChildOf (treeOf t) k j → ⊥) where
+module _ (t : List ℤ) (k : ℕ) (zeros : (p : ℕ) → p < recordLength → balanceAt ≤ p → place t k p ≡ pos 0) (childless : (j : ℕ) → j < nodes → ChildOf (treeOf t) k j → ⊥) where
   idle : waiting t k ≡ 0
   unfolding waiting
-  idle = ap plus (zeros 8 (omega arith) (omega arith)) ∙ plus-pos 0
+  idle = ap plus (zeros waitingAt (omega arith) (omega arith)) ∙ plus-pos 0
 
   none : (f : ℕ → ℕ) → sumUnder (treeOf t) k f ≡ 0
   none f = under-none (treeOf t) k f childless
 
-  fresh-class : treeOf t .level k ≤ 3 → Class t k
+  fresh-class : treeOf t .level k ≤ lastClassLevel → Class t k
   unfolding fixedSum
   fresh-class level =
       record {
@@ -63,8 +64,8 @@ module _ (t : List ℤ) (k : ℕ) (zeros : (p : ℕ) → p < 40 → 7 ≤ p → 
   fresh-balance : Balance t k
   unfolding balance
   fresh-balance =
-      let zero-plus : plus (place t k 7) ≡ 0 = ap plus (zeros 7 (omega arith) (omega arith)) ∙ plus-pos 0 in
-      let zero-minus : minus (place t k 7) ≡ 0 = ap minus (zeros 7 (omega arith) (omega arith)) ∙ minus-pos 0 in
+      let zero-plus : plus (place t k balanceAt) ≡ 0 = ap plus (zeros balanceAt (omega arith) (omega arith)) ∙ plus-pos 0 in
+      let zero-minus : minus (place t k balanceAt) ≡ 0 = ap minus (zeros balanceAt (omega arith) (omega arith)) ∙ minus-pos 0 in
       record {
         most = omega (arith, zarith, minus-pos (depthGrains t k));
         class = λ e.
@@ -80,12 +81,12 @@ module _ (t : List ℤ) (k : ℕ) (zeros : (p : ℕ) → p < 40 → 7 ≤ p → 
         client = λ e. omega (arith, zarith, plus-pos 0);
       }
 
-  pub fresh-node : there (treeOf t) k ≡ true → Limits t k → ((k ≡ 0 → ⊥) → Child (treeOf t) k) → (isClass (treeOf t) k ≡ true → treeOf t .level k ≤ 3) → Node t k
+  pub fresh-node : there (treeOf t) k ≡ true → Limits t k → ((k ≡ 0 → ⊥) → Child (treeOf t) k) → (isClass (treeOf t) k ≡ true → treeOf t .level k ≤ lastClassLevel) → Node t k
   fresh-node here limits child level =
       record {
         empty = λ e. absurd (true-false here e);
         limits = λ e. limits;
-        spare = λ e. record { places = λ p hp. zeros (9 + p) (omega arith) (omega arith); queue = λ p hp low. zeros (16 + p) (omega arith) (omega arith) };
+        spare = λ e. record { places = λ p hp. zeros (spareAt + p) (omega arith) (omega arith); queue = λ p hp low. zeros (queueAt + p) (omega arith) (omega arith) };
         child = λ e. child;
         class = λ e. fresh-class (level e);
         balance = λ e. fresh-balance;

@@ -11,7 +11,8 @@ use lib.IntN.{ℤ, pos}
 use Rattle.numbers.specs.Whole.{plus, minus}
 use Rattle.numbers.proofs.Tests.{true-false}
 use Rattle.numbers.proofs.Parts.{zarith, plus-pos, minus-pos}
-use Rattle.table.specs.Places.{place, balance, waiting, arrival}
+use Rattle.table.specs.Limits.{recordLength, nodes, sortAt, parentAt, levelAt, kindAt, shareAt, depthAt, rateAt, balanceAt, waitingAt, arrivalAt, class, lastClassLevel}
+use Rattle.table.specs.Places.{queuePlace, place, balance, waiting, arrival}
 use Rattle.table.specs.Tree.{treeOf, there, isClass, childOf}
 use Rattle.table.specs.Rates.{renewed}
 use Rattle.table.specs.Order.{inOrder}
@@ -30,7 +31,7 @@ module _ (t : List ℤ) (k c : ℕ) (sort kind share depth : ℤ) (passed : Join
   edited : Edited t (joined t k c sort kind share depth) k (joinedPlace t k c sort kind share depth)
   edited = joined-edit t k c sort kind share depth (r .long) (passed .node)
 
-  rest : (j p : ℕ) → p < 40 → 6 ≤ p → place (joined t k c sort kind share depth) j p ≡ place t j p
+  rest : (j p : ℕ) → p < recordLength → rateAt ≤ p → place (joined t k c sort kind share depth) j p ≡ place t j p
   rest = joined-rest t k c sort kind share depth (r .long) (passed .node)
 
   here : NodeIs (treeOf (joined t k c sort kind share depth)) k (plus sort) c (suc (treeOf t .level c)) (plus kind) (plus share) (plus depth)
@@ -46,21 +47,21 @@ module _ (t : List ℤ) (k c : ℕ) (sort kind share depth : ℤ) (passed : Join
   parent-class : isClass (treeOf t) c ≡ true
   parent-class = client-or-class t c (r .node c (passed .parent)) (passed .there) (passed .no-client)
 
-  parent-level : treeOf t .level c ≤ 3
+  parent-level : treeOf t .level c ≤ lastClassLevel
   parent-level = r .node c (passed .parent) .class parent-class .level
 
   parent-same : SameNode (treeOf (joined t k c sort kind share depth)) (treeOf t) c
   parent-same = others c (class-other c parent-class)
 
   -- The new node was unused, so it was no child and its places were zero.
-  zeros : (p : ℕ) → p < 40 → 6 ≤ p → place (joined t k c sort kind share depth) k p ≡ pos 0
+  zeros : (p : ℕ) → p < recordLength → rateAt ≤ p → place (joined t k c sort kind share depth) k p ≡ pos 0
   zeros p hp low = rest k p hp low ∙ r .node k (passed .node) .empty (passed .unused) p hp
 
   was-no-child : (a : ℕ) → childOf (treeOf t) a k ≡ false
   was-no-child a = no-child (treeOf t) a k (λ child. true-false (child .there) (passed .unused))
 
   -- It has no children.
-  childless : (j : ℕ) → j < 64 → ChildOf (treeOf (joined t k c sort kind share depth)) k j → ⊥
+  childless : (j : ℕ) → j < nodes → ChildOf (treeOf (joined t k c sort kind share depth)) k j → ⊥
   childless j hj child =
       elim (ℕ-discrete j k) [
         | yes e ↦ class-other c parent-class (sym (here .parent) ∙ ap (treeOf (joined t k c sort kind share depth) .parent) (sym e) ∙ child .parent)
@@ -73,13 +74,13 @@ module _ (t : List ℤ) (k c : ℕ) (sort kind share depth : ℤ) (passed : Join
   new-limits : Limits (joined t k c sort kind share depth) k
   new-limits =
       record {
-        sort = rw (edited .here 0 (omega arith)) (passed .sorts);
-        parent = rw (edited .here 1 (omega arith)) (omega (arith, zarith, passed .parent, plus-pos c, minus-pos c));
-        level = rw (edited .here 2 (omega arith)) (omega (arith, zarith, parent-level, plus-pos (suc (treeOf t .level c)), minus-pos (suc (treeOf t .level c))));
-        kind = rw (edited .here 3 (omega arith)) (passed .kinds);
-        share = rw (edited .here 4 (omega arith)) (passed .within);
-        depth = rw (edited .here 5 (omega arith)) (passed .deep);
-        waiting = rw (zeros 8 (omega arith) (omega arith)) (omega (arith, zarith, plus-pos 0, minus-pos 0));
+        sort = rw (edited .here sortAt (omega arith)) (passed .sorts);
+        parent = rw (edited .here parentAt (omega arith)) (omega (arith, zarith, passed .parent, plus-pos c, minus-pos c));
+        level = rw (edited .here levelAt (omega arith)) (omega (arith, zarith, parent-level, plus-pos (suc (treeOf t .level c)), minus-pos (suc (treeOf t .level c))));
+        kind = rw (edited .here kindAt (omega arith)) (passed .kinds);
+        share = rw (edited .here shareAt (omega arith)) (passed .within);
+        depth = rw (edited .here depthAt (omega arith)) (passed .deep);
+        waiting = rw (zeros waitingAt (omega arith) (omega arith)) (omega (arith, zarith, plus-pos 0, minus-pos 0));
       }
 
   new-child : Child (treeOf (joined t k c sort kind share depth)) k
@@ -93,11 +94,11 @@ module _ (t : List ℤ) (k c : ℕ) (sort kind share depth : ℤ) (passed : Join
   unfolding there
   new-there = ap not (ne-eqb (treeOf (joined t k c sort kind share depth) .sort k) 0 (λ e. omega (arith, zarith, passed .sorts, here .sort)))
 
-  new-level : isClass (treeOf (joined t k c sort kind share depth)) k ≡ true → treeOf (joined t k c sort kind share depth) .level k ≤ 3
+  new-level : isClass (treeOf (joined t k c sort kind share depth)) k ≡ true → treeOf (joined t k c sort kind share depth) .level k ≤ lastClassLevel
   unfolding isClass
   new-level e =
-      let class : plus sort ≡ 1 = sym (here .sort) ∙ eqb-true (treeOf (joined t k c sort kind share depth) .sort k) 1 e in
-      let room : treeOf t .level c ≡ 3 → ⊥ = passed .levels class in
+      let class : plus sort ≡ class = sym (here .sort) ∙ eqb-true (treeOf (joined t k c sort kind share depth) .sort k) class e in
+      let room : treeOf t .level c ≡ lastClassLevel → ⊥ = passed .levels class in
       omega (arith, here .level, parent-level)
 
   -- The sums under the parent are as tested; those under another class stay.
@@ -111,7 +112,7 @@ module _ (t : List ℤ) (k c : ℕ) (sort kind share depth : ℤ) (passed : Join
             balances-changed t _ k _ (passed .node) edited c
             (omega (
               arith,
-              count-zero (childOf (treeOf (joined t k c sort kind share depth)) c k) (λ j. plus (balance (joined t k c sort kind share depth) j)) k (λ e. ap plus (zeros 7 (omega arith) (omega arith)) ∙ plus-pos 0),
+              count-zero (childOf (treeOf (joined t k c sort kind share depth)) c k) (λ j. plus (balance (joined t k c sort kind share depth) j)) k (λ e. ap plus (zeros balanceAt (omega arith) (omega arith)) ∙ plus-pos 0),
               count-none (childOf (treeOf t) c k) (λ j. minus (balance t j)) k (was-no-child c),
             ));
       }
@@ -126,8 +127,8 @@ module _ (t : List ℤ) (k c : ℕ) (sort kind share depth : ℤ) (passed : Join
   unfolding waiting arrival
   joined-ready =
       edited-ready t _ k _ (passed .node) edited (passed .below)
-      (ap plus (rest k 8 (omega arith) (omega arith)))
-      (λ i hi. ap plus (rest k (16 + 3 * i + 2) (omega (arith, most-waiting t k (r .node k (passed .node)))) (omega arith)))
+      (ap plus (rest k waitingAt (omega arith) (omega arith)))
+      (λ i hi. ap plus (rest k (queuePlace i + arrivalAt) (omega (arith, most-waiting t k (r .node k (passed .node)))) (omega arith)))
       (λ j hj ne e below child.
       let above = others (treeOf t .parent j) (class-other (treeOf t .parent j) (child .class)) in
       child-kept (treeOf (joined t k c sort kind share depth)) (treeOf t) j (others j ne .parent) (others j ne .level) (above .sort) (above .level) child)

@@ -11,6 +11,7 @@ use Rattle.numbers.specs.Whole.{plus, minus}
 use Rattle.numbers.proofs.Tests.{by-test, true-false}
 use Rattle.numbers.proofs.Parts.{zarith, one-is-zero, plus-pos, minus-pos}
 use Rattle.numbers.proofs.All.{all-at}
+use Rattle.table.specs.Limits.{nodes, sortAt, waitingAt}
 use Rattle.table.specs.Places.{balance, waiting}
 use Rattle.table.specs.Tree.{Tree, treeOf, there, isClass, childOf, childless}
 use Rattle.table.specs.Rates.{renewed}
@@ -25,9 +26,9 @@ use Rattle.calllaws.proofs.OneNode.{no-child, sums-fall, edited-ready}
 use Rattle.calllaws.proofs.Fresh.{zero-unused, unused-node}
 use Rattle.calllaws.proofs.Ready.{ready-renewed, kept-in-order}
 
-none-below : (tree : Tree) (k : ℕ) → childless tree k ≡ true → (j : ℕ) → j < 64 → ChildOf tree k j → ⊥
+none-below : (tree : Tree) (k : ℕ) → childless tree k ≡ true → (j : ℕ) → j < nodes → ChildOf tree k j → ⊥
 unfolding childless
-none-below tree k h j hj child = true-false (child-of tree k j child) (not-true _ (all-at 64 (λ j. not (childOf tree k j)) h j hj))
+none-below tree k h j hj child = true-false (child-of tree k j child) (not-true _ (all-at nodes (λ j. not (childOf tree k j)) h j hj))
 
 -- Node k leaves.
 module _ (t : List ℤ) (k : ℕ) (passed : LeavePassed t k) (r : Ready t) where
@@ -38,7 +39,7 @@ module _ (t : List ℤ) (k : ℕ) (passed : LeavePassed t k) (r : Ready t) where
   others = cleared-others t k (r .long) (passed .node)
 
   gone : there (treeOf (cleared t k)) k ≡ false
-  gone = zero-unused (cleared t k) k (edited .here 0 (omega arith))
+  gone = zero-unused (cleared t k) k (edited .here sortAt (omega arith))
 
   not-below-zero : minus (balance t k) ≡ 0
   not-below-zero =
@@ -53,7 +54,7 @@ module _ (t : List ℤ) (k : ℕ) (passed : LeavePassed t k) (r : Ready t) where
   unfolding waiting
   left-ready =
       edited-ready t (cleared t k) k (λ q. pos 0) (passed .node) edited (passed .below)
-      (ap plus (edited .here 8 (omega arith)) ∙ plus-pos 0 ∙ sym (passed .idle))
+      (ap plus (edited .here waitingAt (omega arith)) ∙ plus-pos 0 ∙ sym (passed .idle))
       (λ i hi. absurd (busy i hi))
       (λ j hj ne e below child.
       let above = others (treeOf t .parent j) (λ same. none-below (treeOf t) k (passed .childless) j hj (record { there = e; below = below; parent = same })) in

@@ -13,7 +13,8 @@ use Rattle.numbers.specs.Whole.{plus, minus}
 use Rattle.numbers.proofs.Tests.{by-test}
 use Rattle.numbers.proofs.Parts.{zarith}
 use Rattle.numbers.proofs.Sums.{sum-changed}
-use Rattle.table.specs.Places.{count, balance, waiting, arrival}
+use Rattle.table.specs.Limits.{nodes, rateAt, balanceAt, waitingAt, arrivalAt, root}
+use Rattle.table.specs.Places.{queuePlace, count, balance, waiting, arrival}
 use Rattle.table.specs.Tree.{Tree, treeOf, there, isClass, isFixed, childOf, countIf, sumUnder}
 use Rattle.table.specs.Rates.{fixedShare, fixedSum}
 use Rattle.table.specs.Order.{childBalances}
@@ -48,17 +49,17 @@ count-zero true f k h = h refl
 count-zero false f k h = refl
 
 -- A sum under class c, before and after.
-under-changed : (new old : Tree) (k c : ℕ) (g f : ℕ → ℕ) → k < 64 → ((j : ℕ) → (j ≡ k → ⊥) → SameNode new old j) → ((j : ℕ) → (j ≡ k → ⊥) → g j ≡ f j) → sumUnder new c g + countIf (childOf old c k) f k ≡ sumUnder old c f + countIf (childOf new c k) g k
+under-changed : (new old : Tree) (k c : ℕ) (g f : ℕ → ℕ) → k < nodes → ((j : ℕ) → (j ≡ k → ⊥) → SameNode new old j) → ((j : ℕ) → (j ≡ k → ⊥) → g j ≡ f j) → sumUnder new c g + countIf (childOf old c k) f k ≡ sumUnder old c f + countIf (childOf new c k) g k
 unfolding sumUnder
 under-changed new old k c g f hk same h =
-    sum-changed 64 k (λ j. countIf (childOf new c j) g j) (λ j. countIf (childOf old c j) f j) hk
+    sum-changed nodes k (λ j. countIf (childOf new c j) g j) (λ j. countIf (childOf old c j) f j) hk
     (λ j hj ne. count-same (childOf new c j) (childOf old c j) g f j (child-same new old c j (same j ne .sort) (same j ne .parent)) (h j ne))
 
 -- Sums of balances by their parts.
 balances-le : (t u : List ℤ) (c : ℕ) → sumUnder (treeOf u) c (λ k. plus (balance u k)) + sumUnder (treeOf t) c (λ k. minus (balance t k)) ≤ sumUnder (treeOf t) c (λ k. plus (balance t k)) + sumUnder (treeOf u) c (λ k. minus (balance u k)) → leZ (childBalances u c) (childBalances t c) ≡ true
 balances-le t u c h = omega (arith, zarith, balances-parts t c, balances-parts u c)
 
-module _ (t u : List ℤ) (k : ℕ) (f : ℕ → ℤ) (hk : k < 64) (edited : Edited t u k f) where
+module _ (t u : List ℤ) (k : ℕ) (f : ℕ → ℤ) (hk : k < nodes) (edited : Edited t u k f) where
   others : (j : ℕ) → (j ≡ k → ⊥) → SameNode (treeOf u) (treeOf t) j
   others = edited-others t u k f edited
 
@@ -71,7 +72,7 @@ module _ (t u : List ℤ) (k : ℕ) (f : ℕ → ℤ) (hk : k < 64) (edited : Ed
 
   part-changed : (part : ℤ → ℕ) (c : ℕ) → sumUnder (treeOf u) c (λ j. part (balance u j)) + countIf (childOf (treeOf t) c k) (λ j. part (balance t j)) k ≡ sumUnder (treeOf t) c (λ j. part (balance t j)) + countIf (childOf (treeOf u) c k) (λ j. part (balance u j)) k
   unfolding balance
-  part-changed part c = under-changed (treeOf u) (treeOf t) k c (λ j. part (balance u j)) (λ j. part (balance t j)) hk others (λ j ne. ap part (edited .others j 7 ne (omega arith)))
+  part-changed part c = under-changed (treeOf u) (treeOf t) k c (λ j. part (balance u j)) (λ j. part (balance t j)) hk others (λ j ne. ap part (edited .others j balanceAt ne (omega arith)))
 
   -- Balances sum to no more where the node adds no more to them.
   pub balances-changed : (c : ℕ) → countIf (childOf (treeOf u) c k) (λ j. plus (balance u j)) k + countIf (childOf (treeOf t) c k) (λ j. minus (balance t j)) k ≤ countIf (childOf (treeOf t) c k) (λ j. plus (balance t j)) k + countIf (childOf (treeOf u) c k) (λ j. minus (balance u j)) k → leZ (childBalances u c) (childBalances t c) ≡ true
@@ -92,7 +93,7 @@ module _ (t u : List ℤ) (k : ℕ) (f : ℕ → ℤ) (hk : k < 64) (edited : Ed
             ));
       }
 
-  pub edited-ready : (k ≡ 0 → ⊥) → waiting u k ≡ waiting t k → ((i : ℕ) → i < waiting t k → arrival u k i ≡ arrival t k i) → ((j : ℕ) → j < 64 → (j ≡ k → ⊥) → there (treeOf t) j ≡ true → (j ≡ 0 → ⊥) → Child (treeOf t) j → Child (treeOf u) j) → ((c : ℕ) → c < 64 → (c ≡ k → ⊥) → isClass (treeOf t) c ≡ true → Sums t u c) → Node u k → Ready t → Ready u
+  pub edited-ready : (k ≡ 0 → ⊥) → waiting u k ≡ waiting t k → ((i : ℕ) → i < waiting t k → arrival u k i ≡ arrival t k i) → ((j : ℕ) → j < nodes → (j ≡ k → ⊥) → there (treeOf t) j ≡ true → (j ≡ 0 → ⊥) → Child (treeOf t) j → Child (treeOf u) j) → ((c : ℕ) → c < nodes → (c ≡ k → ⊥) → isClass (treeOf t) c ≡ true → Sums t u c) → Node u k → Ready t → Ready u
   unfolding count waiting arrival
   edited-ready not-root waits arrivals child sums node r =
       record {
@@ -101,25 +102,25 @@ module _ (t u : List ℤ) (k : ℕ) (f : ℕ → ℤ) (hk : k < 64) (edited : Ed
         heading = λ p hp. edited .heading (suc p) (omega arith) ∙ r .heading p hp;
         root =
             root-kept t u (λ p hp. edited .others 0 p (λ e. not-root (sym e)) (omega arith))
-            (rw (edited .others 0 6 (λ e. not-root (sym e)) (omega arith)) (r .root .rate))
+            (rw (edited .others root rateAt (λ e. not-root (sym e)) (omega arith)) (r .root .rate))
             (r .root);
         node = λ j hj.
             elim (ℕ-discrete j k) [
               | yes e ↦ rw e node
               | no ne ↦
                   node-kept t u j (omega (arith, ap plus (edited .heading 0 (omega arith))))
-                  (record { places = λ p hp six. edited .others j p ne hp; unused = λ e. edited .others j 6 ne (omega arith) })
+                  (record { places = λ p hp six. edited .others j p ne hp; unused = λ e. edited .others j rateAt ne (omega arith) })
                   (child j hj ne)
                   (sums j hj ne)
                   (r .node j hj)
             ];
         differ =
             differ-kept t u
-            (λ j hj. elim (ℕ-discrete j k) [ yes e ↦ rw e waits | no ne ↦ ap plus (edited .others j 8 ne (omega arith)) ])
+            (λ j hj. elim (ℕ-discrete j k) [ yes e ↦ rw e waits | no ne ↦ ap plus (edited .others j waitingAt ne (omega arith)) ])
             (λ j hj i hi.
             elim (ℕ-discrete j k) [
               | yes e ↦ rw e (arrivals i (rw e at hi))
-              | no ne ↦ ap plus (edited .others j (16 + 3 * i + 2) ne (omega (arith, most-waiting t j (r .node j hj))))
+              | no ne ↦ ap plus (edited .others j (queuePlace i + arrivalAt) ne (omega (arith, most-waiting t j (r .node j hj))))
             ])
             r;
       }

@@ -9,6 +9,7 @@ use lib.IntN.{ℤ, pos}
 use Rattle.numbers.specs.Whole.{plus}
 use Rattle.numbers.proofs.Tests.{true-false}
 use Rattle.numbers.proofs.Parts.{zarith, pos-of-within, plus-pos, minus-pos}
+use Rattle.table.specs.Limits.{recordLength, nodes, sortAt, parentAt, levelAt, kindAt, shareAt, depthAt, rateAt, balanceAt, waitingAt, root, wholeShare, greatestRate}
 use Rattle.table.specs.Places.{place, rate as rateOf, waiting}
 use Rattle.table.specs.Tree.{treeOf, there}
 use Rattle.table.specs.Rates.{rateIn}
@@ -27,16 +28,16 @@ module _ (rate depth : ℤ) (passed : OpenPassed rate depth) where
   opened-root : Root (opened rate depth)
   opened-root =
       record {
-        sort = opened-edit rate depth .here 0 (omega arith);
-        parent = opened-place rate depth 1 (omega arith) (omega arith) (omega arith) (omega arith) (omega arith);
-        level = opened-place rate depth 2 (omega arith) (omega arith) (omega arith) (omega arith) (omega arith);
-        kind = opened-place rate depth 3 (omega arith) (omega arith) (omega arith) (omega arith) (omega arith);
-        share = opened-edit rate depth .here 4 (omega arith);
-        rate = rw (opened-edit rate depth .here 6 (omega arith)) (passed .rates);
+        sort = opened-edit rate depth .here sortAt (omega arith);
+        parent = opened-place rate depth parentAt (omega arith) (omega arith) (omega arith) (omega arith) (omega arith);
+        level = opened-place rate depth levelAt (omega arith) (omega arith) (omega arith) (omega arith) (omega arith);
+        kind = opened-place rate depth kindAt (omega arith) (omega arith) (omega arith) (omega arith) (omega arith);
+        share = opened-edit rate depth .here shareAt (omega arith);
+        rate = rw (opened-edit rate depth .here rateAt (omega arith)) (passed .rates);
       }
 
   -- No other node is there.
-  opened-unused : (j : ℕ) → j < 64 → (j ≡ 0 → ⊥) → there (treeOf (opened rate depth)) j ≡ false
+  opened-unused : (j : ℕ) → j < nodes → (j ≡ 0 → ⊥) → there (treeOf (opened rate depth)) j ≡ false
   opened-unused j hj ne = zero-unused (opened rate depth) j (opened-others rate depth j 0 hj ne (omega arith))
 
   opened-limits : Limits (opened rate depth) 0
@@ -46,15 +47,15 @@ module _ (rate depth : ℤ) (passed : OpenPassed rate depth) where
         parent = rw (opened-root .parent) (omega (arith, zarith, plus-pos 0, minus-pos 0));
         level = rw (opened-root .level) (omega (arith, zarith, plus-pos 0, minus-pos 0));
         kind = rw (opened-root .kind) (omega (arith, zarith, plus-pos 0, minus-pos 0));
-        share = rw (opened-root .share) (omega (arith, zarith, plus-pos 10000, minus-pos 10000));
-        depth = rw (opened-edit rate depth .here 5 (omega arith)) (passed .depths);
-        waiting = rw (opened-place rate depth 8 (omega arith) (omega arith) (omega arith) (omega arith) (omega arith)) (omega (arith, zarith, plus-pos 0, minus-pos 0));
+        share = rw (opened-root .share) (omega (arith, zarith, plus-pos wholeShare, minus-pos wholeShare));
+        depth = rw (opened-edit rate depth .here depthAt (omega arith)) (passed .depths);
+        waiting = rw (opened-place rate depth waitingAt (omega arith) (omega arith) (omega arith) (omega arith) (omega arith)) (omega (arith, zarith, plus-pos 0, minus-pos 0));
       }
 
-  opened-zeros : (p : ℕ) → p < 40 → 7 ≤ p → place (opened rate depth) 0 p ≡ pos 0
+  opened-zeros : (p : ℕ) → p < recordLength → balanceAt ≤ p → place (opened rate depth) 0 p ≡ pos 0
   opened-zeros p hp low = opened-place rate depth p hp (omega arith) (omega arith) (omega arith) (omega arith)
 
-  opened-nodes : (k : ℕ) → k < 64 → Node (opened rate depth) k
+  opened-nodes : (k : ℕ) → k < nodes → Node (opened rate depth) k
   opened-nodes k hk =
       elim (ℕ-discrete k 0) [
         | yes e ↦
@@ -68,12 +69,12 @@ module _ (rate depth : ℤ) (passed : OpenPassed rate depth) where
         | no ne ↦ unused-node (opened rate depth) k (λ p hp. opened-others rate depth k p hk ne hp)
       ]
 
-  opened-waiting : (k : ℕ) → k < 64 → waiting (opened rate depth) k ≡ 0
+  opened-waiting : (k : ℕ) → k < nodes → waiting (opened rate depth) k ≡ 0
   unfolding waiting
   opened-waiting k hk =
       elim (ℕ-discrete k 0) [
-        | yes e ↦ rw e (ap plus (opened-zeros 8 (omega arith) (omega arith)) ∙ plus-pos 0)
-        | no ne ↦ ap plus (opened-others rate depth k 8 hk ne (omega arith)) ∙ plus-pos 0
+        | yes e ↦ rw e (ap plus (opened-zeros waitingAt (omega arith) (omega arith)) ∙ plus-pos 0)
+        | no ne ↦ ap plus (opened-others rate depth k waitingAt hk ne (omega arith)) ∙ plus-pos 0
       ]
 
   opened-ready : Ready (opened rate depth)
@@ -88,13 +89,13 @@ module _ (rate depth : ℤ) (passed : OpenPassed rate depth) where
       }
 
   -- The root has the disk's rate.
-  opened-rates : (k : ℕ) → k < 64 → there (treeOf (opened rate depth)) k ≡ true → place (opened rate depth) k 6 ≡ pos (rateIn (treeOf (opened rate depth)) (rateOf (opened rate depth) 0) k)
+  opened-rates : (k : ℕ) → k < nodes → there (treeOf (opened rate depth)) k ≡ true → place (opened rate depth) k rateAt ≡ pos (rateIn (treeOf (opened rate depth)) (rateOf (opened rate depth) 0) k)
   unfolding rateOf
   opened-rates k hk e =
       elim (ℕ-discrete k 0) [
         | yes same ↦
-            rw (same, rate-at-root (treeOf (opened rate depth)) (plus (place (opened rate depth) 0 6)) 0 (root-level (opened rate depth) opened-root))
-            (sym (pos-of-within 1 1000000000 (place (opened rate depth) 0 6) (opened-root .rate)))
+            rw (same, rate-at-root (treeOf (opened rate depth)) (plus (place (opened rate depth) root rateAt)) 0 (root-level (opened rate depth) opened-root))
+            (sym (pos-of-within 1 greatestRate (place (opened rate depth) root rateAt) (opened-root .rate)))
         | no ne ↦ absurd (true-false e (opened-unused k hk ne))
       ]
 

@@ -11,7 +11,8 @@ use lib.IntN.{ℤ, pos}
 use Rattle.numbers.specs.Whole.{plus, minus}
 use Rattle.numbers.proofs.Parts.{zarith, pos-of-within}
 use Rattle.numbers.proofs.Sums.{sumℤ-cong}
-use Rattle.table.specs.Places.{place, header, count, rate, balance, waiting, arrival}
+use Rattle.table.specs.Limits.{tableLength, headerLength, nodes, rateAt, balanceAt, waitingAt, arrivalAt, root, greatestRate}
+use Rattle.table.specs.Places.{queuePlace, place, header, count, rate, balance, waiting, arrival}
 use Rattle.table.specs.Tree.{treeOf}
 use Rattle.table.specs.Rates.{renewed}
 use Rattle.table.specs.Order.{childBalance, childBalances, inOrder}
@@ -23,12 +24,12 @@ pub use Rattle.table.proofs.Facts.{root-there, root-level}
 use Rattle.calllaws.proofs.Nodes.{Ready, ready-in-order, SameRecord, Sums, node-kept, differ-kept, most-waiting, root-kept}
 
 -- Tables with the same tree and the same balances have the same sums of balances.
-pub same-balances : (t u : List ℤ) (c : ℕ) → treeOf u ≡ treeOf t → ((k : ℕ) → k < 64 → place u k 7 ≡ place t k 7) → childBalances u c ≡ childBalances t c
+pub same-balances : (t u : List ℤ) (c : ℕ) → treeOf u ≡ treeOf t → ((k : ℕ) → k < nodes → place u k balanceAt ≡ place t k balanceAt) → childBalances u c ≡ childBalances t c
 unfolding childBalances childBalance balance
-same-balances t u c trees h = sumℤ-cong 64 _ _ (λ k hk. rw (trees, h k hk))
+same-balances t u c trees h = sumℤ-cong nodes _ _ (λ k hk. rw (trees, h k hk))
 
 -- So their sums are within limits alike.
-pub same-sums : (t u : List ℤ) (c : ℕ) → treeOf u ≡ treeOf t → ((k : ℕ) → k < 64 → place u k 7 ≡ place t k 7) → Class t c → Sums t u c
+pub same-sums : (t u : List ℤ) (c : ℕ) → treeOf u ≡ treeOf t → ((k : ℕ) → k < nodes → place u k balanceAt ≡ place t k balanceAt) → Class t c → Sums t u c
 same-sums t u c trees h f =
     record {
       shares = rw trees (f .shares);
@@ -37,7 +38,7 @@ same-sums t u c trees h f =
     }
 
 -- A table that differs from a ready one at most in the rates of nodes that are there is ready if its root is.
-pub ready-but-rates : (t u : List ℤ) → Ready t → length u ≡ 2568 → ((p : ℕ) → p < 8 → header u p ≡ header t p) → ((j : ℕ) → SameRecord t u j) → treeOf u ≡ treeOf t → Root u → Ready u
+pub ready-but-rates : (t u : List ℤ) → Ready t → length u ≡ tableLength → ((p : ℕ) → p < headerLength → header u p ≡ header t p) → ((j : ℕ) → SameRecord t u j) → treeOf u ≡ treeOf t → Root u → Ready u
 unfolding count waiting arrival
 ready-but-rates t u f long headers same trees root =
     record {
@@ -48,25 +49,25 @@ ready-but-rates t u f long headers same trees root =
       node = λ j hj.
           node-kept t u j (omega (arith, ap plus (headers 0 (omega arith)))) (same j)
           (λ e ne child. rw trees child)
-          (λ e. same-sums t u j trees (λ k hk. same k .places 7 (omega arith) (omega arith)) (f .node j hj .class e))
+          (λ e. same-sums t u j trees (λ k hk. same k .places balanceAt (omega arith) (omega arith)) (f .node j hj .class e))
           (f .node j hj);
       differ =
           differ-kept t u
-          (λ k hk. ap plus (same k .places 8 (omega arith) (omega arith)))
-          (λ k hk i hi. ap plus (same k .places (16 + 3 * i + 2) (omega (arith, most-waiting t k (f .node k hk))) (omega arith)))
+          (λ k hk. ap plus (same k .places waitingAt (omega arith) (omega arith)))
+          (λ k hk i hi. ap plus (same k .places (queuePlace i + arrivalAt) (omega (arith, most-waiting t k (f .node k hk))) (omega arith)))
           f;
     }
 
 -- The root keeps the disk's rate.
-renewed-root : (t : List ℤ) → length t ≡ 2568 → Root t → Root (renewed t)
+renewed-root : (t : List ℤ) → length t ≡ tableLength → Root t → Root (renewed t)
 unfolding rate
 renewed-root t long f = root-kept t (renewed t) (λ p hp. renewed-place t 0 p (omega arith) (omega arith)) (rw disk (f .rate)) f
   where
-    disk : place (renewed t) 0 6 ≡ place t 0 6
+    disk : place (renewed t) root rateAt ≡ place t root rateAt
     disk =
         renewed-rate t long 0 (omega arith) (root-there t f)
-        ∙ ap pos (rate-at-root (treeOf t) (rate t 0) 0 (root-level t f))
-        ∙ pos-of-within 1 1000000000 (place t 0 6) (f .rate)
+        ∙ ap pos (rate-at-root (treeOf t) (rate t root) 0 (root-level t f))
+        ∙ pos-of-within 1 greatestRate (place t root rateAt) (f .rate)
 
 pub ready-renewed : (t : List ℤ) → Ready t → inOrder (renewed t) ≡ true
 ready-renewed t f =

@@ -14,7 +14,8 @@ use Rattle.numbers.specs.Tests.{every}
 use Rattle.numbers.proofs.Tests.{by-test, true-false}
 use Rattle.numbers.proofs.Parts.{zarith, one-is-zero, plus-pos, minus-pos}
 use Rattle.numbers.proofs.All.{below-cases}
-use Rattle.table.specs.Places.{place, count, rate, balance, waiting, arrival}
+use Rattle.table.specs.Limits.{recordLength, nodes, sortAt, parentAt, levelAt, kindAt, shareAt, depthAt, rateAt, balanceAt, waitingAt, spareAt, queueAt, requestLength, tagAt, sizeAt, arrivalAt, root, mostWaiting}
+use Rattle.table.specs.Places.{queuePlace, place, count, rate, balance, waiting, arrival}
 use Rattle.table.specs.Tree.{treeOf, there, isClass}
 use Rattle.table.specs.Order.{inOrder}
 use Rattle.table.specs.Calls.{requested, requestRefusal, requestTable}
@@ -26,7 +27,7 @@ use Rattle.calllaws.proofs.Nodes.{Node, Ready, ready, ready-in-order, b
 use Rattle.calllaws.proofs.Ready.{same-sums, kept-in-order}
 
 -- Every arrival number is at most the header's count.
-pub arrival-counted : (t : List ℤ) → Ready t → (k : ℕ) → k < 64 → (i : ℕ) → i < waiting t k → arrival t k i ≤ count t
+pub arrival-counted : (t : List ℤ) → Ready t → (k : ℕ) → k < nodes → (i : ℕ) → i < waiting t k → arrival t k i ≤ count t
 unfolding arrival waiting
 arrival-counted t f k hk i hi =
     by-test (there (treeOf t) k)
@@ -34,23 +35,23 @@ arrival-counted t f k hk i hi =
     by-test (isClass (treeOf t) k)
     (λ c. absurd (idle (f .node k hk .class c .idle)))
     (λ c. omega (arith, zarith, f .node k hk .requests (class-or-client t k (f .node k hk) e c) i hi .number)))
-    (λ e. absurd (unused (f .node k hk .empty e 8 (omega arith))))
+    (λ e. absurd (unused (f .node k hk .empty e waitingAt (omega arith))))
   where
     idle : waiting t k ≡ 0 → ⊥
     idle e = omega arith
 
-    unused : place t k 8 ≡ pos 0 → ⊥
+    unused : place t k waitingAt ≡ pos 0 → ⊥
     unused e = omega (arith, ap plus e, plus-pos 0)
 
 -- The table u is t with one more request waiting at node k.
-module _ (t u : List ℤ) (k : ℕ) (tag size : ℤ) (hk : k < 64) (more : Requested t u k tag size) where
+module _ (t u : List ℤ) (k : ℕ) (tag size : ℤ) (hk : k < nodes) (more : Requested t u k tag size) where
   -- Places that the request does not take stay.
-  stays : (p : ℕ) → p < 40 → (p ≡ 8 → ⊥) → (p ≡ 16 + 3 * waiting t k + 2 → ⊥) → (p ≡ 16 + 3 * waiting t k + 1 → ⊥) → (p ≡ 16 + 3 * waiting t k + 0 → ⊥) → place u k p ≡ place t k p
+  stays : (p : ℕ) → p < recordLength → (p ≡ waitingAt → ⊥) → (p ≡ queuePlace (waiting t k) + arrivalAt → ⊥) → (p ≡ queuePlace (waiting t k) + sizeAt → ⊥) → (p ≡ queuePlace (waiting t k) + tagAt → ⊥) → place u k p ≡ place t k p
   stays p hp ne8 ne2 ne1 ne0 =
-      more .here p hp ∙ rw (ne-eqb p 8 ne8, ne-eqb p (16 + 3 * waiting t k + 2) ne2, ne-eqb p (16 + 3 * waiting t k + 1) ne1, ne-eqb p (16 + 3 * waiting t k + 0) ne0)
+      more .here p hp ∙ rw (ne-eqb p waitingAt ne8, ne-eqb p (queuePlace (waiting t k) + arrivalAt) ne2, ne-eqb p (queuePlace (waiting t k) + sizeAt) ne1, ne-eqb p (queuePlace (waiting t k) + tagAt) ne0)
 
   -- All places before the waiting count stay, at every node.
-  pub before : (j p : ℕ) → p < 8 → place u j p ≡ place t j p
+  pub before : (j p : ℕ) → p < waitingAt → place u j p ≡ place t j p
   before j p hp =
       elim (ℕ-discrete j k) [
         | yes e ↦ rw e (stays p (omega arith) (omega arith) (omega arith) (omega arith) (omega arith))
@@ -66,42 +67,42 @@ module _ (t u : List ℤ) (k : ℕ) (tag size : ℤ) (hk : k < 64) (more : Reque
 
   pub next-waiting : waiting u k ≡ suc (waiting t k)
   unfolding waiting
-  next-waiting = ap plus (more .here 8 (omega arith)) ∙ plus-pos (suc (waiting t k))
+  next-waiting = ap plus (more .here waitingAt (omega arith)) ∙ plus-pos (suc (waiting t k))
 
   other-waiting : (j : ℕ) → (j ≡ k → ⊥) → waiting u j ≡ waiting t j
   unfolding waiting
-  other-waiting j ne = ap plus (more .others j 8 ne (omega arith))
+  other-waiting j ne = ap plus (more .others j waitingAt ne (omega arith))
 
-  new-size : waiting t k < 8 → place u k (16 + 3 * waiting t k + 1) ≡ size
+  new-size : waiting t k < mostWaiting → place u k (queuePlace (waiting t k) + sizeAt) ≡ size
   new-size w =
-      more .here (16 + 3 * waiting t k + 1) (omega arith)
-      ∙ rw (ne-eqb (16 + 3 * waiting t k + 1) 8 (omega arith), ne-eqb (16 + 3 * waiting t k + 1) (16 + 3 * waiting t k + 2) (omega arith), eq-eqb (16 + 3 * waiting t k + 1) (16 + 3 * waiting t k + 1) refl)
+      more .here (queuePlace (waiting t k) + sizeAt) (omega arith)
+      ∙ rw (ne-eqb (queuePlace (waiting t k) + sizeAt) waitingAt (omega arith), ne-eqb (queuePlace (waiting t k) + sizeAt) (queuePlace (waiting t k) + arrivalAt) (omega arith), eq-eqb (queuePlace (waiting t k) + sizeAt) (queuePlace (waiting t k) + sizeAt) refl)
 
-  new-number : waiting t k < 8 → place u k (16 + 3 * waiting t k + 2) ≡ pos (suc (count t))
+  new-number : waiting t k < mostWaiting → place u k (queuePlace (waiting t k) + arrivalAt) ≡ pos (suc (count t))
   new-number w =
-      more .here (16 + 3 * waiting t k + 2) (omega arith)
-      ∙ rw (ne-eqb (16 + 3 * waiting t k + 2) 8 (omega arith), eq-eqb (16 + 3 * waiting t k + 2) (16 + 3 * waiting t k + 2) refl)
+      more .here (queuePlace (waiting t k) + arrivalAt) (omega arith)
+      ∙ rw (ne-eqb (queuePlace (waiting t k) + arrivalAt) waitingAt (omega arith), eq-eqb (queuePlace (waiting t k) + arrivalAt) (queuePlace (waiting t k) + arrivalAt) refl)
 
   -- An arrival number is the new one or one of before.
-  arrival-cases : {P : Type 0} → Ready t → waiting t k < 8 → (j : ℕ) → j < 64 → (i : ℕ) → i < waiting u j → (j ≡ k → arrival u j i ≡ suc (count t) → P) → (i < waiting t j → arrival u j i ≡ arrival t j i → P) → P
+  arrival-cases : {P : Type 0} → Ready t → waiting t k < mostWaiting → (j : ℕ) → j < nodes → (i : ℕ) → i < waiting u j → (j ≡ k → arrival u j i ≡ suc (count t) → P) → (i < waiting t j → arrival u j i ≡ arrival t j i → P) → P
   unfolding arrival
   arrival-cases {P} r w j hj i hi new old = by (ℕ-discrete j k)
     where
       at-node : j ≡ k → P
       at-node e =
           below-cases (waiting t k) i (omega (arith, next-waiting, ap (waiting u) e))
-          (λ l. old (omega (arith, ap (waiting t) e)) (ap plus (rw e (stays (16 + 3 * i + 2) (omega arith) (omega arith) (omega arith) (omega arith) (omega arith)))))
+          (λ l. old (omega (arith, ap (waiting t) e)) (ap plus (rw e (stays (queuePlace i + arrivalAt) (omega arith) (omega arith) (omega arith) (omega arith) (omega arith)))))
           (λ last. new e (ap plus (rw (e, last) (new-number w)) ∙ plus-pos (suc (count t))))
 
       by : Dec (j ≡ k) → P
       by (yes e) = at-node e
       by (no ne) =
           let l : i < waiting t j = omega (arith, other-waiting j ne) in
-          old l (ap plus (more .others j (16 + 3 * i + 2) ne (omega (arith, most-waiting t j (r .node j hj)))))
+          old l (ap plus (more .others j (queuePlace i + arrivalAt) ne (omega (arith, most-waiting t j (r .node j hj)))))
 
-  new-differ : Ready t → waiting t k < 8 → (m : ℕ) → m < 64 → (i : ℕ) → i < waiting u m → (j : ℕ) → j < m → (l : ℕ) → l < waiting u j → arrival u m i ≡ arrival u j l → ⊥
+  new-differ : Ready t → waiting t k < mostWaiting → (m : ℕ) → m < nodes → (i : ℕ) → i < waiting u m → (j : ℕ) → j < m → (l : ℕ) → l < waiting u j → arrival u m i ≡ arrival u j l → ⊥
   new-differ r w m hm i hi j hj l hl e =
-      let hj' : j < 64 = omega arith in
+      let hj' : j < nodes = omega arith in
       arrival-cases r w m hm i hi
       (λ same a.
       arrival-cases r w j hj' l hl
@@ -112,29 +113,29 @@ module _ (t u : List ℤ) (k : ℕ) (tag size : ℤ) (hk : k < 64) (more : Reque
       (λ same b. omega (arith, arrival-counted t r m hm i hi'))
       (λ hl' b. r .differ m hm i hi' j hj l hl' (sym a ∙ e ∙ b)))
 
-  new-limits : waiting t k < 8 → Limits t k → Limits u k
+  new-limits : waiting t k < mostWaiting → Limits t k → Limits u k
   new-limits w f =
       record {
-        sort = rw (before k 0 (omega arith)) (f .sort);
-        parent = rw (before k 1 (omega arith)) (f .parent);
-        level = rw (before k 2 (omega arith)) (f .level);
-        kind = rw (before k 3 (omega arith)) (f .kind);
-        share = rw (before k 4 (omega arith)) (f .share);
-        depth = rw (before k 5 (omega arith)) (f .depth);
-        waiting = rw (more .here 8 (omega arith)) (omega (arith, zarith, plus-pos (suc (waiting t k)), minus-pos (suc (waiting t k))));
+        sort = rw (before k sortAt (omega arith)) (f .sort);
+        parent = rw (before k parentAt (omega arith)) (f .parent);
+        level = rw (before k levelAt (omega arith)) (f .level);
+        kind = rw (before k kindAt (omega arith)) (f .kind);
+        share = rw (before k shareAt (omega arith)) (f .share);
+        depth = rw (before k depthAt (omega arith)) (f .depth);
+        waiting = rw (more .here waitingAt (omega arith)) (omega (arith, zarith, plus-pos (suc (waiting t k)), minus-pos (suc (waiting t k))));
       }
 
   new-spare : Spare t k → Spare u k
   new-spare f =
       record {
-        places = λ p hp. stays (9 + p) (omega arith) (omega arith) (omega arith) (omega arith) (omega arith) ∙ f .places p hp;
+        places = λ p hp. stays (spareAt + p) (omega arith) (omega arith) (omega arith) (omega arith) (omega arith) ∙ f .places p hp;
         queue = λ p hp low.
-            let up : 3 * suc (waiting t k) ≤ p = omega (arith, next-waiting) in
-            stays (16 + p) (omega arith) (omega arith) (omega arith) (omega arith) (omega arith) ∙ f .queue p hp (omega arith);
+            let up : requestLength * suc (waiting t k) ≤ p = omega (arith, next-waiting) in
+            stays (queueAt + p) (omega arith) (omega arith) (omega arith) (omega arith) (omega arith) ∙ f .queue p hp (omega arith);
       }
 
   -- The request behind the others.
-  new-request : Ready t → waiting t k < 8 → leZ (pos 1) size ≡ true → plus size ≤ treeOf t .depth k → Request u k (waiting t k)
+  new-request : Ready t → waiting t k < mostWaiting → leZ (pos 1) size ≡ true → plus size ≤ treeOf t .depth k → Request u k (waiting t k)
   unfolding arrival
   new-request r w least most =
       record {
@@ -142,11 +143,11 @@ module _ (t u : List ℤ) (k : ℕ) (tag size : ℤ) (hk : k < 64) (more : Reque
         number = rw (new-number w) (omega (arith, zarith, next-count, plus-pos (suc (count t)), minus-pos (suc (count t))));
         rising = λ ne.
             let l : waiting t k - 1 < waiting t k = omega arith in
-            rw (stays (16 + 3 * (waiting t k - 1) + 2) (omega arith) (omega arith) (omega arith) (omega arith) (omega arith), new-number w)
+            rw (stays (queuePlace (waiting t k - 1) + arrivalAt) (omega arith) (omega arith) (omega arith) (omega arith) (omega arith), new-number w)
             (omega (arith, plus-pos (suc (count t)), arrival-counted t r k hk (waiting t k - 1) l));
       }
 
-  requested-node : Ready t → RequestPassed t k size → waiting t k < 8 → Node u k
+  requested-node : Ready t → RequestPassed t k size → waiting t k < mostWaiting → Node u k
   requested-node r passed w =
       record {
         empty = λ e. absurd (true-false (passed .there) (rw requested-tree at e));
@@ -154,11 +155,11 @@ module _ (t u : List ℤ) (k : ℕ) (tag size : ℤ) (hk : k < 64) (more : Reque
         spare = λ e. new-spare (old .spare (passed .there));
         child = λ e ne. rw requested-tree (old .child (passed .there) ne);
         class = λ e. absurd (true-false (rw requested-tree at e) (passed .no-class));
-        balance = λ e. balance-kept t u k (before k 0 (omega arith)) (before k 5 (omega arith)) (before k 7 (omega arith)) (λ c. absurd (true-false c (passed .no-class))) (old .balance (passed .there));
+        balance = λ e. balance-kept t u k (before k sortAt (omega arith)) (before k depthAt (omega arith)) (before k balanceAt (omega arith)) (λ c. absurd (true-false c (passed .no-class))) (old .balance (passed .there));
         requests = λ e i hi.
             below-cases (waiting t k) i (omega (arith, next-waiting))
             (λ l.
-            request-kept t u k i (before k 5 (omega arith)) (omega (arith, next-count))
+            request-kept t u k i (before k depthAt (omega arith)) (omega (arith, next-count))
             (λ p low hp. stays p (omega arith) (omega arith) (omega arith) (omega arith) (omega arith))
             (old .requests (class-or-client t k old (passed .there) (passed .no-class)) i l))
             (λ last. rw last (new-request r w (passed .least) (passed .most)));
@@ -167,22 +168,22 @@ module _ (t u : List ℤ) (k : ℕ) (tag size : ℤ) (hk : k < 64) (more : Reque
       old : Node t k
       old = r .node k hk
 
-  requested-ready : Ready t → RequestPassed t k size → waiting t k < 8 → Ready u
+  requested-ready : Ready t → RequestPassed t k size → waiting t k < mostWaiting → Ready u
   unfolding count
   requested-ready r passed w =
       record {
         long = more .long;
         counted = rw (more .counted) (omega (arith, zarith, r .counted, passed .numbers, plus-pos (suc (count t)), minus-pos (suc (count t))));
         heading = λ p hp. more .heading p hp ∙ r .heading p hp;
-        root = root-kept t u (λ p hp. before 0 p (omega arith)) (rw (before 0 6 (omega arith)) (r .root .rate)) (r .root);
+        root = root-kept t u (λ p hp. before root p (omega arith)) (rw (before root rateAt (omega arith)) (r .root .rate)) (r .root);
         node = λ j hj.
             elim (ℕ-discrete j k) [
               | yes e ↦ rw e (requested-node r passed w)
               | no ne ↦
                   node-kept t u j (omega (arith, next-count))
-                  (record { places = λ p hp six. more .others j p ne hp; unused = λ e. more .others j 6 ne (omega arith) })
+                  (record { places = λ p hp six. more .others j p ne hp; unused = λ e. more .others j rateAt ne (omega arith) })
                   (λ e root child. rw requested-tree child)
-                  (λ e. same-sums t u j requested-tree (λ m hm. before m 7 (omega arith)) (r .node j hj .class e))
+                  (λ e. same-sums t u j requested-tree (λ m hm. before m balanceAt (omega arith)) (r .node j hj .class e))
                   (r .node j hj)
             ];
         differ = new-differ r w;
@@ -194,13 +195,13 @@ asked t node tag size h =
     let passed = request-passed t node tag size h in
     let f = facts t (passed .order) in
     let r = ready t f in
-    let w : waiting t (plus node) < 8 = omega (arith, most-waiting t (plus node) (r .node (plus node) (passed .node)), passed .room) in
+    let w : waiting t (plus node) < mostWaiting = omega (arith, most-waiting t (plus node) (r .node (plus node) (passed .node)), passed .room) in
     let more = requested-edit t (plus node) tag size (r .long) (passed .node) w in
     let trees = requested-tree t _ (plus node) tag size (passed .node) more in
     from-facts _
     (ready-in-order _ (requested-ready t _ (plus node) tag size (passed .node) more r passed w)
     (λ j hj e.
-    rw (trees, before t _ (plus node) tag size (passed .node) more j 6 (omega arith), before t _ (plus node) tag size (passed .node) more 0 6 (omega arith))
+    rw (trees, before t _ (plus node) tag size (passed .node) more j rateAt (omega arith), before t _ (plus node) tag size (passed .node) more root rateAt (omega arith))
     (f .rates j hj (rw trees at e))))
 
 -- Accepted or not, and accepted.

@@ -5,6 +5,7 @@ use mathlib.Core.List.{List, [], _∷_, _++_, append-assoc}
 use native.Mathlib.Omega.{arith}
 use lib.ListN.{length, set, length-append}
 use lib.IntN.{ℤ, pos}
+use Rattle.table.specs.Limits.{entryLength}
 use Rattle.table.specs.Places.{tag, size}
 use Rattle.table.specs.Tick.{State, dispatched, listed}
 use Rattle.dispatch.specs.Entries.{entered, tableAfter, listAfter}
@@ -20,7 +21,7 @@ written (o ∷ out) (x ∷ list) v h = ap (λ (l : List ℤ). o ∷ l) (written 
 listed-one : (out list : List ℤ) (i : ℕ) (v : ℤ) → length out ≡ i → i < length list → set (listed out list) i v ≡ listed (out ++ (v ∷ [])) list
 listed-one out list i v e h = rw (← e) (written out list v (omega arith))
 
-pub listed-entry : (out list : List ℤ) (a b c d : ℤ) → length out + 4 ≤ length list → entered (listed out list) (length out) a b c d ≡ listed (out ++ (a ∷ b ∷ c ∷ d ∷ [])) list
+pub listed-entry : (out list : List ℤ) (a b c d : ℤ) → length out + entryLength ≤ length list → entered (listed out list) (length out) a b c d ≡ listed (out ++ (a ∷ b ∷ c ∷ d ∷ [])) list
 unfolding entered
 listed-entry out list a b c d h =
     let n = length out in
@@ -41,10 +42,10 @@ module _ (st : State) (k s : ℕ) where
   unfolding tableAfter dispatched
   next-table = refl
 
-  pub next-list : (list : List ℤ) (n : ℕ) → length (st .entries) ≡ 4 * n → 4 * n + 4 ≤ length list → listAfter (listed (st .entries) list) n (st .table) k s ≡ listed (dispatched st k s .entries) list
+  pub next-list : (list : List ℤ) (n : ℕ) → length (st .entries) ≡ entryLength * n → entryLength * n + entryLength ≤ length list → listAfter (listed (st .entries) list) n (st .table) k s ≡ listed (dispatched st k s .entries) list
   unfolding listAfter dispatched
   next-list list n e h = rw (← e) (listed-entry (st .entries) list (pos k) (tag (st .table) k 0) (pos (size (st .table) k 0)) (pos s) (omega arith))
 
-  pub next-length : (n : ℕ) → length (st .entries) ≡ 4 * n → length (dispatched st k s .entries) ≡ 4 * (n + 1)
+  pub next-length : (n : ℕ) → length (st .entries) ≡ entryLength * n → length (dispatched st k s .entries) ≡ entryLength * (n + 1)
   unfolding dispatched
   next-length n e = omega (arith, length-append (st .entries) (pos k ∷ tag (st .table) k 0 ∷ pos (size (st .table) k 0) ∷ pos s ∷ []))

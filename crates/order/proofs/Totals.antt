@@ -1,5 +1,5 @@
 -- The sums under a class are small where every record is in order.
-use Prim.Native.Nat.{ℕ, _≤_, _^_}
+use Prim.Native.Nat.{ℕ, _≤_, _^_, _*_}
 use mathlib.Core.Path.{_≡_}
 use mathlib.Core.Bool.{true}
 use mathlib.Core.List.{List}
@@ -7,6 +7,7 @@ use native.Mathlib.Omega.{arith}
 use lib.IntN.{ℤ}
 use Rattle.numbers.specs.Whole.{plus, minus}
 use Rattle.numbers.proofs.Sums.{sum-bound}
+use Rattle.table.specs.Limits.{nodes, depthAt, balanceAt, lastLevel, greatestDepth, greatestRate, grainScale}
 use Rattle.table.specs.Places.{place, balance, depthGrains}
 use Rattle.table.specs.Tree.{treeOf, childOf, countIf, sumUnder}
 use Rattle.table.proofs.Facts.{limits-of}
@@ -19,9 +20,9 @@ use Rattle.records.proofs.Nodes.{Node, node-at}
 
 -- A node's depth and the parts of its balance.
 pub record Small (t : List ℤ) (k : ℕ) : Type 0 where
-  pub depth : plus (place t k 5) ≤ 1000000
-  pub credit : plus (place t k 7) ≤ 1000000000
-  pub debt : minus (place t k 7) ≤ 4000000000
+  pub depth : plus (place t k depthAt) ≤ greatestDepth
+  pub credit : plus (place t k balanceAt) ≤ greatestRate
+  pub debt : minus (place t k balanceAt) ≤ lastLevel * (greatestDepth * grainScale)
 
 pub small : (t : List ℤ) (k : ℕ) → Node t k → Small t k
 unfolding treeOf balance depthGrains
@@ -36,4 +37,4 @@ summable which t h =
 pub sum-small : (which : ℕ) (t : List ℤ) → recordsInOrder t ≡ true → (c : ℕ) → sumUnder (treeOf t) c (term which t) ≤ 2 ^ 63
 unfolding sumUnder
 sum-small which t h c =
-    omega (arith, sum-bound 64 (2 ^ 57) (λ k. countIf (childOf (treeOf t) c k) (term which t) k) (λ k hk. child-small which t (summable which t h) c k hk))
+    omega (arith, sum-bound nodes (2 ^ 57) (λ k. countIf (childOf (treeOf t) c k) (term which t) k) (λ k hk. child-small which t (summable which t h) c k hk))

@@ -14,6 +14,7 @@ use Rattle.numbers.proofs.Tests.{by-test, true-false}
 use Rattle.numbers.proofs.Every.{head-holds, rest-hold, holds-with, none-left}
 use Rattle.numbers.proofs.All.{all-at, all-intro}
 use Rattle.numbers.proofs.Parts.{zarith, add-parts, one-is-zero, plus-pos}
+use Rattle.table.specs.Limits.{tableLength, recordLength, nodes, sortAt, waitingAt, class, client, wholeShare, mostWaiting}
 use Rattle.table.specs.Places.{place, balance, waiting, depthGrains}
 use Rattle.table.specs.Tree.{treeOf, there, isClass, isClient, sumUnder, eachNode, eachClass, eachClient}
 use Rattle.table.specs.Rates.{fixedSum}
@@ -31,17 +32,17 @@ use Rattle.records.proofs.Bounds.{bounds}
 use Rattle.records.proofs.Nodes.{Node, node-at, zero-at, records-by}
 
 pub record Stages (t : List ℤ) : Type 0 where
-  pub long : length t ≡ 2568
+  pub long : length t ≡ tableLength
   pub header : headerInOrder t ≡ true
   pub root : rootInOrder t ≡ true
   pub records : recordsInOrder t ≡ true
   pub classes : eachClass (treeOf t) (classCovers t) ≡ true
   pub rates : eachNode (treeOf t) (rateInOrder t) ≡ true
-  pub queues : allBelow 64 (waitingInOrder t) ≡ true
+  pub queues : allBelow nodes (waitingInOrder t) ≡ true
 
 -- What a class covers, as facts.
 pub record Covers (t : List ℤ) (c : ℕ) : Type 0 where
-  pub shares : fixedSum (treeOf t) c ≤ 10000
+  pub shares : fixedSum (treeOf t) c ≤ wholeShare
   pub depths : sumUnder (treeOf t) c (treeOf t .depth) ≤ treeOf t .depth c
   pub line : sumUnder (treeOf t) c (λ k. plus (balance t k)) + minus (balance t c) ≤ sumUnder (treeOf t) c (λ k. minus (balance t k)) + plus (balance t c) + depthGrains t c
 
@@ -50,7 +51,7 @@ unfolding classCovers
 covers-of t c h =
     let h1 = rest-hold _ _ h in
     record {
-      shares = leb-true (fixedSum (treeOf t) c) 10000 (head-holds _ _ h);
+      shares = leb-true (fixedSum (treeOf t) c) wholeShare (head-holds _ _ h);
       depths = leb-true (sumUnder (treeOf t) c (treeOf t .depth)) (treeOf t .depth c) (head-holds _ _ h1);
       line = leb-true (sumUnder (treeOf t) c (λ k. plus (balance t k)) + minus (balance t c)) (sumUnder (treeOf t) c (λ k. minus (balance t k)) + plus (balance t c) + depthGrains t c) (head-holds _ _ (rest-hold _ _ h1));
     }
@@ -60,27 +61,27 @@ unfolding classCovers
 of-covers t c f =
     holds-with _ _ (le-leb _ _ (f .shares)) (holds-with _ _ (le-leb _ _ (f .depths)) (holds-with _ _ (le-leb _ _ (f .line)) none-left))
 
-pub covers-at : (t : List ℤ) → eachClass (treeOf t) (classCovers t) ≡ true → (c : ℕ) → c < 64 → isClass (treeOf t) c ≡ true → Covers t c
+pub covers-at : (t : List ℤ) → eachClass (treeOf t) (classCovers t) ≡ true → (c : ℕ) → c < nodes → isClass (treeOf t) c ≡ true → Covers t c
 unfolding eachClass
 covers-at t h c hc e = covers-of t c (each-at (isClass (treeOf t)) (classCovers t) h c hc e)
 
 -- A node at which requests wait is a client.
-idle : (t : List ℤ) → InOrder t → (k : ℕ) → k < 64 → isClient (treeOf t) k ≡ false → waiting t k ≡ 0
+idle : (t : List ℤ) → InOrder t → (k : ℕ) → k < nodes → isClient (treeOf t) k ≡ false → waiting t k ≡ 0
 unfolding treeOf there isClass isClient waiting
 idle t f k hk other =
     by-test (isClass (treeOf t) k) (λ e. f .class k hk e .idle)
     (λ d. by-test (there (treeOf t) k)
     (λ e.
     let l = f .limits k hk e in
-    omega (arith, zarith, eqb-false (plus (place t k 0)) 2 other, eqb-false (plus (place t k 0)) 1 d))
-    (λ e. ap plus (f .empty k hk e 8 (omega arith)) ∙ plus-pos 0))
+    omega (arith, zarith, eqb-false (plus (place t k sortAt)) client other, eqb-false (plus (place t k sortAt)) class d))
+    (λ e. ap plus (f .empty k hk e waitingAt (omega arith)) ∙ plus-pos 0))
 
 queue-empty : (t : List ℤ) (k : ℕ) → waiting t k ≡ 0 → queueInOrder t k ≡ true
 unfolding queueInOrder
 queue-empty t k e = all-intro (waiting t k) (requestInOrder t k) (λ i hi. absurd (omega arith))
 
 -- A table in order passes each stage.
-node-in : (t : List ℤ) → inOrder t ≡ true → (k : ℕ) → k < 64 → there (treeOf t) k ≡ true → Node t k
+node-in : (t : List ℤ) → inOrder t ≡ true → (k : ℕ) → k < nodes → there (treeOf t) k ≡ true → Node t k
 unfolding inOrder eachNode plus minus
 node-in t h k hk e =
     let f = facts t h in
@@ -110,18 +111,18 @@ stages t h =
       long = f .long;
       header = head-holds _ _ h1;
       root = head-holds _ _ h5;
-      records = records-by t (node-in t h) (λ k hk e. all-intro 40 (λ p. isZero (place t k p)) (λ p hp. at-zero _ (f .empty k hk e p hp)));
+      records = records-by t (node-in t h) (λ k hk e. all-intro recordLength (λ p. isZero (place t k p)) (λ p hp. at-zero _ (f .empty k hk e p hp)));
       classes = at-each (isClass (treeOf t)) (classCovers t)
           (λ c hc e.
           let r = balance-room t c (f .balances c hc (class-there (treeOf t) c e)) .class e in
           of-covers t c (record { shares = f .class c hc e .shares; depths = f .class c hc e .depths; line = omega arith }));
       rates = head-holds _ _ h8;
-      queues = all-intro 64 (waitingInOrder t)
+      queues = all-intro nodes (waitingInOrder t)
           (λ k hk.
           holds-with _ _
           (by-test (isClient (treeOf t) k) (λ e. each-at (isClient (treeOf t)) (queueInOrder t) (head-holds _ _ h10) k hk e)
           (λ e. queue-empty t k (idle t f k hk e)))
-          (holds-with _ _ (all-at 64 (arrivalsDiffer t) (head-holds _ _ (rest-hold _ _ h10)) k hk) none-left));
+          (holds-with _ _ (all-at nodes (arrivalsDiffer t) (head-holds _ _ (rest-hold _ _ h10)) k hk) none-left));
     }
 
 -- A table that passes all is in order.
@@ -146,10 +147,10 @@ unfolding inOrder eachClass eachNode eachClient unusedInOrder waitingInOrder
 from-stages t s =
     let node = node-at t (s .records) in
     let covers = covers-at t (s .classes) in
-    let queue = all-at 64 (waitingInOrder t) (s .queues) in
+    let queue = all-at nodes (waitingInOrder t) (s .queues) in
     holds-with _ _ (eq-eqb _ _ (s .long))
     (holds-with _ _ (s .header)
-    (holds-with _ _ (at-each (λ k. not (there (treeOf t) k)) (λ k. allBelow 40 (λ p. isZero (place t k p))) (λ k hk e. zero-at t (s .records) k hk (not-true _ e)))
+    (holds-with _ _ (at-each (λ k. not (there (treeOf t) k)) (λ k. allBelow recordLength (λ p. isZero (place t k p))) (λ k hk e. zero-at t (s .records) k hk (not-true _ e)))
     (holds-with _ _ (at-each (there (treeOf t)) (limitsKept t) (λ k hk e. node k hk e .limits))
     (holds-with _ _ (at-each (there (treeOf t)) (spareInOrder t) (λ k hk e. node k hk e .spare))
     (holds-with _ _ (s .root)
@@ -158,21 +159,21 @@ from-stages t s =
     (holds-with _ _ (s .rates)
     (holds-with _ _ (at-each (there (treeOf t)) (balanceInOrder t) (λ k hk e. balance-in t k (node k hk e) (covers k hk)))
     (holds-with _ _ (at-each (isClient (treeOf t)) (queueInOrder t) (λ k hk e. head-holds _ _ (queue k hk)))
-    (holds-with _ _ (all-intro 64 (arrivalsDiffer t) (λ k hk. head-holds _ _ (rest-hold _ _ (queue k hk)))) none-left)))))))))))
+    (holds-with _ _ (all-intro nodes (arrivalsDiffer t) (λ k hk. head-holds _ _ (rest-hold _ _ (queue k hk)))) none-left)))))))))))
 
 -- What the stages up to the classes make of a table: its rates can be reckoned.
-pub can-be-rated : (t : List ℤ) → length t ≡ 2568 → rootInOrder t ≡ true → recordsInOrder t ≡ true → eachClass (treeOf t) (classCovers t) ≡ true → Rated t
+pub can-be-rated : (t : List ℤ) → length t ≡ tableLength → rootInOrder t ≡ true → recordsInOrder t ≡ true → eachClass (treeOf t) (classCovers t) ≡ true → Rated t
 can-be-rated t long root records classes =
     let node = node-at t records in
     rated-of t long (root-of t root) (λ k hk e. limits-of t k (node k hk e .limits)) (λ k hk e ne. child-of (treeOf t) k (node k hk e .parent) ne)
     (λ c hc e. covers-at t classes c hc e .shares)
 
 -- No node has more than 8 requests waiting.
-pub waiting-small : (t : List ℤ) → recordsInOrder t ≡ true → (k : ℕ) → k < 64 → waiting t k ≤ 8
+pub waiting-small : (t : List ℤ) → recordsInOrder t ≡ true → (k : ℕ) → k < nodes → waiting t k ≤ mostWaiting
 unfolding waiting
 waiting-small t h k hk =
     by-test (there (treeOf t) k) (λ e. bounds t k (node-at t h k hk e .limits) .waiting)
-    (λ e. omega (arith, ap plus (zero-of _ (all-at 40 (λ p. isZero (place t k p)) (zero-at t h k hk e) 8 (omega arith))), plus-pos 0))
+    (λ e. omega (arith, ap plus (zero-of _ (all-at recordLength (λ p. isZero (place t k p)) (zero-at t h k hk e) waitingAt (omega arith))), plus-pos 0))
 
 -- One stage that fails is enough.
 pub out-of-order : (t : List ℤ) (b : Bool) → (Stages t → b ≡ true) → b ≡ false → false ≡ inOrder t

@@ -11,6 +11,7 @@ use lib.Seq.{getD-set-same, getD-set-other}
 use lib.IntN.{ℤ}
 use Rattle.numbers.proofs.Tests.{true-false}
 use Rattle.numbers.proofs.Every.{head-holds, rest-hold, holds-with, none-left}
+use Rattle.table.specs.Limits.{nodes, lastNode, root, lastLevel}
 use Rattle.table.specs.Places.{rate}
 use Rattle.table.specs.Tree.{Tree, treeOf, there}
 use Rattle.table.specs.Rates.{rateIn}
@@ -34,7 +35,7 @@ level-is tree l k h = eqb-true (tree .level k) l (head-holds _ _ (rest-hold _ _ 
 -- The nodes above level l have their rates, and so have those below n at level l.
 pub record SoFar (t : List ℤ) (l n : ℕ) (rates : List ℕ) : Type 0 where
   pub above : RatesAbove t l rates
-  pub here : (k : ℕ) → k < n → k < 64 → there (treeOf t) k ≡ true → treeOf t .level k ≡ l → getD rates k 0 ≡ rateIn (treeOf t) (rate t 0) k
+  pub here : (k : ℕ) → k < n → k < nodes → there (treeOf t) k ≡ true → treeOf t .level k ≡ l → getD rates k 0 ≡ rateIn (treeOf t) (rate t root) k
 
 -- The root has no level but 0.
 pub so-far-start : (t : List ℤ) (l : ℕ) (rates : List ℕ) → Rated t → 0 < l → RatesAbove t l rates → SoFar t l 1 rates
@@ -47,7 +48,7 @@ so-far-start t l rates f low above =
           absurd (omega (arith, ap (treeOf t .level) z));
     }
 
-pub so-far-write : (t : List ℤ) (l n v : ℕ) (rates : List ℕ) → n < 64 → treeOf t .level n ≡ l → v ≡ rateIn (treeOf t) (rate t 0) n → SoFar t l n rates → SoFar t l (n + 1) (set rates n v)
+pub so-far-write : (t : List ℤ) (l n v : ℕ) (rates : List ℕ) → n < nodes → treeOf t .level n ≡ l → v ≡ rateIn (treeOf t) (rate t root) n → SoFar t l n rates → SoFar t l (n + 1) (set rates n v)
 so-far-write t l n v rates wide at is f =
     let long = f .above .long in
     record {
@@ -67,7 +68,7 @@ so-far-skip t l n rates skipped f =
       here = λ k hk most e level. elim (ℕ-discrete k n) [ yes same ↦ absurd (true-false (at-level (treeOf t) l k e level) (rw same skipped)) | no other ↦ f .here k (omega arith) most e level ];
     }
 
-pub so-far-end : (t : List ℤ) (l : ℕ) (rates : List ℕ) → SoFar t l 64 rates → RatesAbove t (l + 1) rates
+pub so-far-end : (t : List ℤ) (l : ℕ) (rates : List ℕ) → SoFar t l nodes rates → RatesAbove t (l + 1) rates
 so-far-end t l rates f =
     record {
       long = f .above .long;
@@ -75,14 +76,14 @@ so-far-end t l rates f =
     }
 
 -- The root's rate is known before all others, and after the last level every rate is.
-pub rates-start : (t : List ℤ) (r : ℕ) (rest : List ℕ) → Rated t → length rest ≡ 63 → r ≡ rate t 0 → RatesAbove t 1 (r ∷ rest)
+pub rates-start : (t : List ℤ) (r : ℕ) (rest : List ℕ) → Rated t → length rest ≡ lastNode → r ≡ rate t root → RatesAbove t 1 (r ∷ rest)
 rates-start t r rest f long disk =
     record {
       long = ap suc long;
       at = λ k hk e high.
           let z = only-root t f k hk e (omega arith) in
-          rw z (disk ∙ sym (rate-at-root (treeOf t) (rate t 0) 0 (f .top)));
+          rw z (disk ∙ sym (rate-at-root (treeOf t) (rate t root) 0 (f .top)));
     }
 
-pub rates-end : (t : List ℤ) (l : ℕ) (rates : List ℕ) → Rated t → 4 < l → RatesAbove t l rates → (k : ℕ) → k < 64 → there (treeOf t) k ≡ true → getD rates k 0 ≡ rateIn (treeOf t) (rate t 0) k
+pub rates-end : (t : List ℤ) (l : ℕ) (rates : List ℕ) → Rated t → lastLevel < l → RatesAbove t l rates → (k : ℕ) → k < nodes → there (treeOf t) k ≡ true → getD rates k 0 ≡ rateIn (treeOf t) (rate t root) k
 rates-end t l rates f last above k hk e = above .at k hk e (elim (ℕ-discrete k 0) [ yes z ↦ (let top = f .top in omega (arith, ap (treeOf t .level) z)) | no ne ↦ (let p = f .node k hk e ne in omega arith) ])

@@ -13,6 +13,7 @@ use lib.IntN.{ℤ}
 use Rattle.numbers.specs.Whole.{plus}
 use Rattle.numbers.proofs.Tests.{by-test}
 use Rattle.numbers.proofs.Parts.{plus-pos, zarith}
+use Rattle.table.specs.Limits.{tableLength, nodes, root, wholeShare, greatestRate}
 use Rattle.table.specs.Places.{rate}
 use Rattle.table.specs.Tree.{Tree, treeOf, there, isClass, isFixed, childOf}
 use Rattle.table.specs.Rates.{fixedShare, weight, fixedSum, weightSum, rateIn, renewed}
@@ -26,7 +27,7 @@ use Rattle.rating.specs.Rated.{Placed, Rated}
 use Rattle.rating.proofs.Terms.{fixed-term, weight-term}
 
 -- A rate times a share fits 64 bits.
-pub product-small : (r s : ℕ) → r ≤ 1000000000 → s ≤ 10000 → r * s ≤ 10000000000000
+pub product-small : (r s : ℕ) → r ≤ greatestRate → s ≤ wholeShare → r * s ≤ greatestRate * wholeShare
 product-small r s hr hs = mul-le-mul hr hs
 
 -- A share counts where it is fixed.
@@ -48,7 +49,7 @@ placed-child : (tree : Tree) (k : ℕ) → there tree k ≡ true → (k ≡ 0 �
 placed-child tree k e ne = child-of tree (tree .parent k) k (record { there = e; below = ne; parent = refl })
 
 -- So the weights under its parent are more than nothing where it is weighted.
-pub weights-there : (tree : Tree) (k : ℕ) → k < 64 → there tree k ≡ true → (k ≡ 0 → ⊥) → Placed tree k → isFixed tree k ≡ false → 1 ≤ weightSum tree (tree .parent k)
+pub weights-there : (tree : Tree) (k : ℕ) → k < nodes → there tree k ≡ true → (k ≡ 0 → ⊥) → Placed tree k → isFixed tree k ≡ false → 1 ≤ weightSum tree (tree .parent k)
 weights-there tree k hk e ne p weighted = omega (arith, weight-le-sum tree (tree .parent k) k hk (placed-child tree k e ne) weighted)
 
 module _ (t : List ℤ) (f : Rated t) where
@@ -67,27 +68,27 @@ module _ (t : List ℤ) (f : Rated t) where
       }
 
   -- A node at level 0 is the root.
-  pub only-root : (k : ℕ) → k < 64 → there (treeOf t) k ≡ true → treeOf t .level k ≡ 0 → k ≡ 0
+  pub only-root : (k : ℕ) → k < nodes → there (treeOf t) k ≡ true → treeOf t .level k ≡ 0 → k ≡ 0
   only-root k hk e top = elim (ℕ-discrete k 0) [ yes z ↦ z | no ne ↦ absurd (let p = f .node k hk e ne in omega arith) ]
 
-  rate-le-at : (l k : ℕ) → treeOf t .level k ≡ l → k < 64 → there (treeOf t) k ≡ true → rateIn (treeOf t) (rate t 0) k ≤ rate t 0
-  rate-le-at zero k at hk e = omega (arith, rate-at-root (treeOf t) (rate t 0) k at)
+  rate-le-at : (l k : ℕ) → treeOf t .level k ≡ l → k < nodes → there (treeOf t) k ≡ true → rateIn (treeOf t) (rate t root) k ≤ rate t root
+  rate-le-at zero k at hk e = omega (arith, rate-at-root (treeOf t) (rate t root) k at)
   rate-le-at (suc l) k at hk e =
       let ne : k ≡ 0 → ⊥ = λ z. let top = f .top in omega (arith, ap (treeOf t .level) z) in
       let p = f .node k hk e ne in
       omega (
         arith,
-        rate-of-child (treeOf t) (rate t 0) k (p .level),
-        child-rate-le (treeOf t) (treeOf t .parent k) (rateIn (treeOf t) (rate t 0) (treeOf t .parent k)) k hk (placed-child (treeOf t) k e ne) (p .most),
+        rate-of-child (treeOf t) (rate t root) k (p .level),
+        child-rate-le (treeOf t) (treeOf t .parent k) (rateIn (treeOf t) (rate t root) (treeOf t .parent k)) k hk (placed-child (treeOf t) k e ne) (p .most),
         rate-le-at l (treeOf t .parent k) (omega arith) (p .parent) (p .above),
       )
 
   -- No rate exceeds the disk's.
-  pub rate-le-disk : (k : ℕ) → k < 64 → there (treeOf t) k ≡ true → rateIn (treeOf t) (rate t 0) k ≤ rate t 0
+  pub rate-le-disk : (k : ℕ) → k < nodes → there (treeOf t) k ≡ true → rateIn (treeOf t) (rate t root) k ≤ rate t root
   rate-le-disk k hk e = rate-le-at (treeOf t .level k) k refl hk e
 
 -- What makes a table rated: its root, the limits of its nodes, their parents, and the fixed shares under each class.
-pub rated-of : (t : List ℤ) → length t ≡ 2568 → Root t → ((k : ℕ) → k < 64 → there (treeOf t) k ≡ true → Limits t k) → ((k : ℕ) → k < 64 → there (treeOf t) k ≡ true → (k ≡ 0 → ⊥) → Child (treeOf t) k) → ((c : ℕ) → c < 64 → isClass (treeOf t) c ≡ true → fixedSum (treeOf t) c ≤ 10000) → Rated t
+pub rated-of : (t : List ℤ) → length t ≡ tableLength → Root t → ((k : ℕ) → k < nodes → there (treeOf t) k ≡ true → Limits t k) → ((k : ℕ) → k < nodes → there (treeOf t) k ≡ true → (k ≡ 0 → ⊥) → Child (treeOf t) k) → ((c : ℕ) → c < nodes → isClass (treeOf t) c ≡ true → fixedSum (treeOf t) c ≤ wholeShare) → Rated t
 unfolding treeOf rate
 rated-of t long root limits child shares =
     record {
@@ -97,7 +98,7 @@ rated-of t long root limits child shares =
       node = λ k hk e ne.
           let l = limits k hk e in
           let c = child k hk e ne in
-          let parent : treeOf t .parent k < 64 = omega (arith, zarith) in
+          let parent : treeOf t .parent k < nodes = omega (arith, zarith) in
           record {
             parent = parent;
             above = class-there (treeOf t) (treeOf t .parent k) (c .class);
@@ -114,7 +115,7 @@ pub rated : (t : List ℤ) → InOrder t → Rated t
 rated t f = rated-of t (f .long) (f .root) (f .limits) (f .child) (λ c hc e. f .class c hc e .shares)
 
 -- So can a table that is in order once its rates are renewed: what rates are reckoned from is the same before and after.
-pub rated-before : (u : List ℤ) → length u ≡ 2568 → inOrder (renewed u) ≡ true → Rated u
+pub rated-before : (u : List ℤ) → length u ≡ tableLength → inOrder (renewed u) ≡ true → Rated u
 rated-before u long h =
     let f = facts (renewed u) h in
     let r = rated (renewed u) f in
@@ -125,5 +126,5 @@ rated-before u long h =
       long = long;
       top = top;
       disk = omega (arith, r .disk, renewed-disk u long root top);
-      node = subst (λ (tree : Tree). (k : ℕ) → k < 64 → there tree k ≡ true → (k ≡ 0 → ⊥) → Placed tree k) same (r .node);
+      node = subst (λ (tree : Tree). (k : ℕ) → k < nodes → there tree k ≡ true → (k ≡ 0 → ⊥) → Placed tree k) same (r .node);
     }

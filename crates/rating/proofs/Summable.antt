@@ -11,6 +11,7 @@ use lib.IntN.{ℤ}
 use Rattle.numbers.specs.Whole.{plus, minus}
 use Rattle.numbers.proofs.Tests.{by-test}
 use Rattle.numbers.proofs.Parts.{one-is-zero, plus-pos, minus-pos, zarith}
+use Rattle.table.specs.Limits.{nodes}
 use Rattle.table.specs.Places.{balance, depthGrains}
 use Rattle.table.specs.Tree.{treeOf, there}
 use Rattle.table.specs.Rates.{fixedShare, weight}
@@ -37,7 +38,7 @@ pub record SmallBalance (t : List ℤ) (k : ℕ) : Type 0 where
   pub credit : plus (balance t k) ≤ 2 ^ 57
   pub debt : minus (balance t k) ≤ 2 ^ 57
 
-summable-of : (which : ℕ) (t : List ℤ) → ((k : ℕ) → k < 64 → there (treeOf t) k ≡ true → Limits t k) → (2 < which → (k : ℕ) → k < 64 → there (treeOf t) k ≡ true → SmallBalance t k) → Summable which t
+summable-of : (which : ℕ) (t : List ℤ) → ((k : ℕ) → k < nodes → there (treeOf t) k ≡ true → Limits t k) → (2 < which → (k : ℕ) → k < nodes → there (treeOf t) k ≡ true → SmallBalance t k) → Summable which t
 unfolding treeOf
 summable-of which t limits balances =
     record {
@@ -48,11 +49,11 @@ summable-of which t limits balances =
     }
 
 -- Fixed shares, weights and depths.
-pub limits-summable : (which : ℕ) (t : List ℤ) → which ≤ 2 → ((k : ℕ) → k < 64 → there (treeOf t) k ≡ true → Limits t k) → Summable which t
+pub limits-summable : (which : ℕ) (t : List ℤ) → which ≤ 2 → ((k : ℕ) → k < nodes → there (treeOf t) k ≡ true → Limits t k) → Summable which t
 limits-summable which t low limits = summable-of which t limits (λ w. absurd (omega arith))
 
 -- Every kind.
-pub balances-summable : (which : ℕ) (t : List ℤ) → ((k : ℕ) → k < 64 → there (treeOf t) k ≡ true → Limits t k) → ((k : ℕ) → k < 64 → there (treeOf t) k ≡ true → SmallBalance t k) → Summable which t
+pub balances-summable : (which : ℕ) (t : List ℤ) → ((k : ℕ) → k < nodes → there (treeOf t) k ≡ true → Limits t k) → ((k : ℕ) → k < nodes → there (treeOf t) k ≡ true → SmallBalance t k) → Summable which t
 balances-summable which t limits balances = summable-of which t limits (λ w. balances)
 
 pub in-order-summable : (which : ℕ) (t : List ℤ) → InOrder t → Summable which t

@@ -11,6 +11,7 @@ use lib.IntN.{ℤ}
 use Rattle.numbers.specs.Below.{sumBelow}
 use Rattle.numbers.proofs.Tests.{by-test, true-false}
 use Rattle.numbers.proofs.Sums.{sum-next, sum-bound}
+use Rattle.table.specs.Limits.{nodes}
 use Rattle.table.specs.Tree.{Tree, treeOf, there, childOf, countIf, sumUnder}
 use Rattle.treelaws.proofs.Children.{child-facts, child-of}
 use Rattle.rating.specs.Sums.{term, Summable}
@@ -39,7 +40,7 @@ module _ (tree : Tree) (c : ℕ) (f : ℕ → ℕ) where
   unfolding underBelow
   under-next n = sum-next n (λ k. countIf (childOf tree c k) f k)
 
-  pub under-end : underBelow 64 tree c f ≡ sumUnder tree c f
+  pub under-end : underBelow nodes tree c f ≡ sumUnder tree c f
   unfolding underBelow sumUnder
   under-end = refl
 
@@ -52,7 +53,7 @@ module _ (tree : Tree) (c : ℕ) (f : ℕ → ℕ) where
   under-root = under-skip 0 (λ e. child-facts tree c 0 e .below refl) ∙ under-start
 
 -- A term adds at most 2^57.
-pub child-small : (which : ℕ) (t : List ℤ) → Summable which t → (c k : ℕ) → k < 64 → countIf (childOf (treeOf t) c k) (term which t) k ≤ 2 ^ 57
+pub child-small : (which : ℕ) (t : List ℤ) → Summable which t → (c k : ℕ) → k < nodes → countIf (childOf (treeOf t) c k) (term which t) k ≤ 2 ^ 57
 child-small which t s c k hk =
     by-test (childOf (treeOf t) c k)
     (λ e.
@@ -60,13 +61,13 @@ child-small which t s c k hk =
     omega (arith, counted (childOf (treeOf t) c k) (term which t) k e, s .small k hk (child .there) (child .below)))
     (λ e. omega (arith, uncounted (childOf (treeOf t) c k) (term which t) k e))
 
-pub under-small : (which : ℕ) (t : List ℤ) → Summable which t → (n c : ℕ) → n ≤ 64 → underBelow n (treeOf t) c (term which t) ≤ n * 2 ^ 57
+pub under-small : (which : ℕ) (t : List ℤ) → Summable which t → (n c : ℕ) → n ≤ nodes → underBelow n (treeOf t) c (term which t) ≤ n * 2 ^ 57
 unfolding underBelow
 under-small which t s n c h = sum-bound n (2 ^ 57) (λ k. countIf (childOf (treeOf t) c k) (term which t) k) (λ k hk. child-small which t s c k (omega arith))
 
 -- All sums at once: node k's term is added to the sum of its parent.
 unfoldable pub AllUnder : ℕ → Tree → (ℕ → ℕ) → List ℕ → Type 0
-AllUnder n tree f sums = (c : ℕ) → c < 64 → getD sums c 0 ≡ underBelow n tree c f
+AllUnder n tree f sums = (c : ℕ) → c < nodes → getD sums c 0 ≡ underBelow n tree c f
 
 pub all-there : (tree : Tree) (f : ℕ → ℕ) (sums : List ℕ) (k p : ℕ) → there tree k ≡ true → (k ≡ 0 → ⊥) → tree .parent k ≡ p → p < length sums → AllUnder k tree f sums → AllUnder (k + 1) tree f (set sums p (getD sums p 0 + f k))
 unfolding AllUnder
@@ -86,14 +87,14 @@ pub all-skip : (tree : Tree) (f : ℕ → ℕ) (sums : List ℕ) (k : ℕ) → t
 unfolding AllUnder
 all-skip tree f sums k gone h c hc = h c hc ∙ sym (under-skip tree c f k (λ e. true-false (child-facts tree c k e .there) gone))
 
-pub all-start : (tree : Tree) (f : ℕ → ℕ) → AllUnder 1 tree f (replicate 64 0)
+pub all-start : (tree : Tree) (f : ℕ → ℕ) → AllUnder 1 tree f (replicate nodes 0)
 unfolding AllUnder
-all-start tree f c hc = getD-replicate 64 c 0 0 hc ∙ sym (under-root tree c f)
+all-start tree f c hc = getD-replicate nodes c 0 0 hc ∙ sym (under-root tree c f)
 
-pub all-end : (tree : Tree) (f : ℕ → ℕ) (sums : List ℕ) → AllUnder 64 tree f sums → (c : ℕ) → c < 64 → getD sums c 0 ≡ sumUnder tree c f
+pub all-end : (tree : Tree) (f : ℕ → ℕ) (sums : List ℕ) → AllUnder nodes tree f sums → (c : ℕ) → c < nodes → getD sums c 0 ≡ sumUnder tree c f
 unfolding AllUnder
 all-end tree f sums h c hc = h c hc ∙ under-end tree c f
 
-pub all-small : (which : ℕ) (t : List ℤ) → Summable which t → (n : ℕ) → n ≤ 64 → (sums : List ℕ) → AllUnder n (treeOf t) (term which t) sums → (c : ℕ) → c < 64 → getD sums c 0 ≤ n * 2 ^ 57
+pub all-small : (which : ℕ) (t : List ℤ) → Summable which t → (n : ℕ) → n ≤ nodes → (sums : List ℕ) → AllUnder n (treeOf t) (term which t) sums → (c : ℕ) → c < nodes → getD sums c 0 ≤ n * 2 ^ 57
 unfolding AllUnder
 all-small which t s n hn sums h c hc = omega (arith, h c hc, under-small which t s n c hn)

@@ -6,19 +6,20 @@ use mathlib.Core.List.{List}
 use native.Mathlib.Omega.{arith}
 use lib.IntN.{ℤ}
 use Rattle.numbers.proofs.Parts.{zarith}
+use Rattle.table.specs.Limits.{nodes, lastLevel, wholeShare, greatestDepth, mostWaiting}
 use Rattle.table.specs.Places.{waiting}
 use Rattle.table.specs.Tree.{treeOf}
 use Rattle.table.specs.Order.{limitsKept}
 use Rattle.table.proofs.Facts.{limits-of}
 
 pub record Bounds (t : List ℤ) (k : ℕ) : Type 0 where
-  pub parent : treeOf t .parent k < 64
-  pub level : treeOf t .level k ≤ 4
+  pub parent : treeOf t .parent k < nodes
+  pub level : treeOf t .level k ≤ lastLevel
   pub kind : treeOf t .kind k ≤ 1
-  pub share : treeOf t .share k ≤ 10000
+  pub share : treeOf t .share k ≤ wholeShare
   pub weight : 1 ≤ treeOf t .share k
-  pub depth : treeOf t .depth k ≤ 1000000
-  pub waiting : waiting t k ≤ 8
+  pub depth : treeOf t .depth k ≤ greatestDepth
+  pub waiting : waiting t k ≤ mostWaiting
 
 pub bounds : (t : List ℤ) (k : ℕ) → limitsKept t k ≡ true → Bounds t k
 unfolding treeOf waiting

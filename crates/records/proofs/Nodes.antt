@@ -12,6 +12,7 @@ use Rattle.numbers.specs.Below.{allBelow}
 use Rattle.numbers.proofs.Tests.{by-test, true-false, cond-true, cond-false, or-cases, or-true-left, or-true-right}
 use Rattle.numbers.proofs.Every.{head-holds, rest-hold, holds-with, none-left}
 use Rattle.numbers.proofs.All.{all-at, all-intro}
+use Rattle.table.specs.Limits.{recordLength, nodes, lastClassLevel, lastLevel}
 use Rattle.table.specs.Places.{place, balance, waiting, depthGrains}
 use Rattle.table.specs.Tree.{treeOf, there, isClass}
 use Rattle.table.specs.Order.{isZero, limitsKept, spareInOrder, parentInOrder}
@@ -22,10 +23,10 @@ pub record Node (t : List ℤ) (k : ℕ) : Type 0 where
   pub limits : limitsKept t k ≡ true
   pub spare : spareInOrder t k ≡ true
   pub parent : parentInOrder (treeOf t) k ≡ true
-  pub level : isClass (treeOf t) k ≡ true → treeOf t .level k ≤ 3
+  pub level : isClass (treeOf t) k ≡ true → treeOf t .level k ≤ lastClassLevel
   pub idle : isClass (treeOf t) k ≡ true → waiting t k ≡ 0
   pub most : plus (balance t k) ≤ depthGrains t k
-  pub least : minus (balance t k) ≤ 4 * depthGrains t k
+  pub least : minus (balance t k) ≤ lastLevel * depthGrains t k
   pub client : isClass (treeOf t) k ≡ false → minus (balance t k) ≡ 0
 
 node-of : (t : List ℤ) (k : ℕ) → nodeInOrder t k ≡ true → Node t k
@@ -41,10 +42,10 @@ node-of t k h =
       limits = head-holds _ _ h;
       spare = head-holds _ _ h1;
       parent = head-holds _ _ h2;
-      level = λ e. leb-true (treeOf t .level k) 3 (head-holds _ _ (placed e));
+      level = λ e. leb-true (treeOf t .level k) lastClassLevel (head-holds _ _ (placed e));
       idle = λ e. eqb-true (waiting t k) 0 (head-holds _ _ (rest-hold _ _ (placed e)));
       most = leb-true (plus (balance t k)) (depthGrains t k) (head-holds _ _ b);
-      least = leb-true (minus (balance t k)) (4 * depthGrains t k) (head-holds _ _ b1);
+      least = leb-true (minus (balance t k)) (lastLevel * depthGrains t k) (head-holds _ _ b1);
       client = λ e.
           ⊎-elim (λ d. absurd (true-false d e)) (λ d. eqb-true (minus (balance t k)) 0 d)
           (or-cases (isClass (treeOf t) k) (eqb (minus (balance t k)) 0) (head-holds _ _ (rest-hold _ _ b1)));
@@ -66,17 +67,17 @@ of-node t k f =
     none-left)))
     none-left))))
 
-pub node-at : (t : List ℤ) → recordsInOrder t ≡ true → (k : ℕ) → k < 64 → there (treeOf t) k ≡ true → Node t k
+pub node-at : (t : List ℤ) → recordsInOrder t ≡ true → (k : ℕ) → k < nodes → there (treeOf t) k ≡ true → Node t k
 unfolding recordsInOrder recordInOrder
-node-at t h k hk e = node-of t k (sym (cond-true _ _ _ e) ∙ all-at 64 (recordInOrder t) h k hk)
+node-at t h k hk e = node-of t k (sym (cond-true _ _ _ e) ∙ all-at nodes (recordInOrder t) h k hk)
 
-pub zero-at : (t : List ℤ) → recordsInOrder t ≡ true → (k : ℕ) → k < 64 → there (treeOf t) k ≡ false → allBelow 40 (λ p. isZero (place t k p)) ≡ true
+pub zero-at : (t : List ℤ) → recordsInOrder t ≡ true → (k : ℕ) → k < nodes → there (treeOf t) k ≡ false → allBelow recordLength (λ p. isZero (place t k p)) ≡ true
 unfolding recordsInOrder recordInOrder
-zero-at t h k hk e = sym (cond-false _ _ _ e) ∙ all-at 64 (recordInOrder t) h k hk
+zero-at t h k hk e = sym (cond-false _ _ _ e) ∙ all-at nodes (recordInOrder t) h k hk
 
-pub records-by : (t : List ℤ) → ((k : ℕ) → k < 64 → there (treeOf t) k ≡ true → Node t k) → ((k : ℕ) → k < 64 → there (treeOf t) k ≡ false → allBelow 40 (λ p. isZero (place t k p)) ≡ true) → recordsInOrder t ≡ true
+pub records-by : (t : List ℤ) → ((k : ℕ) → k < nodes → there (treeOf t) k ≡ true → Node t k) → ((k : ℕ) → k < nodes → there (treeOf t) k ≡ false → allBelow recordLength (λ p. isZero (place t k p)) ≡ true) → recordsInOrder t ≡ true
 unfolding recordsInOrder recordInOrder
-records-by t nodes zeros =
-    all-intro 64 (recordInOrder t)
+records-by t each zeros =
+    all-intro nodes (recordInOrder t)
     (λ k hk.
-    by-test (there (treeOf t) k) (λ e. cond-true _ _ _ e ∙ of-node t k (nodes k hk e)) (λ e. cond-false _ _ _ e ∙ zeros k hk e))
+    by-test (there (treeOf t) k) (λ e. cond-true _ _ _ e ∙ of-node t k (each k hk e)) (λ e. cond-false _ _ _ e ∙ zeros k hk e))

@@ -12,6 +12,7 @@ use lib.IntN.{ℤ, pos}
 use Rattle.numbers.specs.Below.{allBelow}
 use Rattle.numbers.proofs.Tests.{same-truth, by-test, or-cases, or-true-left, or-true-right}
 use Rattle.numbers.proofs.All.{all-at, all-intro, all-cong}
+use Rattle.table.specs.Limits.{headerLength, recordLength, spareAt, spareLength, queueAt, queueLength}
 use Rattle.table.specs.Places.{place, header}
 use Rattle.table.specs.Order.{isZero}
 use Rattle.records.specs.Record.{zeros}
@@ -20,38 +21,38 @@ use Rattle.records.specs.Record.{zeros}
 same-number : (t : List ℤ) (m n : ℕ) → m ≡ n → isZero (getD t m (pos 0)) ≡ isZero (getD t n (pos 0))
 same-number t m n e = ap (λ (i : ℕ). isZero (getD t i (pos 0))) e
 
-pub header-zeros : (t : List ℤ) → zeros t 1 7 ≡ allBelow 7 (λ p. isZero (header t (suc p)))
+pub header-zeros : (t : List ℤ) → zeros t 1 (headerLength - 1) ≡ allBelow (headerLength - 1) (λ p. isZero (header t (suc p)))
 unfolding zeros header
 header-zeros t =
-    all-cong 7 (λ p. isZero (getD t (1 + p) (pos 0))) (λ p. isZero (getD t (suc p) (pos 0)))
+    all-cong (headerLength - 1) (λ p. isZero (getD t (1 + p) (pos 0))) (λ p. isZero (getD t (suc p) (pos 0)))
     (λ p hp. same-number t (1 + p) (suc p) (omega arith))
 
-pub record-zeros : (t : List ℤ) (k : ℕ) → zeros t (8 + 40 * k) 40 ≡ allBelow 40 (λ p. isZero (place t k p))
+pub record-zeros : (t : List ℤ) (k : ℕ) → zeros t (headerLength + recordLength * k) recordLength ≡ allBelow recordLength (λ p. isZero (place t k p))
 unfolding zeros place
 record-zeros t k = refl
 
-pub spare-zeros : (t : List ℤ) (k : ℕ) → zeros t (8 + 40 * k + 9) 7 ≡ allBelow 7 (λ p. isZero (place t k (9 + p)))
+pub spare-zeros : (t : List ℤ) (k : ℕ) → zeros t (headerLength + recordLength * k + spareAt) spareLength ≡ allBelow spareLength (λ p. isZero (place t k (spareAt + p)))
 unfolding zeros place
 spare-zeros t k =
-    all-cong 7 (λ p. isZero (getD t (8 + 40 * k + 9 + p) (pos 0))) (λ p. isZero (getD t (8 + 40 * k + (9 + p)) (pos 0)))
-    (λ p hp. same-number t (8 + 40 * k + 9 + p) (8 + 40 * k + (9 + p)) (omega arith))
+    all-cong spareLength (λ p. isZero (getD t (headerLength + recordLength * k + spareAt + p) (pos 0))) (λ p. isZero (getD t (headerLength + recordLength * k + (spareAt + p)) (pos 0)))
+    (λ p hp. same-number t (headerLength + recordLength * k + spareAt + p) (headerLength + recordLength * k + (spareAt + p)) (omega arith))
 
 -- The waiting places from the first that holds no request on.
-pub queue-zeros : (t : List ℤ) (k n : ℕ) → n ≤ 24 → zeros t (8 + 40 * k + 16 + n) (24 - n) ≡ allBelow 24 (λ p. ltb p n || isZero (place t k (16 + p)))
+pub queue-zeros : (t : List ℤ) (k n : ℕ) → n ≤ queueLength → zeros t (headerLength + recordLength * k + queueAt + n) (queueLength - n) ≡ allBelow queueLength (λ p. ltb p n || isZero (place t k (queueAt + p)))
 unfolding zeros place
 queue-zeros t k n hn =
-    same-truth (allBelow (24 - n) (λ p. isZero (getD t (8 + 40 * k + 16 + n + p) (pos 0)))) (allBelow 24 (λ p. ltb p n || isZero (getD t (8 + 40 * k + (16 + p)) (pos 0))))
+    same-truth (allBelow (queueLength - n) (λ p. isZero (getD t (headerLength + recordLength * k + queueAt + n + p) (pos 0)))) (allBelow queueLength (λ p. ltb p n || isZero (getD t (headerLength + recordLength * k + (queueAt + p)) (pos 0))))
     (λ h.
-    all-intro 24 (λ p. ltb p n || isZero (getD t (8 + 40 * k + (16 + p)) (pos 0)))
+    all-intro queueLength (λ p. ltb p n || isZero (getD t (headerLength + recordLength * k + (queueAt + p)) (pos 0)))
     (λ p hp.
-    by-test (ltb p n) (or-true-left (ltb p n) (isZero (getD t (8 + 40 * k + (16 + p)) (pos 0))))
+    by-test (ltb p n) (or-true-left (ltb p n) (isZero (getD t (headerLength + recordLength * k + (queueAt + p)) (pos 0))))
     (λ e.
-    or-true-right (ltb p n) (isZero (getD t (8 + 40 * k + (16 + p)) (pos 0)))
-    (same-number t (8 + 40 * k + (16 + p)) (8 + 40 * k + 16 + n + (p - n)) (omega (arith, ltb-false p n e))
-    ∙ all-at (24 - n) (λ p. isZero (getD t (8 + 40 * k + 16 + n + p) (pos 0))) h (p - n) (omega (arith, ltb-false p n e))))))
+    or-true-right (ltb p n) (isZero (getD t (headerLength + recordLength * k + (queueAt + p)) (pos 0)))
+    (same-number t (headerLength + recordLength * k + (queueAt + p)) (headerLength + recordLength * k + queueAt + n + (p - n)) (omega (arith, ltb-false p n e))
+    ∙ all-at (queueLength - n) (λ p. isZero (getD t (headerLength + recordLength * k + queueAt + n + p) (pos 0))) h (p - n) (omega (arith, ltb-false p n e))))))
     (λ h.
-    all-intro (24 - n) (λ p. isZero (getD t (8 + 40 * k + 16 + n + p) (pos 0)))
+    all-intro (queueLength - n) (λ p. isZero (getD t (headerLength + recordLength * k + queueAt + n + p) (pos 0)))
     (λ p hp.
     ⊎-elim (λ e. absurd (omega (arith, ltb-true (n + p) n e)))
-    (λ e. same-number t (8 + 40 * k + 16 + n + p) (8 + 40 * k + (16 + (n + p))) (omega arith) ∙ e)
-    (or-cases (ltb (n + p) n) (isZero (getD t (8 + 40 * k + (16 + (n + p))) (pos 0))) (all-at 24 (λ p. ltb p n || isZero (getD t (8 + 40 * k + (16 + p)) (pos 0))) h (n + p) (omega arith)))))
+    (λ e. same-number t (headerLength + recordLength * k + queueAt + n + p) (headerLength + recordLength * k + (queueAt + (n + p))) (omega arith) ∙ e)
+    (or-cases (ltb (n + p) n) (isZero (getD t (headerLength + recordLength * k + (queueAt + (n + p))) (pos 0))) (all-at queueLength (λ p. ltb p n || isZero (getD t (headerLength + recordLength * k + (queueAt + p)) (pos 0))) h (n + p) (omega arith)))))

@@ -5,9 +5,10 @@ use mathlib.Core.Bool.{true}
 use mathlib.Core.List.{List, []}
 use native.Mathlib.Omega.{arith}
 use lib.IntN.{ℤ}
+use Rattle.table.specs.Limits.{nodes}
 use Rattle.table.specs.Places.{waiting}
 use Rattle.table.specs.Tree.{treeOf}
-use Rattle.table.specs.Tick.{State, dispatched, supplier, supplied, next, lent, allWaiting}
+use Rattle.table.specs.Tick.{nobody, State, dispatched, supplier, supplied, next, lent, allWaiting}
 use Rattle.table.proofs.Facts.{InOrder}
 use Rattle.ticklaws.proofs.Cut.{cut-reached, cut-under}
 use Rattle.ticklaws.proofs.Dispatch.{Dispatch}
@@ -28,7 +29,7 @@ record Level (u : List ℤ) : Type 0 where
   settled : Settled from u
 
 -- One dispatch of a client whose oldest request has a supplier.
-module _ (u : List ℤ) (w : Level u) (k : ℕ) (hk : k < 64) (e : supplied u k ≡ true) where
+module _ (u : List ℤ) (w : Level u) (k : ℕ) (hk : k < nodes) (e : supplied u k ≡ true) where
   turn : Dispatch (treeOf (w .from)) u (tableAfter u k (supplier u k)) k (supplier u k)
   unfolding tableAfter
   turn = lent-dispatch (w .from) (w .order) (record { table = u; entries = [] }) (w .settled) k hk (supplied-facts u k e)
@@ -55,7 +56,7 @@ lending-level (lent-one u k s hk e) = turn-level u (lending-level s) k hk e
 pub lending-within : (u : List ℤ) → Lending u → Within u
 lending-within u s = let w = lending-level s in within u (settled-way (w .from) u (w .order) (w .settled))
 
-lent-falls : (u : List ℤ) → Lending u → (k : ℕ) → k < 64 → supplied u k ≡ true → allWaiting (tableAfter u k (supplier u k)) + 1 ≡ allWaiting u
+lent-falls : (u : List ℤ) → Lending u → (k : ℕ) → k < nodes → supplied u k ≡ true → allWaiting (tableAfter u k (supplier u k)) + 1 ≡ allWaiting u
 lent-falls u s k hk e =
     let w = lending-level s in
     waiting-falls (treeOf (w .from)) u (tableAfter u k (supplier u k)) k (supplier u k) hk (turn u w k hk e)
@@ -64,12 +65,12 @@ lent-falls u s k hk e =
 pub record Next (t : List ℤ) (k s : ℕ) : Type 0 where
   pub client : k ≡ next t
   pub node : s ≡ supplier t k
-  pub some : k ≡ 64 → ⊥
+  pub some : k ≡ nobody → ⊥
 
 pub record Found (t : List ℤ) (k s : ℕ) : Type 0 where
-  pub low : k < 64
+  pub low : k < nodes
   pub has : supplied t k ≡ true
-  pub node : s < 64
+  pub node : s < nodes
   pub waits : 0 < waiting t k
 
 pub found : (t : List ℤ) (k s : ℕ) → Next t k s → Found t k s
@@ -94,7 +95,7 @@ lending-again st on k s n =
     ∙ ap (λ j. lent m (dispatched st j (supplier (st .table) j))) (sym (n .client))
     ∙ ap (λ j. lent m (dispatched st k j)) (sym (n .node))
 
-lent-idle : (n : ℕ) (st : State) → next (st .table) ≡ 64 → lent n st ≡ st
+lent-idle : (n : ℕ) (st : State) → next (st .table) ≡ nobody → lent n st ≡ st
 unfolding lent
 lent-idle zero st e = refl
 lent-idle (suc n) st e = lent-done n st e
@@ -108,6 +109,6 @@ lending-turn t on k s n =
       again = λ st same. lending-again st (subst Lending same on) k s (subst (λ (u : List ℤ). Next u k s) same n);
     }
 
-pub lending-done : (t : List ℤ) → next t ≡ 64 → (st : State) → t ≡ st .table → lending st ≡ st
+pub lending-done : (t : List ℤ) → next t ≡ nobody → (st : State) → t ≡ st .table → lending st ≡ st
 unfolding lending
 lending-done t e st same = lent-idle (allWaiting (st .table)) st (sym (ap next same) ∙ e)

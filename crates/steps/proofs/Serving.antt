@@ -13,6 +13,7 @@ use Rattle.numbers.proofs.Tests.{by-test}
 use Rattle.numbers.proofs.Every.{head-fails, every-two}
 use Rattle.numbers.proofs.Parts.{zarith, add-parts, one-is-zero, plus-pos}
 use Rattle.numbers.proofs.Steps.{for-keeps}
+use Rattle.table.specs.Limits.{nodes, waitingAt, queueAt, sizeAt, grainScale, entryLength}
 use Rattle.table.specs.Places.{place, rate, balance, waiting, size}
 use Rattle.table.specs.Tree.{treeOf, there}
 use Rattle.table.specs.Tick.{State, grains, enough, grown, dispatched, ready, served, allWaiting}
@@ -29,7 +30,7 @@ use Rattle.steps.specs.Steps.{Serving, grew, served-one, Shows, serving}
 use Rattle.steps.proofs.Within.{Way, depth-small, rate-small, within}
 use Rattle.steps.proofs.Shows.{Turn}
 
-grown-credit : (t : List ℤ) → InOrder t → (k : ℕ) → k < 64 → plus (balance (grown t) k) ≤ 2 ^ 60
+grown-credit : (t : List ℤ) → InOrder t → (k : ℕ) → k < nodes → plus (balance (grown t) k) ≤ 2 ^ 60
 unfolding plus minus
 grown-credit t f k hk =
     by-test (there (treeOf t) k)
@@ -48,16 +49,16 @@ grown-credit t f k hk =
 
 -- Whether a client is ready: not where nothing waits, and else by its balance.
 module _ (t : List ℤ) (k : ℕ) where
-  pub not-waiting : plus (place t k 8) ≡ 0 → false ≡ ready t k
+  pub not-waiting : plus (place t k waitingAt) ≡ 0 → false ≡ ready t k
   unfolding ready waiting
   not-waiting e = sym (head-fails _ _ (le-ltb 0 (waiting t k) (omega arith)))
 
-  pub is-waiting : (plus (place t k 8) ≡ 0 → ⊥) → ready t k ≡ enough t (plus (place t k 17) * 1000) k
+  pub is-waiting : (plus (place t k waitingAt) ≡ 0 → ⊥) → ready t k ≡ enough t (plus (place t k (queueAt + sizeAt)) * grainScale) k
   unfolding ready waiting grains size
-  is-waiting w = every-two _ _ ∙ ap (λ b. b && enough t (plus (place t k 17) * 1000) k) (lt-ltb 0 (waiting t k) (omega arith))
+  is-waiting w = every-two _ _ ∙ ap (λ b. b && enough t (plus (place t k (queueAt + sizeAt)) * grainScale) k) (lt-ltb 0 (waiting t k) (omega arith))
 
 -- One dispatch of a ready client.
-module _ (u : List ℤ) (w : Way u) (k : ℕ) (hk : k < 64) (e : ready u k ≡ true) where
+module _ (u : List ℤ) (w : Way u) (k : ℕ) (hk : k < nodes) (e : ready u k ≡ true) where
   turn : Dispatch (treeOf (w .from)) u (tableAfter u k k) k k
   unfolding tableAfter
   turn =
@@ -87,7 +88,7 @@ pub serving-within : (u : List ℤ) → Serving u → Within u
 serving-within u s = within u (serving-way s)
 
 -- One request less waits.
-module _ (u : List ℤ) (s : Serving u) (k : ℕ) (hk : k < 64) (e : ready u k ≡ true) where
+module _ (u : List ℤ) (s : Serving u) (k : ℕ) (hk : k < nodes) (e : ready u k ≡ true) where
   pub served-own : waiting (tableAfter u k k) k + 1 ≡ waiting u k
   served-own = turn u (serving-way s) k hk e .own .waits
 
@@ -95,7 +96,7 @@ module _ (u : List ℤ) (s : Serving u) (k : ℕ) (hk : k < 64) (e : ready u k �
   served-falls = waiting-falls (treeOf (serving-way s .from)) u (tableAfter u k k) k k hk (turn u (serving-way s) k hk e)
 
 -- Serving a client goes on while it is ready, and then is done.
-serving-again : (k : ℕ) (st : State) → Serving (st .table) → k < 64 → ready (st .table) k ≡ true → serving k st ≡ serving k (dispatched st k k)
+serving-again : (k : ℕ) (st : State) → Serving (st .table) → k < nodes → ready (st .table) k ≡ true → serving k st ≡ serving k (dispatched st k k)
 unfolding serving
 serving-again k st s hk e =
     let m = waiting (dispatched st k k .table) k in
@@ -107,7 +108,7 @@ unfolding served
 served-idle zero k st e = refl
 served-idle (suc n) k st e = served-done n k st e
 
-pub serving-turn : (k : ℕ) (t : List ℤ) → Serving t → k < 64 → ready t k ≡ true → Turn Serving (serving k) t k k
+pub serving-turn : (k : ℕ) (t : List ℤ) → Serving t → k < nodes → ready t k ≡ true → Turn Serving (serving k) t k k
 serving-turn k t s hk e =
     record {
       on = served-one t k s hk e;
@@ -122,9 +123,9 @@ serving-done k t e st same = served-idle (waiting (st .table) k) k st (subst (λ
 -- A state of step 2 in which entries written and requests still waiting, four numbers for each, make n in all.
 record Counted (n : ℕ) (st : State) : Type 0 where
   at : Serving (st .table)
-  sum : length (st .entries) + 4 * allWaiting (st .table) ≡ n
+  sum : length (st .entries) + entryLength * allWaiting (st .table) ≡ n
 
-counted-next : (n k : ℕ) (st : State) → k < 64 → Counted n st → ready (st .table) k ≡ true → Counted n (dispatched st k k)
+counted-next : (n k : ℕ) (st : State) → k < nodes → Counted n st → ready (st .table) k ≡ true → Counted n (dispatched st k k)
 counted-next n k st hk c e =
     let same = next-table st k k in
     record {
@@ -132,7 +133,7 @@ counted-next n k st hk c e =
       sum = omega (arith, c .sum, dispatch-entry st k k, served-falls (st .table) (c .at) k hk e, ap allWaiting same);
     }
 
-counted-served : (n m : ℕ) (st : State) → m ≤ 64 → Counted n st → Counted n (forBelow m serving st)
+counted-served : (n m : ℕ) (st : State) → m ≤ nodes → Counted n st → Counted n (forBelow m serving st)
 unfolding serving
 counted-served n m st hm =
     for-keeps (Counted n) m serving
@@ -142,10 +143,10 @@ counted-served n m st hm =
 -- The table u and the list, with n entries, after the clients below m were served.
 pub record Passed (t u : List ℤ) (n : ℕ) : Type 0 where
   pub on : Serving u
-  pub sum : 4 * n + 4 * allWaiting u ≡ 4 * allWaiting t
+  pub sum : entryLength * n + entryLength * allWaiting u ≡ entryLength * allWaiting t
 
-pub passed : (t l : List ℤ) → Serving t → (m : ℕ) → m ≤ 64 → (u v : List ℤ) (n : ℕ) → Shows l (forBelow m serving (record { table = t; entries = [] })) u v n → Passed t u n
+pub passed : (t l : List ℤ) → Serving t → (m : ℕ) → m ≤ nodes → (u v : List ℤ) (n : ℕ) → Shows l (forBelow m serving (record { table = t; entries = [] })) u v n → Passed t u n
 passed t l s m hm u v n h =
     let st : State = record { table = t; entries = [] } in
-    let c = counted-served (4 * allWaiting t) m st hm (record { at = s; sum = omega arith }) in
+    let c = counted-served (entryLength * allWaiting t) m st hm (record { at = s; sum = omega arith }) in
     record { on = rw (h .table) (c .at); sum = omega (arith, c .sum, h .count, ap allWaiting (h .table)) }

@@ -6,6 +6,7 @@ use mathlib.Core.List.{List, []}
 use native.Mathlib.Omega.{arith}
 use lib.ListN.{length, drop, length-append, length-drop}
 use lib.IntN.{ℤ}
+use Rattle.table.specs.Limits.{entryLength}
 use Rattle.table.specs.Tick.{State, dispatched, listed, allWaiting}
 use Rattle.dispatch.specs.Entries.{tableAfter, listAfter}
 use Rattle.dispatch.proofs.Listed.{next-table, next-list, next-length}
@@ -16,7 +17,7 @@ listed-length : (entries first : List ℤ) → length (listed entries first) ≡
 unfolding listed
 listed-length entries first = length-append entries (drop (length entries) first) ∙ ap (λ n. length entries + n) (length-drop (length entries) first)
 
-shows-next : (first : List ℤ) (st : State) (t l : List ℤ) (n k s : ℕ) → Shows first st t l n → 4 * n + 4 ≤ length l → Shows first (dispatched st k s) (tableAfter t k s) (listAfter l n t k s) (n + 1)
+shows-next : (first : List ℤ) (st : State) (t l : List ℤ) (n k s : ℕ) → Shows first st t l n → entryLength * n + entryLength ≤ length l → Shows first (dispatched st k s) (tableAfter t k s) (listAfter l n t k s) (n + 1)
 shows-next first st t l n k s h room =
     record {
       table = ap (λ (u : List ℤ). tableAfter u k s) (h .table) ∙ next-table st k s;
@@ -36,7 +37,7 @@ shows-first t l = record { table = refl; list = refl; count = refl }
 -- wait, and what is left of the step from here amounts to the whole of it from the start.
 pub record Going (On : List ℤ → Type 0) (step : State → State) (t₀ l₀ : List ℤ) (n₀ : ℕ) (t l : List ℤ) (n : ℕ) : Type 0 where
   pub on : On t
-  pub room : 4 * n + 4 * allWaiting t ≤ length l
+  pub room : entryLength * n + entryLength * allWaiting t ≤ length l
   pub left : (t' l' : List ℤ) (n' : ℕ) → Follows step t l n t' l' n' → Follows step t₀ l₀ n₀ t' l' n'
 
 -- A turn of the loop: a dispatch for client k with node s as supplier is the first of the step.
@@ -46,7 +47,7 @@ pub record Turn (On : List ℤ → Type 0) (step : State → State) (t : List �
   pub again : (st : State) → t ≡ st .table → step st ≡ step (dispatched st k s)
 
 module _ (On : List ℤ → Type 0) (step : State → State) (t₀ l₀ : List ℤ) (n₀ : ℕ) where
-  pub going-first : On t₀ → 4 * n₀ + 4 * allWaiting t₀ ≤ length l₀ → Going On step t₀ l₀ n₀ t₀ l₀ n₀
+  pub going-first : On t₀ → entryLength * n₀ + entryLength * allWaiting t₀ ≤ length l₀ → Going On step t₀ l₀ n₀ t₀ l₀ n₀
   going-first on room = record { on = on; room = room; left = λ t' l' n' f. f }
 
   pub going-next : (t l : List ℤ) (n k s : ℕ) → Going On step t₀ l₀ n₀ t l n → Turn On step t k s → (u m : List ℤ) → u ≡ tableAfter t k s → m ≡ listAfter l n t k s → length m ≡ length l → Going On step t₀ l₀ n₀ u m (n + 1)

@@ -5,6 +5,7 @@ use mathlib.Core.Bool.{true}
 use mathlib.Core.List.{List, []}
 use native.Mathlib.Omega.{arith}
 use lib.IntN.{ℤ}
+use Rattle.table.specs.Limits.{nodes, entryLength}
 use Rattle.table.specs.Order.{inOrder}
 use Rattle.table.specs.Tick.{grown, cut, servedAll, allWaiting, stepTwo, stepThree, ticked}
 use Rattle.table.proofs.Facts.{facts}
@@ -26,18 +27,18 @@ one t u h e =
 -- After step 2, and after step 3: entries written and requests still waiting make up all that waited.
 pub record Two (t l u v : List ℤ) (n : ℕ) : Type 0 where
   pub on : Serving u
-  pub sum : 4 * n + 4 * allWaiting u ≡ 4 * allWaiting t
+  pub sum : entryLength * n + entryLength * allWaiting u ≡ entryLength * allWaiting t
   pub shows : Shows l (stepTwo t) u v n
 
 pub record Three (t l u v : List ℤ) (n : ℕ) : Type 0 where
   pub on : Lending u
-  pub sum : 4 * n + 4 * allWaiting u ≡ 4 * allWaiting t
+  pub sum : entryLength * n + entryLength * allWaiting u ≡ entryLength * allWaiting t
   pub shows : Shows l (stepThree t) u v n
 
 pub two : (t l g u v : List ℤ) (n : ℕ) → One t g → g ≡ grown t → Shows l (servedAll (record { table = g; entries = [] })) u v n → Two t l u v n
 unfolding stepTwo servedAll serving
 two t l g u v n o e h =
-    let p = passed g l (o .on) 64 (omega arith) u v n h in
+    let p = passed g l (o .on) nodes (omega arith) u v n h in
     record { on = p .on; sum = omega (arith, p .sum, o .sum); shows = rw (← e) h }
 
 pub three : (t l u v w : List ℤ) (n : ℕ) → Two t l u v n → w ≡ cut u → Three t l w v n

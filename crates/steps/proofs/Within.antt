@@ -10,6 +10,7 @@ use lib.IntN.{ℤ}
 use Rattle.numbers.specs.Whole.{plus, minus, withinℤ}
 use Rattle.numbers.proofs.Tests.{by-test}
 use Rattle.numbers.proofs.Parts.{zarith, plus-pos, minus-pos}
+use Rattle.table.specs.Limits.{nodes, lastNode, parentAt, levelAt, depthAt, rateAt, balanceAt, waitingAt, lastLevel, greatestDepth, greatestRate, mostWaiting}
 use Rattle.table.specs.Places.{place, rate, balance, waiting, size}
 use Rattle.table.specs.Tree.{treeOf, there}
 use Rattle.table.specs.Order.{inOrder}
@@ -28,28 +29,28 @@ pub record Way (u : List ℤ) : Type 0 where
   pub from : List ℤ
   pub order : InOrder from
   pub reached : Reached from u
-  pub credit : (k : ℕ) → k < 64 → plus (balance u k) ≤ 2 ^ 60
+  pub credit : (k : ℕ) → k < nodes → plus (balance u k) ≤ 2 ^ 60
 
-pub depth-small : (t : List ℤ) → InOrder t → (k : ℕ) → k < 64 → treeOf t .depth k ≤ 1000000
+pub depth-small : (t : List ℤ) → InOrder t → (k : ℕ) → k < nodes → treeOf t .depth k ≤ greatestDepth
 unfolding treeOf
 depth-small t f k hk =
     by-test (there (treeOf t) k)
     (λ h. omega (arith, zarith, f .limits k hk h .depth))
-    (λ h. omega (arith, ap plus (f .empty k hk h 5 (omega arith)), plus-pos 0))
+    (λ h. omega (arith, ap plus (f .empty k hk h depthAt (omega arith)), plus-pos 0))
 
-pub rate-small : (t : List ℤ) → InOrder t → (k : ℕ) → k < 64 → rate t k ≤ 1000000000
+pub rate-small : (t : List ℤ) → InOrder t → (k : ℕ) → k < nodes → rate t k ≤ greatestRate
 unfolding rate
 rate-small t f k hk =
     by-test (there (treeOf t) k)
     (λ h. omega (arith, zarith, rate-in-order t f k hk h, rates-in-order t f k hk h, f .root .rate))
-    (λ h. omega (arith, ap plus (f .empty k hk h 6 (omega arith)), plus-pos 0))
+    (λ h. omega (arith, ap plus (f .empty k hk h rateAt (omega arith)), plus-pos 0))
 
-pub waiting-few : (t : List ℤ) → InOrder t → (k : ℕ) → k < 64 → plus (place t k 8) ≤ 8
+pub waiting-few : (t : List ℤ) → InOrder t → (k : ℕ) → k < nodes → plus (place t k waitingAt) ≤ mostWaiting
 waiting-few t f k hk = omega (arith, zarith, queues-of t f .few k hk)
 
-module _ (u : List ℤ) (w : Way u) (k : ℕ) (hk : k < 64) where
+module _ (u : List ℤ) (w : Way u) (k : ℕ) (hk : k < nodes) where
   -- A place that a tick leaves alone.
-  small : (p low m : ℕ) → p < 7 → (there (treeOf (w .from)) k ≡ true → withinℤ low m (place (w .from) k p) ≡ true) → plus (place u k p) ≤ m
+  small : (p low m : ℕ) → p < balanceAt → (there (treeOf (w .from)) k ≡ true → withinℤ low m (place (w .from) k p) ≡ true) → plus (place u k p) ≤ m
   small p low m hp limit =
       by-test (there (treeOf (w .from)) k)
       (λ h. omega (arith, zarith, limit h, ap plus (w .reached .frame .early k p hp)))
@@ -62,7 +63,7 @@ module _ (u : List ℤ) (w : Way u) (k : ℕ) (hk : k < 64) where
       (λ h. omega (arith, floor-of-node (treeOf t) (balance u) (levels t (grounds t (w .order))) (w .reached .floor) k hk h, depth-small t (w .order) k hk))
       (λ h. omega (arith, ap minus (w .reached .vacant .zero k hk h), minus-pos 0))
 
-  size-small : size u k 0 ≤ 1000000
+  size-small : size u k 0 ≤ greatestDepth
   unfolding size
   size-small =
       let t = w .from in
@@ -77,9 +78,9 @@ within u w =
     let f = w .order in
     record {
       long = reached-long (w .from) u f (w .reached);
-      parent = λ k hk. omega (arith, small u w k hk 1 0 63 (omega arith) (λ h. f .limits k hk h .parent));
-      level = λ k hk. small u w k hk 2 0 4 (omega arith) (λ h. f .limits k hk h .level);
-      depth = λ k hk. small u w k hk 5 1 1000000 (omega arith) (λ h. f .limits k hk h .depth);
+      parent = λ k hk. omega (arith, small u w k hk parentAt 0 lastNode (omega arith) (λ h. f .limits k hk h .parent));
+      level = λ k hk. small u w k hk levelAt 0 lastLevel (omega arith) (λ h. f .limits k hk h .level);
+      depth = λ k hk. small u w k hk depthAt 1 greatestDepth (omega arith) (λ h. f .limits k hk h .depth);
       rate = λ k hk. omega (arith, frame-rate (w .from) u (w .reached .frame) k, rate-small (w .from) f k hk);
       credit = w .credit;
       debt = debt-small u w;

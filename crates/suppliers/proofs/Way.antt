@@ -8,17 +8,17 @@ use native.Mathlib.Omega.{arith}
 use lib.IntN.{ℤ}
 use Rattle.numbers.proofs.Tests.{cond-true, cond-false}
 use Rattle.table.specs.Tree.{treeOf}
-use Rattle.table.specs.Tick.{enough, supplierFrom}
+use Rattle.table.specs.Tick.{nobody, enough, supplierFrom}
 
 module _ (t : List ℤ) (amount : ℕ) where
   pub supplier-here : (l k : ℕ) → enough t amount k ≡ true → supplierFrom t amount l k ≡ k
   unfolding supplierFrom
-  supplier-here zero k h = cond-true (enough t amount k) k 64 h
+  supplier-here zero k h = cond-true (enough t amount k) k nobody h
   supplier-here (suc l) k h = cond-true (enough t amount k) k (supplierFrom t amount l (treeOf t .parent k)) h
 
-  pub supplier-none : (l k : ℕ) → l ≡ 0 → enough t amount k ≡ false → supplierFrom t amount l k ≡ 64
+  pub supplier-none : (l k : ℕ) → l ≡ 0 → enough t amount k ≡ false → supplierFrom t amount l k ≡ nobody
   unfolding supplierFrom
-  supplier-none zero k e h = cond-false (enough t amount k) k 64 h
+  supplier-none zero k e h = cond-false (enough t amount k) k nobody h
   supplier-none (suc l) k e h = absurd (omega arith)
 
   pub supplier-above : (l k : ℕ) → (l ≡ 0 → ⊥) → enough t amount k ≡ false → supplierFrom t amount l k ≡ supplierFrom t amount (l - 1) (treeOf t .parent k)

@@ -17,33 +17,34 @@ use Rattle.numbers.proofs.Tests.{by-test, or-cases, or-true-left, or-true-right
 use Rattle.numbers.proofs.Every.{head-holds, rest-hold, none-left, holds-with}
 use Rattle.numbers.proofs.Parts.{same-eq, eq-same, zarith}
 use Rattle.numbers.proofs.All.{all-at, all-intro}
-use Rattle.table.specs.Places.{place, header, count, rate, balance, waiting, depthGrains, arrival}
+use Rattle.table.specs.Limits.{tableLength, headerLength, recordLength, nodes, lastNode, sortAt, parentAt, levelAt, kindAt, shareAt, depthAt, rateAt, waitingAt, spareAt, spareLength, queueAt, queueLength, requestLength, sizeAt, arrivalAt, class, client, fixed, weighted, root, lastClassLevel, lastLevel, wholeShare, greatestDepth, greatestRate, greatestCount, mostWaiting}
+use Rattle.table.specs.Places.{queuePlace, place, header, count, rate, balance, waiting, depthGrains, arrival}
 use Rattle.table.specs.Tree.{Tree, treeOf, there, isClass, isClient, sumUnder, testIf, eachNode, eachClass, eachClient}
 use Rattle.table.specs.Rates.{fixedSum, rateIn}
 use Rattle.table.specs.Order.{isZero, headerInOrder, unusedInOrder, limitsKept, spareInOrder, rootInOrder, parentInOrder, classInOrder, rateInOrder, childBalances, balanceInOrder, requestInOrder, queueInOrder, differsAt, arrivalsDiffer, inOrder}
 
 -- The limits of node k's places.
 pub record Limits (t : List ℤ) (k : ℕ) : Type 0 where
-  pub sort : withinℤ 1 2 (place t k 0) ≡ true
-  pub parent : withinℤ 0 63 (place t k 1) ≡ true
-  pub level : withinℤ 0 4 (place t k 2) ≡ true
-  pub kind : withinℤ 0 1 (place t k 3) ≡ true
-  pub share : withinℤ 1 10000 (place t k 4) ≡ true
-  pub depth : withinℤ 1 1000000 (place t k 5) ≡ true
-  pub waiting : withinℤ 0 8 (place t k 8) ≡ true
+  pub sort : withinℤ class client (place t k sortAt) ≡ true
+  pub parent : withinℤ 0 lastNode (place t k parentAt) ≡ true
+  pub level : withinℤ 0 lastLevel (place t k levelAt) ≡ true
+  pub kind : withinℤ fixed weighted (place t k kindAt) ≡ true
+  pub share : withinℤ 1 wholeShare (place t k shareAt) ≡ true
+  pub depth : withinℤ 1 greatestDepth (place t k depthAt) ≡ true
+  pub waiting : withinℤ 0 mostWaiting (place t k waitingAt) ≡ true
 
 -- The places of node k that hold nothing are zero.
 pub record Spare (t : List ℤ) (k : ℕ) : Type 0 where
-  pub places : (p : ℕ) → p < 7 → place t k (9 + p) ≡ pos 0
-  pub queue : (p : ℕ) → p < 24 → 3 * waiting t k ≤ p → place t k (16 + p) ≡ pos 0
+  pub places : (p : ℕ) → p < spareLength → place t k (spareAt + p) ≡ pos 0
+  pub queue : (p : ℕ) → p < queueLength → requestLength * waiting t k ≤ p → place t k (queueAt + p) ≡ pos 0
 
 pub record Root (t : List ℤ) : Type 0 where
-  pub sort : place t 0 0 ≡ pos 1
-  pub parent : place t 0 1 ≡ pos 0
-  pub level : place t 0 2 ≡ pos 0
-  pub kind : place t 0 3 ≡ pos 0
-  pub share : place t 0 4 ≡ pos 10000
-  pub rate : withinℤ 1 1000000000 (place t 0 6) ≡ true
+  pub sort : place t root sortAt ≡ pos 1
+  pub parent : place t root parentAt ≡ pos 0
+  pub level : place t root levelAt ≡ pos 0
+  pub kind : place t root kindAt ≡ pos 0
+  pub share : place t root shareAt ≡ pos wholeShare
+  pub rate : withinℤ 1 greatestRate (place t root rateAt) ≡ true
 
 -- The root is there, at level 0.
 pub root-there : (t : List ℤ) → Root t → there (treeOf t) 0 ≡ true
@@ -59,9 +60,9 @@ pub record Child (tree : Tree) (k : ℕ) : Type 0 where
   pub level : tree .level k ≡ suc (tree .level (tree .parent k))
 
 pub record Class (t : List ℤ) (c : ℕ) : Type 0 where
-  pub level : treeOf t .level c ≤ 3
+  pub level : treeOf t .level c ≤ lastClassLevel
   pub idle : waiting t c ≡ 0
-  pub shares : fixedSum (treeOf t) c ≤ 10000
+  pub shares : fixedSum (treeOf t) c ≤ wholeShare
   pub depths : sumUnder (treeOf t) c (treeOf t .depth) ≤ treeOf t .depth c
 
 pub record Balance (t : List ℤ) (k : ℕ) : Type 0 where
@@ -70,24 +71,24 @@ pub record Balance (t : List ℤ) (k : ℕ) : Type 0 where
   pub client : isClass (treeOf t) k ≡ false → leZ (pos 0) (balance t k) ≡ true
 
 pub record Request (t : List ℤ) (k i : ℕ) : Type 0 where
-  pub size : withinℤ 1 (treeOf t .depth k) (place t k (16 + 3 * i + 1)) ≡ true
-  pub number : withinℤ 1 (count t) (place t k (16 + 3 * i + 2)) ≡ true
+  pub size : withinℤ 1 (treeOf t .depth k) (place t k (queuePlace i + sizeAt)) ≡ true
+  pub number : withinℤ 1 (count t) (place t k (queuePlace i + arrivalAt)) ≡ true
   pub rising : (i ≡ 0 → ⊥) → arrival t k (i - 1) < arrival t k i
 
 pub record InOrder (t : List ℤ) : Type 0 where
-  pub long : length t ≡ 2568
-  pub counted : withinℤ 0 9000000000000000000 (header t 0) ≡ true
-  pub heading : (p : ℕ) → p < 7 → header t (suc p) ≡ pos 0
-  pub empty : (k : ℕ) → k < 64 → there (treeOf t) k ≡ false → (p : ℕ) → p < 40 → place t k p ≡ pos 0
-  pub limits : (k : ℕ) → k < 64 → there (treeOf t) k ≡ true → Limits t k
-  pub spare : (k : ℕ) → k < 64 → there (treeOf t) k ≡ true → Spare t k
+  pub long : length t ≡ tableLength
+  pub counted : withinℤ 0 greatestCount (header t 0) ≡ true
+  pub heading : (p : ℕ) → p < headerLength - 1 → header t (suc p) ≡ pos 0
+  pub empty : (k : ℕ) → k < nodes → there (treeOf t) k ≡ false → (p : ℕ) → p < recordLength → place t k p ≡ pos 0
+  pub limits : (k : ℕ) → k < nodes → there (treeOf t) k ≡ true → Limits t k
+  pub spare : (k : ℕ) → k < nodes → there (treeOf t) k ≡ true → Spare t k
   pub root : Root t
-  pub child : (k : ℕ) → k < 64 → there (treeOf t) k ≡ true → (k ≡ 0 → ⊥) → Child (treeOf t) k
-  pub class : (c : ℕ) → c < 64 → isClass (treeOf t) c ≡ true → Class t c
-  pub rates : (k : ℕ) → k < 64 → there (treeOf t) k ≡ true → place t k 6 ≡ pos (rateIn (treeOf t) (rate t 0) k)
-  pub balances : (k : ℕ) → k < 64 → there (treeOf t) k ≡ true → Balance t k
-  pub requests : (k : ℕ) → k < 64 → isClient (treeOf t) k ≡ true → (i : ℕ) → i < waiting t k → Request t k i
-  pub differ : (k : ℕ) → k < 64 → (i : ℕ) → i < waiting t k → (j : ℕ) → j < k → (l : ℕ) → l < waiting t j → arrival t k i ≡ arrival t j l → ⊥
+  pub child : (k : ℕ) → k < nodes → there (treeOf t) k ≡ true → (k ≡ 0 → ⊥) → Child (treeOf t) k
+  pub class : (c : ℕ) → c < nodes → isClass (treeOf t) c ≡ true → Class t c
+  pub rates : (k : ℕ) → k < nodes → there (treeOf t) k ≡ true → place t k rateAt ≡ pos (rateIn (treeOf t) (rate t 0) k)
+  pub balances : (k : ℕ) → k < nodes → there (treeOf t) k ≡ true → Balance t k
+  pub requests : (k : ℕ) → k < nodes → isClient (treeOf t) k ≡ true → (i : ℕ) → i < waiting t k → Request t k i
+  pub differ : (k : ℕ) → k < nodes → (i : ℕ) → i < waiting t k → (j : ℕ) → j < k → (l : ℕ) → l < waiting t j → arrival t k i ≡ arrival t j l → ⊥
 
 -- A test made only where another holds.
 pub test-at : (b : Bool) (p : ℕ → Bool) (k : ℕ) → testIf b p k ≡ true → b ≡ true → p k ≡ true
@@ -100,11 +101,11 @@ unfolding testIf
 at-test true p k h = h refl
 at-test false p k h = refl
 
-pub each-at : (f : ℕ → Bool) (p : ℕ → Bool) → allBelow 64 (λ k. testIf (f k) p k) ≡ true → (k : ℕ) → k < 64 → f k ≡ true → p k ≡ true
-each-at f p h k hk e = test-at (f k) p k (all-at 64 (λ k. testIf (f k) p k) h k hk) e
+pub each-at : (f : ℕ → Bool) (p : ℕ → Bool) → allBelow nodes (λ k. testIf (f k) p k) ≡ true → (k : ℕ) → k < nodes → f k ≡ true → p k ≡ true
+each-at f p h k hk e = test-at (f k) p k (all-at nodes (λ k. testIf (f k) p k) h k hk) e
 
-pub at-each : (f : ℕ → Bool) (p : ℕ → Bool) → ((k : ℕ) → k < 64 → f k ≡ true → p k ≡ true) → allBelow 64 (λ k. testIf (f k) p k) ≡ true
-at-each f p h = all-intro 64 (λ k. testIf (f k) p k) (λ k hk. at-test (f k) p k (h k hk))
+pub at-each : (f : ℕ → Bool) (p : ℕ → Bool) → ((k : ℕ) → k < nodes → f k ≡ true → p k ≡ true) → allBelow nodes (λ k. testIf (f k) p k) ≡ true
+at-each f p h = all-intro nodes (λ k. testIf (f k) p k) (λ k hk. at-test (f k) p k (h k hk))
 
 pub zero-at : (z : ℤ) → isZero z ≡ true → z ≡ pos 0
 unfolding isZero
@@ -141,21 +142,21 @@ spare-of : (t : List ℤ) (k : ℕ) → spareInOrder t k ≡ true → Spare t k
 unfolding spareInOrder
 spare-of t k h =
     record {
-      places = λ p hp. zero-at _ (all-at 7 (λ p. isZero (place t k (9 + p))) (head-holds _ _ h) p hp);
+      places = λ p hp. zero-at _ (all-at spareLength (λ p. isZero (place t k (spareAt + p))) (head-holds _ _ h) p hp);
       queue = λ p hp low.
-          ⊎-elim (λ e. absurd (true-false e (le-ltb p (3 * waiting t k) low))) (λ e. zero-at _ e)
-          (or-cases (ltb p (3 * waiting t k)) (isZero (place t k (16 + p))) (all-at 24 (λ p. ltb p (3 * waiting t k) || isZero (place t k (16 + p))) (head-holds _ _ (rest-hold _ _ h)) p hp));
+          ⊎-elim (λ e. absurd (true-false e (le-ltb p (requestLength * waiting t k) low))) (λ e. zero-at _ e)
+          (or-cases (ltb p (requestLength * waiting t k)) (isZero (place t k (queueAt + p))) (all-at queueLength (λ p. ltb p (requestLength * waiting t k) || isZero (place t k (queueAt + p))) (head-holds _ _ (rest-hold _ _ h)) p hp));
     }
 
 of-spare : (t : List ℤ) (k : ℕ) → Spare t k → spareInOrder t k ≡ true
 unfolding spareInOrder
 of-spare t k f =
-    holds-with _ _ (all-intro 7 (λ p. isZero (place t k (9 + p))) (λ p hp. at-zero _ (f .places p hp)))
+    holds-with _ _ (all-intro spareLength (λ p. isZero (place t k (spareAt + p))) (λ p hp. at-zero _ (f .places p hp)))
     (holds-with _ _
-    (all-intro 24 (λ p. ltb p (3 * waiting t k) || isZero (place t k (16 + p)))
+    (all-intro queueLength (λ p. ltb p (requestLength * waiting t k) || isZero (place t k (queueAt + p)))
     (λ p hp.
-    by-test (ltb p (3 * waiting t k)) (or-true-left (ltb p (3 * waiting t k)) (isZero (place t k (16 + p))))
-    (λ e. or-true-right (ltb p (3 * waiting t k)) (isZero (place t k (16 + p))) (at-zero _ (f .queue p hp (ltb-false p (3 * waiting t k) e))))))
+    by-test (ltb p (requestLength * waiting t k)) (or-true-left (ltb p (requestLength * waiting t k)) (isZero (place t k (queueAt + p))))
+    (λ e. or-true-right (ltb p (requestLength * waiting t k)) (isZero (place t k (queueAt + p))) (at-zero _ (f .queue p hp (ltb-false p (requestLength * waiting t k) e))))))
     none-left)
 
 pub root-of : (t : List ℤ) → rootInOrder t ≡ true → Root t
@@ -197,9 +198,9 @@ class-of t c h =
     let h1 = rest-hold _ _ h in
     let h2 = rest-hold _ _ h1 in
     record {
-      level = leb-true (treeOf t .level c) 3 (head-holds _ _ h);
+      level = leb-true (treeOf t .level c) lastClassLevel (head-holds _ _ h);
       idle = eqb-true (waiting t c) 0 (head-holds _ _ h1);
-      shares = leb-true (fixedSum (treeOf t) c) 10000 (head-holds _ _ h2);
+      shares = leb-true (fixedSum (treeOf t) c) wholeShare (head-holds _ _ h2);
       depths = leb-true (sumUnder (treeOf t) c (treeOf t .depth)) (treeOf t .depth c) (head-holds _ _ (rest-hold _ _ h2));
     }
 
@@ -256,10 +257,10 @@ facts t h =
     let h9 = rest-hold _ _ h8 in
     let h10 = rest-hold _ _ h9 in
     record {
-      long = eqb-true (length t) 2568 (head-holds _ _ h);
+      long = eqb-true (length t) tableLength (head-holds _ _ h);
       counted = head-holds _ _ (head-holds _ _ h1);
-      heading = λ p hp. zero-at _ (all-at 7 (λ p. isZero (header t (suc p))) (head-holds _ _ (rest-hold _ _ (head-holds _ _ h1))) p hp);
-      empty = λ k hk no-node p hp. zero-at _ (all-at 40 (λ p. isZero (place t k p)) (each-at (λ k. not (there (treeOf t) k)) (λ k. allBelow 40 (λ p. isZero (place t k p))) (head-holds _ _ h2) k hk (ap not no-node)) p hp);
+      heading = λ p hp. zero-at _ (all-at (headerLength - 1) (λ p. isZero (header t (suc p))) (head-holds _ _ (rest-hold _ _ (head-holds _ _ h1))) p hp);
+      empty = λ k hk no-node p hp. zero-at _ (all-at recordLength (λ p. isZero (place t k p)) (each-at (λ k. not (there (treeOf t) k)) (λ k. allBelow recordLength (λ p. isZero (place t k p))) (head-holds _ _ h2) k hk (ap not no-node)) p hp);
       limits = λ k hk e. limits-of t k (each-at (there (treeOf t)) (limitsKept t) (head-holds _ _ h3) k hk e);
       spare = λ k hk e. spare-of t k (each-at (there (treeOf t)) (spareInOrder t) (head-holds _ _ h4) k hk e);
       root = root-of t (head-holds _ _ h5);
@@ -273,7 +274,7 @@ facts t h =
           (all-at (waiting t j) (λ l. not (eqb (arrival t k i) (arrival t j l)))
           (all-at k (differsAt t (arrival t k i))
           (all-at (waiting t k) (λ i. allBelow k (differsAt t (arrival t k i)))
-          (all-at 64 (arrivalsDiffer t) (head-holds _ _ (rest-hold _ _ h10)) k hk) i hi) j hj) l hl)
+          (all-at nodes (arrivalsDiffer t) (head-holds _ _ (rest-hold _ _ h10)) k hk) i hi) j hj) l hl)
           (ap not (eq-eqb _ _ e));
     }
 
@@ -281,10 +282,10 @@ pub from-facts : (t : List ℤ) → InOrder t → inOrder t ≡ true
 unfolding inOrder headerInOrder unusedInOrder eachNode eachClass eachClient rateInOrder queueInOrder arrivalsDiffer differsAt
 from-facts t f =
     holds-with _ _ (eq-eqb _ _ (f .long))
-    (holds-with _ _ (holds-with _ _ (f .counted) (holds-with _ _ (all-intro 7 (λ p. isZero (header t (suc p))) (λ p hp. at-zero _ (f .heading p hp))) none-left))
+    (holds-with _ _ (holds-with _ _ (f .counted) (holds-with _ _ (all-intro (headerLength - 1) (λ p. isZero (header t (suc p))) (λ p hp. at-zero _ (f .heading p hp))) none-left))
     (holds-with _ _
-    (at-each (λ k. not (there (treeOf t) k)) (λ k. allBelow 40 (λ p. isZero (place t k p)))
-    (λ k hk e. all-intro 40 (λ p. isZero (place t k p)) (λ p hp. at-zero _ (f .empty k hk (not-true _ e) p hp))))
+    (at-each (λ k. not (there (treeOf t) k)) (λ k. allBelow recordLength (λ p. isZero (place t k p)))
+    (λ k hk e. all-intro recordLength (λ p. isZero (place t k p)) (λ p hp. at-zero _ (f .empty k hk (not-true _ e) p hp))))
     (holds-with _ _ (at-each (there (treeOf t)) (limitsKept t) (λ k hk e. of-limits t k (f .limits k hk e)))
     (holds-with _ _ (at-each (there (treeOf t)) (spareInOrder t) (λ k hk e. of-spare t k (f .spare k hk e)))
     (holds-with _ _ (of-root t (f .root))
@@ -296,7 +297,7 @@ from-facts t f =
     (at-each (isClient (treeOf t)) (queueInOrder t)
     (λ k hk e. all-intro (waiting t k) (requestInOrder t k) (λ i hi. of-request t k i (f .requests k hk e i hi))))
     (holds-with _ _
-    (all-intro 64 (arrivalsDiffer t)
+    (all-intro nodes (arrivalsDiffer t)
     (λ k hk. all-intro (waiting t k) (λ i. allBelow k (differsAt t (arrival t k i)))
     (λ i hi. all-intro k (differsAt t (arrival t k i))
     (λ j hj. all-intro (waiting t j) (λ l. not (eqb (arrival t k i) (arrival t j l)))
@@ -304,9 +305,9 @@ from-facts t f =
     none-left)))))))))))
 
 -- A node of a table in order that is no client is a class.
-pub class-or-client : (t : List ℤ) (k : ℕ) → InOrder t → k < 64 → there (treeOf t) k ≡ true → isClient (treeOf t) k ≡ false → isClass (treeOf t) k ≡ true
+pub class-or-client : (t : List ℤ) (k : ℕ) → InOrder t → k < nodes → there (treeOf t) k ≡ true → isClient (treeOf t) k ≡ false → isClass (treeOf t) k ≡ true
 unfolding treeOf isClass isClient
 class-or-client t k f hk e no-client =
     let limits = f .limits k hk e .sort in
-    let other : plus (place t k 0) ≡ 2 → ⊥ = eqb-false (plus (place t k 0)) 2 no-client in
-    eq-eqb (plus (place t k 0)) 1 (omega (arith, zarith))
+    let other : plus (place t k sortAt) ≡ client → ⊥ = eqb-false (plus (place t k sortAt)) client no-client in
+    eq-eqb (plus (place t k sortAt)) class (omega (arith, zarith))

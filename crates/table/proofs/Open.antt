@@ -5,9 +5,10 @@ use native.Mathlib.Omega.{arith}
 use borrow.Author.Tests.{eqb-true, not-false}
 use lib.ListN.{length}
 use lib.IntN.{ℤ}
+use Rattle.table.specs.Limits.{tableLength}
 use Rattle.table.specs.Calls.{openRefusal}
 use Rattle.table.proofs.Refusals.{none-first}
 
-pub open-long : (t : List ℤ) (rate depth : ℤ) → openRefusal t rate depth ≡ 0 → length t ≡ 2568
+pub open-long : (t : List ℤ) (rate depth : ℤ) → openRefusal t rate depth ≡ 0 → length t ≡ tableLength
 unfolding openRefusal
-open-long t rate depth h = eqb-true (length t) 2568 (not-false _ (none-first 1 _ _ (λ e. omega arith) h .0))
+open-long t rate depth h = eqb-true (length t) tableLength (not-false _ (none-first 1 _ _ (λ e. omega arith) h .0))

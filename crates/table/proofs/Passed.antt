@@ -14,6 +14,7 @@ use Rattle.numbers.specs.Tests.{every}
 use Rattle.numbers.proofs.Tests.{by-test, true-false, or-false-left, or-false-right}
 use Rattle.numbers.proofs.Every.{head-holds, rest-hold, holds-with, none-left}
 use Rattle.numbers.proofs.Parts.{zarith, within-parts}
+use Rattle.table.specs.Limits.{tableLength, nodes, lastNode, class, client, fixed, weighted, root, lastClassLevel, wholeShare, greatestDepth, greatestRate, greatestCount, mostWaiting}
 use Rattle.table.specs.Places.{count, balance, waiting}
 use Rattle.table.specs.Tree.{treeOf, there, isClass, isClient, childless, sumUnder}
 use Rattle.table.specs.Rates.{fixedSum}
@@ -23,16 +24,16 @@ use Rattle.table.proofs.Facts.{facts}
 use Rattle.table.proofs.Refusals.{none-first}
 
 -- The first tests: the table is in order, and a number is that of a node.
-pub long : (t : List ℤ) → inOrder t ≡ true → length t ≡ 2568
+pub long : (t : List ℤ) → inOrder t ≡ true → length t ≡ tableLength
 long t h = facts t h .long
 
-pub below : (low : ℕ) (z : ℤ) → withinℤ low 63 z ≡ true → plus z < 64
-below low z h = omega (arith, within-parts low 63 z h)
+pub below : (low : ℕ) (z : ℤ) → withinℤ low lastNode z ≡ true → plus z < nodes
+below low z h = omega (arith, within-parts low lastNode z h)
 
 -- Open.
 pub record OpenPassed (rate depth : ℤ) : Type 0 where
-  pub rates : withinℤ 1 1000000000 rate ≡ true
-  pub depths : withinℤ 1 1000000 depth ≡ true
+  pub rates : withinℤ 1 greatestRate rate ≡ true
+  pub depths : withinℤ 1 greatestDepth depth ≡ true
 
 pub open-passed : (t : List ℤ) (rate depth : ℤ) → openRefusal t rate depth ≡ 0 → OpenPassed rate depth
 unfolding openRefusal
@@ -45,18 +46,18 @@ open-passed t rate depth h =
 -- Join, of node k under class c.
 pub record JoinPassed (t : List ℤ) (k c : ℕ) (sort kind share depth : ℤ) : Type 0 where
   pub order : inOrder t ≡ true
-  pub node : k < 64
+  pub node : k < nodes
   pub below : k ≡ 0 → ⊥
-  pub parent : c < 64
-  pub sorts : withinℤ 1 2 sort ≡ true
-  pub kinds : withinℤ 0 1 kind ≡ true
-  pub within : withinℤ 1 10000 share ≡ true
-  pub deep : withinℤ 1 1000000 depth ≡ true
+  pub parent : c < nodes
+  pub sorts : withinℤ class client sort ≡ true
+  pub kinds : withinℤ fixed weighted kind ≡ true
+  pub within : withinℤ 1 wholeShare share ≡ true
+  pub deep : withinℤ 1 greatestDepth depth ≡ true
   pub unused : there (treeOf t) k ≡ false
   pub there : there (treeOf t) c ≡ true
   pub no-client : isClient (treeOf t) c ≡ false
-  pub levels : plus sort ≡ 1 → treeOf t .level c ≡ 3 → ⊥
-  pub shares : fixedSum (treeOf (joined t k c sort kind share depth)) c ≤ 10000
+  pub levels : plus sort ≡ class → treeOf t .level c ≡ lastClassLevel → ⊥
+  pub shares : fixedSum (treeOf (joined t k c sort kind share depth)) c ≤ wholeShare
   pub depths : sumUnder (treeOf (joined t k c sort kind share depth)) c (treeOf (joined t k c sort kind share depth) .depth) ≤ treeOf (joined t k c sort kind share depth) .depth c
 
 pub join-passed : (t : List ℤ) (node parent sort kind share depth : ℤ) → joinRefusal t node parent sort kind share depth ≡ 0 → JoinPassed t (plus node) (plus parent) sort kind share depth
@@ -87,15 +88,15 @@ join-passed t node parent sort kind share depth h =
       unused = p4 .0;
       there = not-false _ (p3 .0);
       no-client = p5 .0;
-      levels = λ class last. true-false (holds-with _ _ (eq-eqb (plus sort) 1 class) (holds-with _ _ (eq-eqb (treeOf t .level (plus parent)) 3 last) none-left)) (p6 .0);
-      shares = ltb-false 10000 _ (p7 .0);
+      levels = λ class last. true-false (holds-with _ _ (eq-eqb (plus sort) 1 class) (holds-with _ _ (eq-eqb (treeOf t .level (plus parent)) lastClassLevel last) none-left)) (p6 .0);
+      shares = ltb-false wholeShare _ (p7 .0);
       depths = ltb-false _ _ (p8 .0);
     }
 
 -- Leave, of node k.
 pub record LeavePassed (t : List ℤ) (k : ℕ) : Type 0 where
   pub order : inOrder t ≡ true
-  pub node : k < 64
+  pub node : k < nodes
   pub there : there (treeOf t) k ≡ true
   pub below : k ≡ 0 → ⊥
   pub childless : childless (treeOf t) k ≡ true
@@ -111,7 +112,7 @@ leave-passed t node h =
     let p5 = none-first 5 _ _ (omega arith) (p3 .1) in
     let p9 = none-first 9 _ _ (omega arith) (p5 .1) in
     let p10 = none-first 10 _ _ (omega arith) (p9 .1) in
-    let inside : withinℤ 0 63 node ≡ true = not-false _ (p2 .0) in
+    let inside : withinℤ 0 lastNode node ≡ true = not-false _ (p2 .0) in
     record {
       order = not-false _ (p1 .0);
       node = omega (arith, zarith);
@@ -128,12 +129,12 @@ leave-passed t node h =
 -- Change share, of node k.
 pub record ChangeSharePassed (t : List ℤ) (k : ℕ) (kind share : ℤ) : Type 0 where
   pub order : inOrder t ≡ true
-  pub node : k < 64
-  pub kinds : withinℤ 0 1 kind ≡ true
-  pub within : withinℤ 1 10000 share ≡ true
+  pub node : k < nodes
+  pub kinds : withinℤ fixed weighted kind ≡ true
+  pub within : withinℤ 1 wholeShare share ≡ true
   pub there : there (treeOf t) k ≡ true
   pub below : k ≡ 0 → ⊥
-  pub shares : fixedSum (treeOf (reshared t k kind share)) (treeOf t .parent k) ≤ 10000
+  pub shares : fixedSum (treeOf (reshared t k kind share)) (treeOf t .parent k) ≤ wholeShare
 
 pub change-share-passed : (t : List ℤ) (node kind share : ℤ) → changeShareRefusal t node kind share ≡ 0 → ChangeSharePassed t (plus node) kind share
 unfolding changeShareRefusal sharesAbove
@@ -152,15 +153,15 @@ change-share-passed t node kind share h =
       within = head-holds _ _ (rest-hold _ _ limits');
       there = not-false _ (p3 .0);
       below = eqb-false (plus node) 0 (p5 .0);
-      shares = ltb-false 10000 _ (p7 .0);
+      shares = ltb-false wholeShare _ (p7 .0);
     }
 
 -- Change rate.
 pub record ChangeRatePassed (t : List ℤ) (rate : ℤ) : Type 0 where
   pub order : inOrder t ≡ true
-  pub within : withinℤ 1 1000000000 rate ≡ true
+  pub within : withinℤ 1 greatestRate rate ≡ true
 
-pub change-rate-passed : (t : List ℤ) (rate : ℤ) → changeRateRefusal t rate ≡ 0 → ChangeRatePassed t rate
+pub change-rate-passed : (t : List ℤ) (rate : ℤ) → changeRateRefusal t rate ≡ root → ChangeRatePassed t rate
 unfolding changeRateRefusal
 change-rate-passed t rate h =
     let p1 = none-first 1 _ _ (omega arith) h in
@@ -170,13 +171,13 @@ change-rate-passed t rate h =
 -- Request, of client k.
 pub record RequestPassed (t : List ℤ) (k : ℕ) (size : ℤ) : Type 0 where
   pub order : inOrder t ≡ true
-  pub node : k < 64
+  pub node : k < nodes
   pub least : leZ (pos 1) size ≡ true
   pub there : there (treeOf t) k ≡ true
   pub no-class : isClass (treeOf t) k ≡ false
   pub most : plus size ≤ treeOf t .depth k
-  pub room : waiting t k ≡ 8 → ⊥
-  pub numbers : count t ≡ 9000000000000000000 → ⊥
+  pub room : waiting t k ≡ mostWaiting → ⊥
+  pub numbers : count t ≡ greatestCount → ⊥
 
 pub request-passed : (t : List ℤ) (node tag size : ℤ) → requestRefusal t node tag size ≡ 0 → RequestPassed t (plus node) size
 unfolding requestRefusal
@@ -188,7 +189,7 @@ request-passed t node tag size h =
     let p8 = none-first 8 _ _ (omega arith) (p5 .1) in
     let p11 = none-first 11 _ _ (omega arith) (p8 .1) in
     let p12 = none-first 12 _ _ (omega arith) (p11 .1) in
-    let limits : every (withinℤ 0 63 node ∷ leZ (pos 1) size ∷ []) ≡ true = not-false _ (p2 .0) in
+    let limits : every (withinℤ 0 lastNode node ∷ leZ (pos 1) size ∷ []) ≡ true = not-false _ (p2 .0) in
     record {
       order = not-false _ (p1 .0);
       node = omega (arith, zarith, head-holds _ _ limits);
@@ -196,6 +197,6 @@ request-passed t node tag size h =
       there = not-false _ (p3 .0);
       no-class = p5 .0;
       most = ltb-false _ _ (p8 .0);
-      room = eqb-false (waiting t (plus node)) 8 (p11 .0);
-      numbers = eqb-false (count t) 9000000000000000000 (p12 .0);
+      room = eqb-false (waiting t (plus node)) mostWaiting (p11 .0);
+      numbers = eqb-false (count t) greatestCount (p12 .0);
     }

@@ -7,37 +7,38 @@ use native.Mathlib.Omega.{arith}
 use lib.ListN.{length, getD, length-set}
 use lib.Seq.{getD-set-same, getD-set-other, ext-getD}
 use lib.IntN.{ℤ, pos}
+use Rattle.table.specs.Limits.{tableLength, headerLength, recordLength, nodes}
 use Rattle.table.specs.Places.{place, put, header, putHeader}
 
 pub length-put : (t : List ℤ) (k p : ℕ) (v : ℤ) → length (put t k p v) ≡ length t
 unfolding put
-length-put t k p v = length-set t (8 + 40 * k + p) v
+length-put t k p v = length-set t (headerLength + recordLength * k + p) v
 
 pub length-putHeader : (t : List ℤ) (p : ℕ) (v : ℤ) → length (putHeader t p v) ≡ length t
 unfolding putHeader
 length-putHeader t p v = length-set t p v
 
-pub place-put-same : (t : List ℤ) (k p : ℕ) (v : ℤ) → length t ≡ 2568 → k < 64 → p < 40 → place (put t k p v) k p ≡ v
+pub place-put-same : (t : List ℤ) (k p : ℕ) (v : ℤ) → length t ≡ tableLength → k < nodes → p < recordLength → place (put t k p v) k p ≡ v
 unfolding place put
-place-put-same t k p v n hk hp = getD-set-same t (8 + 40 * k + p) v (pos 0) (omega arith)
+place-put-same t k p v n hk hp = getD-set-same t (headerLength + recordLength * k + p) v (pos 0) (omega arith)
 
-pub place-put-node : (t : List ℤ) (k p : ℕ) (v : ℤ) (j q : ℕ) → p < 40 → q < 40 → (j ≡ k → ⊥) → place (put t k p v) j q ≡ place t j q
+pub place-put-node : (t : List ℤ) (k p : ℕ) (v : ℤ) (j q : ℕ) → p < recordLength → q < recordLength → (j ≡ k → ⊥) → place (put t k p v) j q ≡ place t j q
 unfolding place put
-place-put-node t k p v j q hp hq ne = getD-set-other t (8 + 40 * k + p) (8 + 40 * j + q) v (pos 0) (λ e. ne (omega arith))
+place-put-node t k p v j q hp hq ne = getD-set-other t (headerLength + recordLength * k + p) (headerLength + recordLength * j + q) v (pos 0) (λ e. ne (omega arith))
 
-pub place-put-place : (t : List ℤ) (k p : ℕ) (v : ℤ) (j q : ℕ) → p < 40 → q < 40 → (q ≡ p → ⊥) → place (put t k p v) j q ≡ place t j q
+pub place-put-place : (t : List ℤ) (k p : ℕ) (v : ℤ) (j q : ℕ) → p < recordLength → q < recordLength → (q ≡ p → ⊥) → place (put t k p v) j q ≡ place t j q
 unfolding place put
-place-put-place t k p v j q hp hq ne = getD-set-other t (8 + 40 * k + p) (8 + 40 * j + q) v (pos 0) (λ e. ne (omega arith))
+place-put-place t k p v j q hp hq ne = getD-set-other t (headerLength + recordLength * k + p) (headerLength + recordLength * j + q) v (pos 0) (λ e. ne (omega arith))
 
-pub header-put : (t : List ℤ) (k p : ℕ) (v : ℤ) (q : ℕ) → q < 8 → header (put t k p v) q ≡ header t q
+pub header-put : (t : List ℤ) (k p : ℕ) (v : ℤ) (q : ℕ) → q < headerLength → header (put t k p v) q ≡ header t q
 unfolding header put
-header-put t k p v q h = getD-set-other t (8 + 40 * k + p) q v (pos 0) (λ e. omega arith)
+header-put t k p v q h = getD-set-other t (headerLength + recordLength * k + p) q v (pos 0) (λ e. omega arith)
 
-pub place-putHeader : (t : List ℤ) (p : ℕ) (v : ℤ) (k q : ℕ) → p < 8 → place (putHeader t p v) k q ≡ place t k q
+pub place-putHeader : (t : List ℤ) (p : ℕ) (v : ℤ) (k q : ℕ) → p < headerLength → place (putHeader t p v) k q ≡ place t k q
 unfolding place putHeader
-place-putHeader t p v k q h = getD-set-other t p (8 + 40 * k + q) v (pos 0) (λ e. omega arith)
+place-putHeader t p v k q h = getD-set-other t p (headerLength + recordLength * k + q) v (pos 0) (λ e. omega arith)
 
-pub header-putHeader-same : (t : List ℤ) (p : ℕ) (v : ℤ) → length t ≡ 2568 → p < 8 → header (putHeader t p v) p ≡ v
+pub header-putHeader-same : (t : List ℤ) (p : ℕ) (v : ℤ) → length t ≡ tableLength → p < headerLength → header (putHeader t p v) p ≡ v
 unfolding header putHeader
 header-putHeader-same t p v n h = getD-set-same t p v (pos 0) (omega arith)
 
@@ -52,17 +53,17 @@ put-then k p e same before = e ∙ ap₂ (λ (x : List ℤ) (y : ℤ). put x k p
 -- Writing what stands there changes nothing.
 pub put-same : (t : List ℤ) (k p : ℕ) → put t k p (place t k p) ≡ t
 unfolding place put
-put-same t k p = lib.Seq.set-getD t (8 + 40 * k + p) (pos 0)
+put-same t k p = lib.Seq.set-getD t (headerLength + recordLength * k + p) (pos 0)
 
 -- Equal tables.
-pub same-places : (t u : List ℤ) → length t ≡ 2568 → length u ≡ 2568 → ((p : ℕ) → p < 8 → header t p ≡ header u p) → ((k p : ℕ) → k < 64 → p < 40 → place t k p ≡ place u k p) → t ≡ u
+pub same-places : (t u : List ℤ) → length t ≡ tableLength → length u ≡ tableLength → ((p : ℕ) → p < headerLength → header t p ≡ header u p) → ((k p : ℕ) → k < nodes → p < recordLength → place t k p ≡ place u k p) → t ≡ u
 unfolding place header
 same-places t u nt nu hs ps = ext-getD (pos 0) t u (nt ∙ sym nu) each
   where
-    far : (i : ℕ) → i < 2568 → 8 ≤ i → getD t i (pos 0) ≡ getD u i (pos 0)
+    far : (i : ℕ) → i < tableLength → headerLength ≤ i → getD t i (pos 0) ≡ getD u i (pos 0)
     far i h low =
-        let e : i ≡ 8 + 40 * ((i - 8) / 40) + (i - 8) % 40 = omega arith in
-        subst (λ (n : ℕ). getD t n (pos 0) ≡ getD u n (pos 0)) (sym e) (ps ((i - 8) / 40) ((i - 8) % 40) (omega arith) (omega arith))
+        let e : i ≡ headerLength + recordLength * ((i - headerLength) / recordLength) + (i - headerLength) % recordLength = omega arith in
+        subst (λ (n : ℕ). getD t n (pos 0) ≡ getD u n (pos 0)) (sym e) (ps ((i - headerLength) / recordLength) ((i - headerLength) % recordLength) (omega arith) (omega arith))
 
     each : (i : ℕ) → i < length t → getD t i (pos 0) ≡ getD u i (pos 0)
-    each i h = elim (native.Mathlib.Decide.decLt i 8) [ yes q ↦ hs i q | no q ↦ far i (omega arith) (omega arith) ]
+    each i h = elim (native.Mathlib.Decide.decLt i headerLength) [ yes q ↦ hs i q | no q ↦ far i (omega arith) (omega arith) ]

@@ -7,13 +7,14 @@ use lib.ListN.{length}
 use lib.IntN.{ℤ}
 use Rattle.numbers.specs.Below.{forBelow}
 use Rattle.numbers.proofs.Steps.{turned}
+use Rattle.table.specs.Limits.{tableLength}
 
 pub record Turns (n : ℕ) (step : ℕ → List ℤ → List ℤ) (first table : List ℤ) (k : ℕ) : Type 0 where
   pub within : k ≤ n
-  pub long : length table ≡ 2568
+  pub long : length table ≡ tableLength
   pub made : table ≡ forBelow k step first
 
-pub turns-first : {n : ℕ} {step : ℕ → List ℤ → List ℤ} {first : List ℤ} → length first ≡ 2568 → Turns n step first first 0
+pub turns-first : {n : ℕ} {step : ℕ → List ℤ → List ℤ} {first : List ℤ} → length first ≡ tableLength → Turns n step first first 0
 unfolding forBelow
 turns-first long = record { within = omega arith; long = long; made = refl }
 

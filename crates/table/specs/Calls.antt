@@ -10,7 +10,7 @@ use lib.Signed.{ltZ, leZ}
 use Rattle.numbers.specs.Whole.{plus, sameℤ, withinℤ}
 use Rattle.numbers.specs.Tests.{every}
 use Rattle.numbers.specs.Below.{allBelow, forBelow}
-use Rattle.table.specs.Limits.{tableLength, recordLength, nodes, lastNode, root, class, client, lastClassLevel, wholeShare, greatestDepth, greatestRate, greatestCount, mostWaiting, sortAt, parentAt, levelAt, kindAt, shareAt, depthAt, rateAt, balanceAt, waitingAt, tagAt, sizeAt, arrivalAt}
+use Rattle.table.specs.Limits.{tableLength, recordLength, nodes, lastNode, sortAt, parentAt, levelAt, kindAt, shareAt, depthAt, rateAt, balanceAt, waitingAt, tagAt, sizeAt, arrivalAt, class, client, fixed, weighted, root, lastClassLevel, wholeShare, greatestDepth, greatestRate, greatestCount, mostWaiting}
 use Rattle.table.specs.Places.{place, put, header, putHeader, count, balance, waiting, queuePlace}
 use Rattle.table.specs.Tree.{treeOf, there, isClass, isClient, childless, sumUnder}
 use Rattle.table.specs.Rates.{fixedSum, renewed}
@@ -66,7 +66,7 @@ joinRefusal t node parent sort kind share depth =
     (withinℤ 1 lastNode node
     ∷ withinℤ 0 lastNode parent
     ∷ withinℤ class client sort
-    ∷ withinℤ 0 1 kind
+    ∷ withinℤ fixed weighted kind
     ∷ withinℤ 1 wholeShare share
     ∷ withinℤ 1 greatestDepth depth
     ∷ [])))
@@ -116,7 +116,7 @@ unfoldable pub changeShareRefusal : List ℤ → ℤ → ℤ → ℤ → ℕ
 changeShareRefusal t node kind share =
     first
     (cause 1 (not (inOrder t))
-    ∷ cause 2 (not (every (withinℤ 0 lastNode node ∷ withinℤ 0 1 kind ∷ withinℤ 1 wholeShare share ∷ [])))
+    ∷ cause 2 (not (every (withinℤ 0 lastNode node ∷ withinℤ fixed weighted kind ∷ withinℤ 1 wholeShare share ∷ [])))
     ∷ cause 3 (not (there (treeOf t) (plus node)))
     ∷ cause 5 (eqb (plus node) root)
     ∷ cause 7 (sharesAbove (reshared t (plus node) kind share) (treeOf t .parent (plus node)))

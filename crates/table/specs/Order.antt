@@ -9,7 +9,7 @@ use lib.Signed.{leZ}
 use Rattle.numbers.specs.Whole.{sameℤ, withinℤ}
 use Rattle.numbers.specs.Tests.{every}
 use Rattle.numbers.specs.Below.{allBelow, sumℤBelow}
-use Rattle.table.specs.Limits.{tableLength, headerLength, recordLength, nodes, lastNode, root, class, client, fixed, lastClassLevel, lastLevel, wholeShare, greatestDepth, greatestRate, greatestCount, mostWaiting, requestLength, queueAt, queueLength, spareAt, spareLength, sortAt, parentAt, levelAt, kindAt, shareAt, depthAt, rateAt, waitingAt, sizeAt, arrivalAt}
+use Rattle.table.specs.Limits.{tableLength, headerLength, recordLength, nodes, lastNode, sortAt, parentAt, levelAt, kindAt, shareAt, depthAt, rateAt, waitingAt, spareAt, spareLength, queueAt, queueLength, requestLength, sizeAt, arrivalAt, class, client, fixed, weighted, root, lastClassLevel, lastLevel, wholeShare, greatestDepth, greatestRate, greatestCount, mostWaiting}
 use Rattle.table.specs.Places.{place, header, count, rate, balance, waiting, depthGrains, queuePlace, arrival}
 use Rattle.table.specs.Tree.{Tree, treeOf, there, isClass, childOf, sumUnder, eachNode, eachClass, eachClient, testIf}
 use Rattle.table.specs.Rates.{fixedSum, rateIn}
@@ -32,7 +32,7 @@ limitsKept t k =
     (withinℤ class client (place t k sortAt)
     ∷ withinℤ 0 lastNode (place t k parentAt)
     ∷ withinℤ 0 lastLevel (place t k levelAt)
-    ∷ withinℤ 0 1 (place t k kindAt)
+    ∷ withinℤ fixed weighted (place t k kindAt)
     ∷ withinℤ 1 wholeShare (place t k shareAt)
     ∷ withinℤ 1 greatestDepth (place t k depthAt)
     ∷ withinℤ 0 mostWaiting (place t k waitingAt)

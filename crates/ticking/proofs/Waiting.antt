@@ -8,6 +8,7 @@ use borrow.Author.Tests.{ltb-false, not-false}
 use lib.ListN.{length}
 use lib.IntN.{ℤ}
 use Rattle.numbers.proofs.Sums.{sum-bound}
+use Rattle.table.specs.Limits.{nodes, mostWaiting, entryLength}
 use Rattle.table.specs.Places.{waiting}
 use Rattle.table.specs.Order.{inOrder}
 use Rattle.table.specs.Tick.{allWaiting, tickRefusal}
@@ -15,17 +16,17 @@ use Rattle.table.proofs.Facts.{InOrder}
 use Rattle.table.proofs.Refusals.{none-first}
 use Rattle.steps.proofs.Within.{waiting-few}
 
-pub few : (t : List ℤ) → InOrder t → allWaiting t ≤ 512
+pub few : (t : List ℤ) → InOrder t → allWaiting t ≤ nodes * mostWaiting
 unfolding allWaiting waiting
-few t f = sum-bound 64 8 (waiting t) (λ k hk. waiting-few t f k hk)
+few t f = sum-bound nodes mostWaiting (waiting t) (λ k hk. waiting-few t f k hk)
 
 pub record Passed (t list : List ℤ) : Type 0 where
   pub order : inOrder t ≡ true
-  pub room : 4 * allWaiting t ≤ length list
+  pub room : entryLength * allWaiting t ≤ length list
 
 pub tick-passed : (t list : List ℤ) → tickRefusal t list ≡ 0 → Passed t list
 unfolding tickRefusal
 tick-passed t list h =
     let p = none-first 1 _ _ (omega arith) h in
     let q = none-first 13 _ _ (omega arith) (p .1) in
-    record { order = not-false _ (p .0); room = ltb-false (length list) (4 * allWaiting t) (q .0) }
+    record { order = not-false _ (p .0); room = ltb-false (length list) (entryLength * allWaiting t) (q .0) }

@@ -13,6 +13,7 @@ use lib.Signed.{leZ}
 use Rattle.numbers.specs.Whole.{plus, minus}
 use Rattle.numbers.proofs.Tests.{true-false}
 use Rattle.numbers.proofs.Parts.{zarith, sub-parts, le-parts}
+use Rattle.table.specs.Limits.{tableLength, nodes, balanceAt}
 use Rattle.table.specs.Places.{place, balance}
 use Rattle.table.specs.Tree.{Tree, treeOf, sumUnder}
 use Rattle.table.specs.Tick.{lower, charge}
@@ -28,13 +29,13 @@ pub lower-only : (t : List ℤ) (a k : ℕ) → OnlyBalances t (lower t a k)
 unfolding lower
 lower-only t a k = only-put t k (balance t k -ℤ pos a)
 
-pub lower-same : (t : List ℤ) (a k : ℕ) → length t ≡ 2568 → k < 64 → balance (lower t a k) k ≡ balance t k -ℤ pos a
+pub lower-same : (t : List ℤ) (a k : ℕ) → length t ≡ tableLength → k < nodes → balance (lower t a k) k ≡ balance t k -ℤ pos a
 unfolding lower balance
-lower-same t a k n hk = place-put-same t k 7 (place t k 7 -ℤ pos a) n hk (omega arith)
+lower-same t a k n hk = place-put-same t k balanceAt (place t k balanceAt -ℤ pos a) n hk (omega arith)
 
 pub lower-other : (t : List ℤ) (a k j : ℕ) → (j ≡ k → ⊥) → balance (lower t a k) j ≡ balance t j
 unfolding lower balance
-lower-other t a k j ne = place-put-node t k 7 (place t k 7 -ℤ pos a) j 7 (omega arith) (omega arith) ne
+lower-other t a k j ne = place-put-node t k balanceAt (place t k balanceAt -ℤ pos a) j balanceAt (omega arith) (omega arith) ne
 
 lower-tree : (t : List ℤ) (a k : ℕ) → treeOf (lower t a k) ≡ treeOf t
 lower-tree t a k = frame-tree t (lower t a k) (only-frame (lower-only t a k))
@@ -56,7 +57,7 @@ module _ (tree : Tree) (w : Ways tree) (a : ℕ) where
       ∙ lower-other t a k j ne)
 
   -- A node on the way has the amount less.
-  pub charge-on : (l : ℕ) (t : List ℤ) → length t ≡ 2568 → treeOf t ≡ tree → (k j : ℕ) → At tree l k → onWay tree l k j ≡ true → balance (charge t a l k) j ≡ balance t j -ℤ pos a
+  pub charge-on : (l : ℕ) (t : List ℤ) → length t ≡ tableLength → treeOf t ≡ tree → (k j : ℕ) → At tree l k → onWay tree l k j ≡ true → balance (charge t a l k) j ≡ balance t j -ℤ pos a
   unfolding charge
   charge-on zero t n e k j at on = rw (way-top tree k j on) (lower-same t a k n (at .low))
   charge-on (suc l) t n e k j at on =
@@ -117,7 +118,7 @@ module _ (tree : Tree) (w : Ways tree) (a : ℕ) where
           client = λ e. absurd (true-false (up .class) e);
         }
 
-  pub charge-floor : (l : ℕ) (t : List ℤ) → length t ≡ 2568 → treeOf t ≡ tree → (k : ℕ) → At tree l k → Floor tree (balance t) → Room tree (balance t) a k → Floor tree (balance (charge t a l k))
+  pub charge-floor : (l : ℕ) (t : List ℤ) → length t ≡ tableLength → treeOf t ≡ tree → (k : ℕ) → At tree l k → Floor tree (balance t) → Room tree (balance t) a k → Floor tree (balance (charge t a l k))
   unfolding charge
   charge-floor zero t n e k at f r = floor-lowered (balance t) (balance (lower t a k)) k (lower-same t a k n (at .low)) (lower-other t a k) f r
   charge-floor (suc l) t n e k at f r =

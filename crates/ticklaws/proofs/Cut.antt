@@ -12,6 +12,7 @@ use lib.Signed.{leZ}
 use Rattle.numbers.specs.Whole.{plus, minus}
 use Rattle.numbers.proofs.Tests.{by-test, cond-true, cond-false}
 use Rattle.numbers.proofs.Parts.{zarith, one-is-zero}
+use Rattle.table.specs.Limits.{tableLength, nodes, balanceAt, grainScale}
 use Rattle.table.specs.Places.{put, balance, depthGrains}
 use Rattle.table.specs.Tree.{Tree, treeOf}
 use Rattle.table.specs.Tick.{cut}
@@ -26,11 +27,11 @@ use Rattle.ticklaws.proofs.Sweep.{set-put, set-same, Swept, sweep}
 unfoldable pub cutTo : ℕ → ℤ → ℤ
 cutTo d b = cond (leZ b (pos d)) b (pos d)
 
-pub cut-swept : (t : List ℤ) → length t ≡ 2568 → Swept t (λ k. cutTo (depthGrains t k) (balance t k)) 64 (cut t)
+pub cut-swept : (t : List ℤ) → length t ≡ tableLength → Swept t (λ k. cutTo (depthGrains t k) (balance t k)) nodes (cut t)
 unfolding cut cutTo
 cut-swept t n =
     sweep t (λ k. cutTo (depthGrains t k) (balance t k))
-    (λ k u. cond (leZ (balance u k) (pos (depthGrains u k))) u (put u k 7 (pos (depthGrains u k))))
+    (λ k u. cond (leZ (balance u k) (pos (depthGrains u k))) u (put u k balanceAt (pos (depthGrains u k))))
     (λ k u hk only e.
     let deep = frame-depth t u (only-frame only) k in
     rw (e, deep)
@@ -59,18 +60,18 @@ cut-most d b =
     (λ h. omega (arith, ap plus (cut-high d b h)))
 
 -- All balances cut, from B to B'.
-module _ (tree : Tree) (L : Levels tree) (B B' : ℕ → ℤ) (new : (k : ℕ) → k < 64 → B' k ≡ cutTo (tree .depth k * 1000) (B k)) where
+module _ (tree : Tree) (L : Levels tree) (B B' : ℕ → ℤ) (new : (k : ℕ) → k < nodes → B' k ≡ cutTo (tree .depth k * grainScale) (B k)) where
   pub under-cut : Under tree B'
-  under-cut = record { most = λ k hk h. rw (new k hk) (cut-most (tree .depth k * 1000) (B k)) }
+  under-cut = record { most = λ k hk h. rw (new k hk) (cut-most (tree .depth k * grainScale) (B k)) }
 
-  kept-room : (k : ℕ) → k < 64 → Room tree B 0 k → B' k ≡ B k → Room tree B' 0 k
+  kept-room : (k : ℕ) → k < nodes → Room tree B 0 k → B' k ≡ B k → Room tree B' 0 k
   kept-room k hk r e =
       record {
-        class = λ c. omega (arith, zarith, r .class c, under-falls tree k B B' (λ j hj child. rw (new j hj) (cut-falls (tree .depth j * 1000) (B j))));
+        class = λ c. omega (arith, zarith, r .class c, under-falls tree k B B' (λ j hj child. rw (new j hj) (cut-falls (tree .depth j * grainScale) (B j))));
         client = λ c. omega (arith, zarith, r .client c);
       }
 
-  full-room : (k : ℕ) → k < 64 → B' k ≡ pos (tree .depth k * 1000) → Room tree B' 0 k
+  full-room : (k : ℕ) → k < nodes → B' k ≡ pos (tree .depth k * grainScale) → Room tree B' 0 k
   unfolding plus minus
   full-room k hk e =
       record {
@@ -82,9 +83,9 @@ module _ (tree : Tree) (L : Levels tree) (B B' : ℕ → ℤ) (new : (k : ℕ) �
   floor-cut f =
       record {
         room = λ k hk h.
-            by-test (leZ (B k) (pos (tree .depth k * 1000)))
-            (λ low. kept-room k hk (f .room k hk h) (new k hk ∙ cut-low (tree .depth k * 1000) (B k) low))
-            (λ high. full-room k hk (new k hk ∙ cut-high (tree .depth k * 1000) (B k) high));
+            by-test (leZ (B k) (pos (tree .depth k * grainScale)))
+            (λ low. kept-room k hk (f .room k hk h) (new k hk ∙ cut-low (tree .depth k * grainScale) (B k) low))
+            (λ high. full-room k hk (new k hk ∙ cut-high (tree .depth k * grainScale) (B k) high));
       }
 
 cut-zero : (d : ℕ) (b : ℤ) → b ≡ pos 0 → cutTo d b ≡ pos 0
@@ -92,10 +93,10 @@ unfolding plus minus
 cut-zero d b e = cut-low d b (omega (arith, zarith)) ∙ e
 
 module _ (t u : List ℤ) (f : InOrder t) (r : Reached t u) where
-  swept : Swept u (λ k. cutTo (depthGrains u k) (balance u k)) 64 (cut u)
+  swept : Swept u (λ k. cutTo (depthGrains u k) (balance u k)) nodes (cut u)
   swept = cut-swept u (reached-long t u f r)
 
-  new : (k : ℕ) → k < 64 → balance (cut u) k ≡ cutTo (treeOf t .depth k * 1000) (balance u k)
+  new : (k : ℕ) → k < nodes → balance (cut u) k ≡ cutTo (treeOf t .depth k * grainScale) (balance u k)
   new k hk = swept .new k hk ∙ ap (λ d. cutTo d (balance u k)) (frame-grains t u (r .frame) k)
 
   pub cut-under : Under (treeOf t) (balance (cut u))
@@ -105,4 +106,4 @@ module _ (t u : List ℤ) (f : InOrder t) (r : Reached t u) where
   cut-reached =
       reached-balances t u (cut u) r (swept .only)
       (floor-cut (treeOf t) (levels t (grounds t f)) (balance u) (balance (cut u)) new (r .floor))
-      (record { zero = λ k hk h. new k hk ∙ cut-zero (treeOf t .depth k * 1000) (balance u k) (r .vacant .zero k hk h) })
+      (record { zero = λ k hk h. new k hk ∙ cut-zero (treeOf t .depth k * grainScale) (balance u k) (r .vacant .zero k hk h) })

@@ -14,6 +14,7 @@ use lib.Signed.{leZ}
 use Rattle.numbers.specs.Whole.{plus, minus}
 use Rattle.numbers.proofs.Tests.{by-test, true-false}
 use Rattle.numbers.proofs.Parts.{zarith, sub-parts, one-is-zero}
+use Rattle.table.specs.Limits.{tableLength, nodes, entryLength}
 use Rattle.table.specs.Places.{balance, count, waiting, size}
 use Rattle.table.specs.Tree.{Tree, treeOf, there}
 use Rattle.table.specs.Tick.{State, grains, charge, takenOut, dispatched}
@@ -47,7 +48,7 @@ module _ (t : List ℤ) (k s : ℕ) where
   unfolding paid
   paid-only = charge-only (treeOf t .level s) t (grains (size t k 0)) s
 
-module _ (tree : Tree) (w : Ways tree) (t : List ℤ) (n : length t ≡ 2568) (e : treeOf t ≡ tree) (k : ℕ) (hk : k < 64) (s : ℕ) (at : At tree (tree .level s) s) where
+module _ (tree : Tree) (w : Ways tree) (t : List ℤ) (n : length t ≡ tableLength) (e : treeOf t ≡ tree) (k : ℕ) (hk : k < nodes) (s : ℕ) (at : At tree (tree .level s) s) where
   gone-balance : (j : ℕ) → balance (gone t k s) j ≡ balance (paid t k s) j
   unfolding gone
   gone-balance j = taken-balance (paid t k s) (paid-only t k s .long ∙ n) k hk j
@@ -57,7 +58,7 @@ module _ (tree : Tree) (w : Ways tree) (t : List ℤ) (n : length t ≡ 2568) (e
   gone-dispatch waits =
       let c : List ℤ = charge t (grains (size t k 0)) (treeOf t .level s) s in
       let only : OnlyBalances t c = paid-only t k s in
-      let long : length c ≡ 2568 = only .long ∙ n in
+      let long : length c ≡ tableLength = only .long ∙ n in
       let still = only-shifted t c only in
       record {
         frame = frame-trans (only-frame only) (taken-frame c long k hk);
@@ -96,7 +97,7 @@ dispatch-shifted tree t u k s d j =
     (λ e. rw e (d .other j (eqb-false j k e)))
 
 -- A dispatch on the way from t, at a table that is reached.
-module _ (t : List ℤ) (f : InOrder t) (st : State) (r : Reached t (st .table)) (k : ℕ) (hk : k < 64) (waits : 0 < waiting (st .table) k) (s : ℕ) (at : At (treeOf t) (treeOf t .level s) s) where
+module _ (t : List ℤ) (f : InOrder t) (st : State) (r : Reached t (st .table)) (k : ℕ) (hk : k < nodes) (waits : 0 < waiting (st .table) k) (s : ℕ) (at : At (treeOf t) (treeOf t .level s) s) where
   pub dispatch : Dispatch (treeOf t) (st .table) (dispatched st k s .table) k s
   unfolding dispatched gone paid
   dispatch = gone-dispatch (treeOf t) (ways-of t f) (st .table) (reached-long t (st .table) f r) (frame-tree t (st .table) (r .frame)) k hk s at waits
@@ -122,6 +123,6 @@ module _ (t : List ℤ) (f : InOrder t) (st : State) (r : Reached t (st .table))
           (λ off. off)
 
 -- The list grows by one entry.
-pub dispatch-entry : (st : State) (k s : ℕ) → length (dispatched st k s .entries) ≡ length (st .entries) + 4
+pub dispatch-entry : (st : State) (k s : ℕ) → length (dispatched st k s .entries) ≡ length (st .entries) + entryLength
 unfolding dispatched
 dispatch-entry st k s = length-append (st .entries) _

@@ -8,23 +8,24 @@ use native.Mathlib.Decide.{decLt, ℕ-discrete}
 use lib.ListN.{length}
 use lib.IntN.{ℤ}
 use Rattle.numbers.specs.Whole.{plus}
+use Rattle.table.specs.Limits.{headerLength, recordLength, depthAt, rateAt, balanceAt, waitingAt, spareAt, spareLength, queueAt, queueLength, grainScale}
 use Rattle.table.specs.Places.{place, put, header, count, rate, depthGrains}
 use Rattle.table.specs.Tree.{treeOf}
 use Rattle.table.proofs.Places.{length-put, header-put, place-put-place}
 use Rattle.treelaws.proofs.Renewed.{same-tree}
 
 -- The places of a record by what they hold: tree and rate, balance, waiting count, spare places, waiting places.
-pub by-place {ℓ} : (P : ℕ → Type ℓ) → ((p : ℕ) → p < 7 → P p) → P 7 → P 8 → ((p : ℕ) → p < 7 → P (9 + p)) → ((p : ℕ) → p < 24 → P (16 + p)) → (p : ℕ) → p < 40 → P p
+pub by-place {ℓ} : (P : ℕ → Type ℓ) → ((p : ℕ) → p < balanceAt → P p) → P balanceAt → P waitingAt → ((p : ℕ) → p < spareLength → P (spareAt + p)) → ((p : ℕ) → p < queueLength → P (queueAt + p)) → (p : ℕ) → p < recordLength → P p
 by-place P early balance waits spare queue p hp =
-    elim (decLt p 7) [
+    elim (decLt p balanceAt) [
       | yes l ↦ early p l
-      | no l ↦ elim (ℕ-discrete p 7) [
+      | no l ↦ elim (ℕ-discrete p balanceAt) [
         | yes e ↦ rw e balance
-        | no e ↦ elim (ℕ-discrete p 8) [
+        | no e ↦ elim (ℕ-discrete p waitingAt) [
           | yes d ↦ rw d waits
-          | no d ↦ elim (decLt p 16) [
-            | yes m ↦ subst P (omega arith) (spare (p - 9) (omega arith))
-            | no m ↦ subst P (omega arith) (queue (p - 16) (omega arith))
+          | no d ↦ elim (decLt p queueAt) [
+            | yes m ↦ subst P (omega arith) (spare (p - spareAt) (omega arith))
+            | no m ↦ subst P (omega arith) (queue (p - queueAt) (omega arith))
           ]
         ]
       ]
@@ -32,9 +33,9 @@ by-place P early balance waits spare queue p hp =
 
 pub record Frame (t u : List ℤ) : Type 0 where
   pub long : length u ≡ length t
-  pub heading : (q : ℕ) → q < 8 → header u q ≡ header t q
-  pub early : (k p : ℕ) → p < 7 → place u k p ≡ place t k p
-  pub spare : (k p : ℕ) → p < 7 → place u k (9 + p) ≡ place t k (9 + p)
+  pub heading : (q : ℕ) → q < headerLength → header u q ≡ header t q
+  pub early : (k p : ℕ) → p < balanceAt → place u k p ≡ place t k p
+  pub spare : (k p : ℕ) → p < spareLength → place u k (spareAt + p) ≡ place t k (spareAt + p)
 
 pub frame-refl : (t : List ℤ) → Frame t t
 frame-refl t = record { long = refl; heading = λ q h. refl; early = λ k p h. refl; spare = λ k p h. refl }
@@ -51,8 +52,8 @@ frame-trans f g =
 -- Nothing but balances is changed.
 pub record OnlyBalances (t u : List ℤ) : Type 0 where
   pub long : length u ≡ length t
-  pub heading : (q : ℕ) → q < 8 → header u q ≡ header t q
-  pub others : (k p : ℕ) → p < 40 → (p ≡ 7 → ⊥) → place u k p ≡ place t k p
+  pub heading : (q : ℕ) → q < headerLength → header u q ≡ header t q
+  pub others : (k p : ℕ) → p < recordLength → (p ≡ balanceAt → ⊥) → place u k p ≡ place t k p
 
 pub only-refl : (t : List ℤ) → OnlyBalances t t
 only-refl t = record { long = refl; heading = λ q h. refl; others = λ k p h ne. refl }
@@ -65,12 +66,12 @@ only-trans f g =
       others = λ k p h ne. g .others k p h ne ∙ f .others k p h ne;
     }
 
-pub only-put : (t : List ℤ) (k : ℕ) (v : ℤ) → OnlyBalances t (put t k 7 v)
+pub only-put : (t : List ℤ) (k : ℕ) (v : ℤ) → OnlyBalances t (put t k balanceAt v)
 only-put t k v =
     record {
-      long = length-put t k 7 v;
-      heading = λ q h. header-put t k 7 v q h;
-      others = λ j p h ne. place-put-place t k 7 v j p (omega arith) h ne;
+      long = length-put t k balanceAt v;
+      heading = λ q h. header-put t k balanceAt v q h;
+      others = λ j p h ne. place-put-place t k balanceAt v j p (omega arith) h ne;
     }
 
 pub only-frame : {t u : List ℤ} → OnlyBalances t u → Frame t u
@@ -79,7 +80,7 @@ only-frame f =
       long = f .long;
       heading = f .heading;
       early = λ k p h. f .others k p (omega arith) (λ e. omega arith);
-      spare = λ k p h. f .others k (9 + p) (omega arith) (λ e. omega arith);
+      spare = λ k p h. f .others k (spareAt + p) (omega arith) (λ e. omega arith);
     }
 
 pub frame-tree : (t u : List ℤ) → Frame t u → treeOf u ≡ treeOf t
@@ -87,13 +88,13 @@ frame-tree t u f = same-tree u t (λ k p h. f .early k p (omega arith))
 
 pub frame-rate : (t u : List ℤ) → Frame t u → (k : ℕ) → rate u k ≡ rate t k
 unfolding rate
-frame-rate t u f k = ap plus (f .early k 6 (omega arith))
+frame-rate t u f k = ap plus (f .early k rateAt (omega arith))
 
 pub frame-depth : (t u : List ℤ) → Frame t u → (k : ℕ) → depthGrains u k ≡ depthGrains t k
 unfolding depthGrains
-frame-depth t u f k = rw (f .early k 5 (omega arith))
+frame-depth t u f k = rw (f .early k depthAt (omega arith))
 
-pub frame-grains : (t u : List ℤ) → Frame t u → (k : ℕ) → depthGrains u k ≡ treeOf t .depth k * 1000
+pub frame-grains : (t u : List ℤ) → Frame t u → (k : ℕ) → depthGrains u k ≡ treeOf t .depth k * grainScale
 unfolding depthGrains treeOf
 frame-grains t u f k = frame-depth t u f k
 

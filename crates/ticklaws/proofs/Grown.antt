@@ -9,6 +9,7 @@ use lib.ListN.{length}
 use lib.IntN.{ℤ, pos, _+ℤ_}
 use Rattle.numbers.specs.Whole.{plus, minus}
 use Rattle.numbers.proofs.Parts.{zarith, add-parts, plus-pos}
+use Rattle.table.specs.Limits.{tableLength, nodes, rateAt, balanceAt, root}
 use Rattle.table.specs.Places.{put, rate, balance}
 use Rattle.table.specs.Tree.{Tree, treeOf, there, isClass, sumUnder}
 use Rattle.table.specs.Rates.{rateIn, childRate}
@@ -22,15 +23,15 @@ use Rattle.ticklaws.proofs.Frame.{only-frame, frame-rate}
 use Rattle.ticklaws.proofs.Reached.{Reached, reached-first, reached-balances}
 use Rattle.ticklaws.proofs.Sweep.{set-put, Swept, sweep}
 
-pub grown-swept : (t : List ℤ) → length t ≡ 2568 → Swept t (λ k. balance t k +ℤ pos (rate t k)) 64 (grown t)
+pub grown-swept : (t : List ℤ) → length t ≡ tableLength → Swept t (λ k. balance t k +ℤ pos (rate t k)) nodes (grown t)
 unfolding grown
 grown-swept t n =
-    sweep t (λ k. balance t k +ℤ pos (rate t k)) (λ k u. put u k 7 (balance u k +ℤ pos (rate u k)))
+    sweep t (λ k. balance t k +ℤ pos (rate t k)) (λ k u. put u k balanceAt (balance u k +ℤ pos (rate u k)))
     (λ k u hk only e. rw (e, frame-rate t u (only-frame only) k) (set-put u k (balance t k +ℤ pos (rate t k)) (only .long ∙ n) hk))
 
 -- Balances grow from B to B' by the amounts r, of which a class's children have at most the class's.
-module _ (tree : Tree) (r : ℕ → ℕ) (fair : (c : ℕ) → c < 64 → isClass tree c ≡ true → sumUnder tree c r ≤ r c) (B B' : ℕ → ℤ) (new : (k : ℕ) → k < 64 → B' k ≡ B k +ℤ pos (r k)) where
-  grows : (k : ℕ) → k < 64 → plus (B' k) + minus (B k) ≡ minus (B' k) + (plus (B k) + r k)
+module _ (tree : Tree) (r : ℕ → ℕ) (fair : (c : ℕ) → c < nodes → isClass tree c ≡ true → sumUnder tree c r ≤ r c) (B B' : ℕ → ℤ) (new : (k : ℕ) → k < nodes → B' k ≡ B k +ℤ pos (r k)) where
+  grows : (k : ℕ) → k < nodes → plus (B' k) + minus (B k) ≡ minus (B' k) + (plus (B k) + r k)
   unfolding plus minus
   grows k hk = omega (arith, zarith, new k hk, add-parts (B k) (pos (r k)))
 
@@ -55,14 +56,14 @@ module _ (tree : Tree) (r : ℕ → ℕ) (fair : (c : ℕ) → c < 64 → isClas
       }
 
 -- A node's rate is the one that the tree gives it.
-pub rate-in-order : (t : List ℤ) → InOrder t → (k : ℕ) → k < 64 → there (treeOf t) k ≡ true → rate t k ≡ rateIn (treeOf t) (rate t 0) k
+pub rate-in-order : (t : List ℤ) → InOrder t → (k : ℕ) → k < nodes → there (treeOf t) k ≡ true → rate t k ≡ rateIn (treeOf t) (rate t root) k
 unfolding rate
-rate-in-order t f k hk h = ap plus (f .rates k hk h) ∙ plus-pos (rateIn (treeOf t) (rate t 0) k)
+rate-in-order t f k hk h = ap plus (f .rates k hk h) ∙ plus-pos (rateIn (treeOf t) (rate t root) k)
 
-fair-rates : (t : List ℤ) → InOrder t → (c : ℕ) → c < 64 → isClass (treeOf t) c ≡ true → sumUnder (treeOf t) c (rate t) ≤ rate t c
+fair-rates : (t : List ℤ) → InOrder t → (c : ℕ) → c < nodes → isClass (treeOf t) c ≡ true → sumUnder (treeOf t) c (rate t) ≤ rate t c
 fair-rates t f c hc e =
     let tree = treeOf t in
-    let disk = rate t 0 in
+    let disk = rate t root in
     omega (
       arith,
       under-le tree c (rate t) (childRate tree (rateIn tree disk c))
@@ -77,12 +78,12 @@ fair-rates t f c hc e =
       rate-in-order t f c hc (class-there tree c e),
     )
 
-no-rate : (t : List ℤ) → InOrder t → (k : ℕ) → k < 64 → there (treeOf t) k ≡ false → rate t k ≡ 0
+no-rate : (t : List ℤ) → InOrder t → (k : ℕ) → k < nodes → there (treeOf t) k ≡ false → rate t k ≡ 0
 unfolding rate
-no-rate t f k hk h = ap plus (f .empty k hk h 6 (omega arith)) ∙ plus-pos 0
+no-rate t f k hk h = ap plus (f .empty k hk h rateAt (omega arith)) ∙ plus-pos 0
 
 module _ (t : List ℤ) (f : InOrder t) where
-  swept : Swept t (λ k. balance t k +ℤ pos (rate t k)) 64 (grown t)
+  swept : Swept t (λ k. balance t k +ℤ pos (rate t k)) nodes (grown t)
   swept = grown-swept t (f .long)
 
   pub grown-reached : Reached t (grown t)

@@ -5,6 +5,7 @@ use mathlib.Core.Bool.{true, false}
 use mathlib.Core.List.{List, []}
 use native.Mathlib.Omega.{arith}
 use lib.IntN.{ℤ}
+use Rattle.table.specs.Limits.{nodes}
 use Rattle.table.specs.Order.{inOrder}
 use Rattle.table.specs.Tick.{grown, ready, supplied, next, allWaiting, stepTwo, stepThree, ticked}
 use Rattle.table.proofs.Facts.{InOrder, facts, from-facts}
@@ -21,7 +22,7 @@ module _ (t : List ℤ) (f : InOrder t) where
   two-reached = servedAll-reached t f (record { table = grown t; entries = [] }) (grown-reached t f)
 
   -- After step 2 no client is ready.
-  pub two-suffices : (k : ℕ) → k < 64 → ready (stepTwo t .table) k ≡ false
+  pub two-suffices : (k : ℕ) → k < nodes → ready (stepTwo t .table) k ≡ false
   unfolding stepTwo
   two-suffices = servedAll-suffices t f (record { table = grown t; entries = [] }) (grown-reached t f)
 
@@ -38,11 +39,11 @@ module _ (t : List ℤ) (f : InOrder t) where
   ticked-in-order = in-order-again t (ticked t .table) f (ticked-settled .reached) (ticked-settled .under)
 
   -- After step 4 no request has a supplier.
-  pub ticked-suffices : next (ticked t .table) ≡ 64
+  pub ticked-suffices : next (ticked t .table) ≡ nodes
   unfolding ticked
   ticked-suffices = lent-suffices t f (allWaiting (stepThree t .table)) (stepThree t) three-settled (omega arith)
 
-  pub none-supplied : (k : ℕ) → k < 64 → supplied (ticked t .table) k ≡ false
+  pub none-supplied : (k : ℕ) → k < nodes → supplied (ticked t .table) k ≡ false
   none-supplied = next-none (ticked t .table) ticked-suffices
 
 pub tick-keeps : (t : List ℤ) → inOrder t ≡ true → inOrder (ticked t .table) ≡ true

@@ -14,9 +14,10 @@ use Rattle.numbers.specs.Whole.{plus, minus}
 use Rattle.numbers.proofs.Tests.{by-test}
 use Rattle.numbers.proofs.Parts.{zarith}
 use Rattle.numbers.proofs.Sums.{sum-changed, term-le-sum}
+use Rattle.table.specs.Limits.{nodes}
 use Rattle.table.specs.Places.{balance, waiting, size}
 use Rattle.table.specs.Tree.{Tree, treeOf}
-use Rattle.table.specs.Tick.{State, grains, enough, dispatched, supplier, supplied, next, lent, allWaiting}
+use Rattle.table.specs.Tick.{nobody, State, grains, enough, dispatched, supplier, supplied, next, lent, allWaiting}
 use Rattle.table.proofs.Facts.{InOrder}
 use Rattle.treelaws.proofs.Floors.{children-under, Levels, Room, Under}
 use Rattle.ticklaws.proofs.Frame.{frame-tree}
@@ -26,20 +27,20 @@ use Rattle.ticklaws.proofs.Next.{Supplied, supplied-facts, next-found, 
 use Rattle.ticklaws.proofs.Dispatch.{Dispatch, dispatch, dispatch-reached, dispatch-under}
 use Rattle.ticklaws.proofs.Served.{client-at}
 
-pub lent-again : (n : ℕ) (st : State) → (next (st .table) ≡ 64 → ⊥) → lent (suc n) st ≡ lent n (dispatched st (next (st .table)) (supplier (st .table) (next (st .table))))
+pub lent-again : (n : ℕ) (st : State) → (next (st .table) ≡ nobody → ⊥) → lent (suc n) st ≡ lent n (dispatched st (next (st .table)) (supplier (st .table) (next (st .table))))
 unfolding lent
-lent-again n st ne = rw (ne-eqb (next (st .table)) 64 ne, lent)
+lent-again n st ne = rw (ne-eqb (next (st .table)) nobody ne, lent)
 
-pub lent-done : (n : ℕ) (st : State) → next (st .table) ≡ 64 → lent (suc n) st ≡ st
+pub lent-done : (n : ℕ) (st : State) → next (st .table) ≡ nobody → lent (suc n) st ≡ st
 unfolding lent
-lent-done n st e = rw (eq-eqb (next (st .table)) 64 e, lent)
+lent-done n st e = rw (eq-eqb (next (st .table)) nobody e, lent)
 
 -- What each dispatch of a request that has a supplier keeps, step 4 keeps.
-pub lent-keeps : (P : State → Type 0) → ((st : State) → P st → (k : ℕ) → k < 64 → Supplied (st .table) k → P (dispatched st k (supplier (st .table) k))) → (n : ℕ) (st : State) → P st → P (lent n st)
+pub lent-keeps : (P : State → Type 0) → ((st : State) → P st → (k : ℕ) → k < nodes → Supplied (st .table) k → P (dispatched st k (supplier (st .table) k))) → (n : ℕ) (st : State) → P st → P (lent n st)
 unfolding lent
 lent-keeps P each zero st p = p
 lent-keeps P each (suc n) st p =
-    elim (ℕ-discrete (next (st .table)) 64) [
+    elim (ℕ-discrete (next (st .table)) nobody) [
       | yes e ↦ rw (lent-done n st e) p
       | no ne ↦
           let k = next (st .table) in
@@ -49,7 +50,7 @@ lent-keeps P each (suc n) st p =
     ]
 
 -- A node with enough balance, in a tree where no balance exceeds its depth, stands that amount above its floor.
-pub supplier-room : (tree : Tree) → Levels tree → (B : ℕ → ℤ) → Under tree B → (a s : ℕ) → s < 64 → leZ (pos a) (B s) ≡ true → Room tree B a s
+pub supplier-room : (tree : Tree) → Levels tree → (B : ℕ → ℤ) → Under tree B → (a s : ℕ) → s < nodes → leZ (pos a) (B s) ≡ true → Room tree B a s
 unfolding plus minus
 supplier-room tree L B under a s hs h =
     record {
@@ -62,7 +63,7 @@ pub record Settled (t u : List ℤ) : Type 0 where
   pub reached : Reached t u
   pub under : Under (treeOf t) (balance u)
 
-module _ (t : List ℤ) (f : InOrder t) (st : State) (r : Settled t (st .table)) (k : ℕ) (hk : k < 64) (s : Supplied (st .table) k) where
+module _ (t : List ℤ) (f : InOrder t) (st : State) (r : Settled t (st .table)) (k : ℕ) (hk : k < nodes) (s : Supplied (st .table) k) where
   same : treeOf (st .table) ≡ treeOf t
   same = frame-tree t (st .table) (r .reached .frame)
 
@@ -86,32 +87,32 @@ module _ (t : List ℤ) (f : InOrder t) (st : State) (r : Settled t (st .table))
       }
 
 -- A dispatch takes one waiting request out.
-pub waiting-falls : (tree : Tree) (t u : List ℤ) (k s : ℕ) → k < 64 → Dispatch tree t u k s → allWaiting u + 1 ≡ allWaiting t
+pub waiting-falls : (tree : Tree) (t u : List ℤ) (k s : ℕ) → k < nodes → Dispatch tree t u k s → allWaiting u + 1 ≡ allWaiting t
 unfolding allWaiting
 waiting-falls tree t u k s hk d =
     omega (
       arith,
-      sum-changed 64 k (waiting u) (waiting t) hk (λ j hj ne. omega (arith, d .other j ne)),
+      sum-changed nodes k (waiting u) (waiting t) hk (λ j hj ne. omega (arith, d .other j ne)),
       d .own,
     )
 
-none-supplied : (t : List ℤ) → allWaiting t ≡ 0 → (k : ℕ) → k < 64 → supplied t k ≡ false
+none-supplied : (t : List ℤ) → allWaiting t ≡ 0 → (k : ℕ) → k < nodes → supplied t k ≡ false
 unfolding allWaiting
 none-supplied t e k hk = by-test (supplied t k) (λ h. absurd (none (supplied-facts t k h .waits))) (λ h. h)
   where
     none : 0 < waiting t k → ⊥
-    none l = omega (arith, term-le-sum 64 k (waiting t) hk)
+    none l = omega (arith, term-le-sum nodes k (waiting t) hk)
 
 module _ (t : List ℤ) (f : InOrder t) where
   pub lent-reached : (n : ℕ) (st : State) → Settled t (st .table) → Settled t (lent n st .table)
   lent-reached = lent-keeps (λ st. Settled t (st .table)) (lent-settled t f)
 
   -- All waiting requests are enough fuel.
-  pub lent-suffices : (n : ℕ) (st : State) → Settled t (st .table) → allWaiting (st .table) ≤ n → next (lent n st .table) ≡ 64
+  pub lent-suffices : (n : ℕ) (st : State) → Settled t (st .table) → allWaiting (st .table) ≤ n → next (lent n st .table) ≡ nobody
   unfolding lent
   lent-suffices zero st r h = none-next (st .table) (none-supplied (st .table) (omega arith))
   lent-suffices (suc n) st r h =
-      elim (ℕ-discrete (next (st .table)) 64) [
+      elim (ℕ-discrete (next (st .table)) nobody) [
         | yes e ↦ rw (lent-done n st e) e
         | no ne ↦
             let k = next (st .table) in
@@ -124,7 +125,7 @@ module _ (t : List ℤ) (f : InOrder t) where
       ]
 
 -- What each dispatch of step 4 keeps, with what is known at it, step 4 keeps.
-pub lent-with : (t : List ℤ) → InOrder t → (P : State → Type 0) → ((st : State) → Settled t (st .table) → (k : ℕ) → k < 64 → Supplied (st .table) k → Dispatch (treeOf t) (st .table) (dispatched st k (supplier (st .table) k) .table) k (supplier (st .table) k) → P st → P (dispatched st k (supplier (st .table) k))) → (n : ℕ) (st : State) → Settled t (st .table) → P st → P (lent n st)
+pub lent-with : (t : List ℤ) → InOrder t → (P : State → Type 0) → ((st : State) → Settled t (st .table) → (k : ℕ) → k < nodes → Supplied (st .table) k → Dispatch (treeOf t) (st .table) (dispatched st k (supplier (st .table) k) .table) k (supplier (st .table) k) → P st → P (dispatched st k (supplier (st .table) k))) → (n : ℕ) (st : State) → Settled t (st .table) → P st → P (lent n st)
 lent-with t f P each n st r p =
     lent-keeps (λ s. Settled t (s .table) × P s)
     (λ s q k hk e. (lent-settled t f s (q .0) k hk e, each s (q .0) k hk e (lent-dispatch t f s (q .0) k hk e) (q .1)))

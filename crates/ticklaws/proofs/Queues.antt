@@ -11,29 +11,30 @@ use lib.IntN.{ℤ, pos}
 use Rattle.numbers.specs.Whole.{plus, minus, withinℤ}
 use Rattle.numbers.proofs.Tests.{by-test, true-false}
 use Rattle.numbers.proofs.Parts.{zarith, plus-pos, one-is-zero}
-use Rattle.table.specs.Places.{place, count, waiting, size, arrival}
+use Rattle.table.specs.Limits.{nodes, waitingAt, queueAt, queueLength, requestLength, sizeAt, arrivalAt, mostWaiting}
+use Rattle.table.specs.Places.{queuePlace, place, count, waiting, size, arrival}
 use Rattle.table.specs.Tree.{Tree, treeOf, there, isClient}
 use Rattle.table.proofs.Facts.{InOrder}
 use Rattle.ticklaws.proofs.Sorts.{by-sort}
 use Rattle.ticklaws.proofs.Frame.{OnlyBalances}
 
 pub record Queues (tree : Tree) (n : ℕ) (t : List ℤ) : Type 0 where
-  pub few : (k : ℕ) → k < 64 → withinℤ 0 8 (place t k 8) ≡ true
-  pub idle : (k : ℕ) → k < 64 → isClient tree k ≡ false → waiting t k ≡ 0
-  pub spare : (k : ℕ) → k < 64 → (p : ℕ) → p < 24 → 3 * waiting t k ≤ p → place t k (16 + p) ≡ pos 0
-  pub size : (k : ℕ) → k < 64 → (i : ℕ) → i < waiting t k → withinℤ 1 (tree .depth k) (place t k (16 + 3 * i + 1)) ≡ true
-  pub number : (k : ℕ) → k < 64 → (i : ℕ) → i < waiting t k → withinℤ 1 n (place t k (16 + 3 * i + 2)) ≡ true
-  pub rising : (k : ℕ) → k < 64 → (i : ℕ) → suc i < waiting t k → arrival t k i < arrival t k (suc i)
-  pub differ : (k : ℕ) → k < 64 → (i : ℕ) → i < waiting t k → (j : ℕ) → j < k → (l : ℕ) → l < waiting t j → arrival t k i ≡ arrival t j l → ⊥
+  pub few : (k : ℕ) → k < nodes → withinℤ 0 mostWaiting (place t k waitingAt) ≡ true
+  pub idle : (k : ℕ) → k < nodes → isClient tree k ≡ false → waiting t k ≡ 0
+  pub spare : (k : ℕ) → k < nodes → (p : ℕ) → p < queueLength → requestLength * waiting t k ≤ p → place t k (queueAt + p) ≡ pos 0
+  pub size : (k : ℕ) → k < nodes → (i : ℕ) → i < waiting t k → withinℤ 1 (tree .depth k) (place t k (queuePlace i + sizeAt)) ≡ true
+  pub number : (k : ℕ) → k < nodes → (i : ℕ) → i < waiting t k → withinℤ 1 n (place t k (queuePlace i + arrivalAt)) ≡ true
+  pub rising : (k : ℕ) → k < nodes → (i : ℕ) → suc i < waiting t k → arrival t k i < arrival t k (suc i)
+  pub differ : (k : ℕ) → k < nodes → (i : ℕ) → i < waiting t k → (j : ℕ) → j < k → (l : ℕ) → l < waiting t j → arrival t k i ≡ arrival t j l → ⊥
 
-none-waits : (t : List ℤ) (k : ℕ) → place t k 8 ≡ pos 0 → waiting t k ≡ 0
+none-waits : (t : List ℤ) (k : ℕ) → place t k waitingAt ≡ pos 0 → waiting t k ≡ 0
 unfolding waiting
 none-waits t k e = ap plus e ∙ plus-pos 0
 
-idle-node : (t : List ℤ) → InOrder t → (k : ℕ) → k < 64 → isClient (treeOf t) k ≡ false → waiting t k ≡ 0
+idle-node : (t : List ℤ) → InOrder t → (k : ℕ) → k < nodes → isClient (treeOf t) k ≡ false → waiting t k ≡ 0
 idle-node t f k hk e =
     by-sort t f k hk
-    (λ h. none-waits t k (f .empty k hk h 8 (omega arith)))
+    (λ h. none-waits t k (f .empty k hk h waitingAt (omega arith)))
     (λ c. f .class k hk c .idle)
     (λ c. absurd (true-false c e))
 
@@ -44,16 +45,16 @@ client-by tree t k i idle h = by-test (isClient tree k) (λ e. e) (λ e. absurd 
     none : waiting t k ≡ 0 → ⊥
     none e = omega arith
 
-pub waiting-client : (tree : Tree) (n : ℕ) (t : List ℤ) → Queues tree n t → (k i : ℕ) → k < 64 → i < waiting t k → isClient tree k ≡ true
+pub waiting-client : (tree : Tree) (n : ℕ) (t : List ℤ) → Queues tree n t → (k i : ℕ) → k < nodes → i < waiting t k → isClient tree k ≡ true
 waiting-client tree n t q k i hk = client-by tree t k i (q .idle k hk)
 
 pub queues-of : (t : List ℤ) → InOrder t → Queues (treeOf t) (count t) t
 unfolding plus minus
 queues-of t f =
     record {
-      few = λ k hk. by-test (there (treeOf t) k) (λ h. f .limits k hk h .waiting) (λ h. omega (arith, zarith, f .empty k hk h 8 (omega arith), one-is-zero (place t k 8)));
+      few = λ k hk. by-test (there (treeOf t) k) (λ h. f .limits k hk h .waiting) (λ h. omega (arith, zarith, f .empty k hk h waitingAt (omega arith), one-is-zero (place t k waitingAt)));
       idle = idle-node t f;
-      spare = λ k hk p hp low. by-test (there (treeOf t) k) (λ h. f .spare k hk h .queue p hp low) (λ h. f .empty k hk h (16 + p) (omega arith));
+      spare = λ k hk p hp low. by-test (there (treeOf t) k) (λ h. f .spare k hk h .queue p hp low) (λ h. f .empty k hk h (queueAt + p) (omega arith));
       size = λ k hk i hi. f .requests k hk (client-by (treeOf t) t k i (idle-node t f k hk) hi) i hi .size;
       number = λ k hk i hi. f .requests k hk (client-by (treeOf t) t k i (idle-node t f k hk) hi) i hi .number;
       rising = λ k hk i hi.
@@ -65,11 +66,11 @@ queues-of t f =
 -- The d oldest requests of node k were taken out, and those behind them have moved up.
 pub record Shifted (t u : List ℤ) (k d : ℕ) : Type 0 where
   pub waits : waiting u k + d ≡ waiting t k
-  pub whole : minus (place u k 8) ≤ minus (place t k 8)
-  pub moved : (p : ℕ) → 3 * d + p < 24 → place u k (16 + p) ≡ place t k (16 + (3 * d + p))
-  pub freed : (p : ℕ) → p < 24 → 24 ≤ 3 * d + p → place u k (16 + p) ≡ pos 0
+  pub whole : minus (place u k waitingAt) ≤ minus (place t k waitingAt)
+  pub moved : (p : ℕ) → requestLength * d + p < queueLength → place u k (queueAt + p) ≡ place t k (queueAt + (requestLength * d + p))
+  pub freed : (p : ℕ) → p < queueLength → queueLength ≤ requestLength * d + p → place u k (queueAt + p) ≡ pos 0
 
-pub same-shifted : (t u : List ℤ) (k : ℕ) → place u k 8 ≡ place t k 8 → ((p : ℕ) → p < 24 → place u k (16 + p) ≡ place t k (16 + p)) → Shifted t u k 0
+pub same-shifted : (t u : List ℤ) (k : ℕ) → place u k waitingAt ≡ place t k waitingAt → ((p : ℕ) → p < queueLength → place u k (queueAt + p) ≡ place t k (queueAt + p)) → Shifted t u k 0
 unfolding waiting
 same-shifted t u k waits queue =
     record {
@@ -81,33 +82,33 @@ same-shifted t u k waits queue =
 
 pub only-shifted : (t u : List ℤ) → OnlyBalances t u → (k : ℕ) → Shifted t u k 0
 only-shifted t u f k =
-    same-shifted t u k (f .others k 8 (omega arith) (λ e. omega arith)) (λ p h. f .others k (16 + p) (omega arith) (λ e. omega arith))
+    same-shifted t u k (f .others k waitingAt (omega arith) (λ e. omega arith)) (λ p h. f .others k (queueAt + p) (omega arith) (λ e. omega arith))
 
 pub shifted-trans : (t u v : List ℤ) (k d e : ℕ) → Shifted t u k d → Shifted u v k e → Shifted t v k (d + e)
 shifted-trans t u v k d e f g =
     record {
       waits = omega (arith, f .waits, g .waits);
       whole = omega (arith, f .whole, g .whole);
-      moved = λ p h. g .moved p (omega arith) ∙ f .moved (3 * e + p) (omega arith) ∙ ap (place t k) (omega arith);
+      moved = λ p h. g .moved p (omega arith) ∙ f .moved (requestLength * e + p) (omega arith) ∙ ap (place t k) (omega arith);
       freed = λ p hp h.
-          elim (decLt (3 * e + p) 24) [ yes l ↦ g .moved p l ∙ f .freed (3 * e + p) l (omega arith) | no l ↦ g .freed p hp (omega arith) ];
+          elim (decLt (requestLength * e + p) queueLength) [ yes l ↦ g .moved p l ∙ f .freed (requestLength * e + p) l (omega arith) | no l ↦ g .freed p hp (omega arith) ];
     }
 
 module _ (t u : List ℤ) (k d : ℕ) (f : Shifted t u k d) where
-  pub shifted-request : (i p : ℕ) → p < 3 → d + i < 8 → place u k (16 + 3 * i + p) ≡ place t k (16 + 3 * (d + i) + p)
-  shifted-request i p hp h = ap (place u k) (omega arith) ∙ f .moved (3 * i + p) (omega arith) ∙ ap (place t k) (omega arith)
+  pub shifted-request : (i p : ℕ) → p < requestLength → d + i < mostWaiting → place u k (queuePlace i + p) ≡ place t k (queuePlace (d + i) + p)
+  shifted-request i p hp h = ap (place u k) (omega arith) ∙ f .moved (requestLength * i + p) (omega arith) ∙ ap (place t k) (omega arith)
 
-  pub shifted-size : (i : ℕ) → d + i < 8 → size u k i ≡ size t k (d + i)
+  pub shifted-size : (i : ℕ) → d + i < mostWaiting → size u k i ≡ size t k (d + i)
   unfolding size
-  shifted-size i h = ap plus (shifted-request i 1 (omega arith) h)
+  shifted-size i h = ap plus (shifted-request i sizeAt (omega arith) h)
 
-  pub shifted-arrival : (i : ℕ) → d + i < 8 → arrival u k i ≡ arrival t k (d + i)
+  pub shifted-arrival : (i : ℕ) → d + i < mostWaiting → arrival u k i ≡ arrival t k (d + i)
   unfolding arrival
-  shifted-arrival i h = ap plus (shifted-request i 2 (omega arith) h)
+  shifted-arrival i h = ap plus (shifted-request i arrivalAt (omega arith) h)
 
-module _ (tree : Tree) (n : ℕ) (t u : List ℤ) (d : ℕ → ℕ) (f : (k : ℕ) → k < 64 → Shifted t u k (d k)) (q : Queues tree n t) where
+module _ (tree : Tree) (n : ℕ) (t u : List ℤ) (d : ℕ → ℕ) (f : (k : ℕ) → k < nodes → Shifted t u k (d k)) (q : Queues tree n t) where
   -- A request that waits now waited before, and had a place.
-  waited : (k i : ℕ) → k < 64 → i < waiting u k → (d k + i < waiting t k) × (d k + i < 8)
+  waited : (k i : ℕ) → k < nodes → i < waiting u k → (d k + i < waiting t k) × (d k + i < mostWaiting)
   unfolding waiting
   waited k i hk h = omega (arith, zarith, f k hk, q .few k hk)
 
@@ -118,12 +119,12 @@ module _ (tree : Tree) (n : ℕ) (t u : List ℤ) (d : ℕ → ℕ) (f : (k : �
         few = λ k hk. omega (arith, zarith, f k hk, q .few k hk);
         idle = λ k hk e. omega (arith, f k hk, q .idle k hk e);
         spare = λ k hk p hp low.
-            elim (decLt (3 * d k + p) 24)
-            [ yes l ↦ f k hk .moved p l ∙ q .spare k hk (3 * d k + p) l (omega (arith, f k hk)) | no l ↦ f k hk .freed p hp (omega arith) ];
+            elim (decLt (requestLength * d k + p) queueLength)
+            [ yes l ↦ f k hk .moved p l ∙ q .spare k hk (requestLength * d k + p) l (omega (arith, f k hk)) | no l ↦ f k hk .freed p hp (omega arith) ];
         size = λ k hk i hi.
-            rw (shifted-request t u k (d k) (f k hk) i 1 (omega arith) (waited k i hk hi .1)) (q .size k hk (d k + i) (waited k i hk hi .0));
+            rw (shifted-request t u k (d k) (f k hk) i sizeAt (omega arith) (waited k i hk hi .1)) (q .size k hk (d k + i) (waited k i hk hi .0));
         number = λ k hk i hi.
-            rw (shifted-request t u k (d k) (f k hk) i 2 (omega arith) (waited k i hk hi .1)) (q .number k hk (d k + i) (waited k i hk hi .0));
+            rw (shifted-request t u k (d k) (f k hk) i arrivalAt (omega arith) (waited k i hk hi .1)) (q .number k hk (d k + i) (waited k i hk hi .0));
         rising = λ k hk i hi.
             omega (
               arith,
@@ -133,7 +134,7 @@ module _ (tree : Tree) (n : ℕ) (t u : List ℤ) (d : ℕ → ℕ) (f : (k : �
               q .rising k hk (d k + i) (omega (arith, waited k (suc i) hk hi)),
             );
         differ = λ k hk i hi j hj l hl e.
-            let lower : j < 64 = omega arith in
+            let lower : j < nodes = omega arith in
             q .differ k hk (d k + i) (waited k i hk hi .0) j hj (d j + l) (waited j l lower hl .0)
             (sym (shifted-arrival t u k (d k) (f k hk) i (waited k i hk hi .1)) ∙ e ∙ shifted-arrival t u j (d j) (f j lower) l (waited j l lower hl .1));
       }

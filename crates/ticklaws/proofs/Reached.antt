@@ -9,6 +9,7 @@ use lib.ListN.{length}
 use lib.IntN.{ℤ, pos}
 use Rattle.numbers.specs.Whole.{plus, minus}
 use Rattle.numbers.proofs.Parts.{zarith}
+use Rattle.table.specs.Limits.{tableLength, recordLength, nodes, sortAt, parentAt, levelAt, kindAt, shareAt, depthAt, rateAt, balanceAt, spareAt}
 use Rattle.table.specs.Places.{place, count, balance, waiting, depthGrains, arrival}
 use Rattle.table.specs.Tree.{Tree, treeOf, there, isClass}
 use Rattle.table.proofs.Facts.{InOrder, Limits, Root, Class, Balance, Request}
@@ -19,11 +20,11 @@ use Rattle.ticklaws.proofs.Queues.{Queues, queues-of, only-shifted, que
 
 -- An unused record has balance 0.
 pub record Vacant (tree : Tree) (B : ℕ → ℤ) : Type 0 where
-  pub zero : (k : ℕ) → k < 64 → there tree k ≡ false → B k ≡ pos 0
+  pub zero : (k : ℕ) → k < nodes → there tree k ≡ false → B k ≡ pos 0
 
 pub vacant-of : (t : List ℤ) → InOrder t → Vacant (treeOf t) (balance t)
 unfolding balance
-vacant-of t f = record { zero = λ k hk h. f .empty k hk h 7 (omega arith) }
+vacant-of t f = record { zero = λ k hk h. f .empty k hk h balanceAt (omega arith) }
 
 -- The table u that a tick on its way from t has reached, but for balances above their depth.
 pub record Reached (t u : List ℤ) : Type 0 where
@@ -36,7 +37,7 @@ module _ (t u : List ℤ) (f : InOrder t) (r : Reached t u) (most : Under (treeO
   same : treeOf u ≡ treeOf t
   same = frame-tree t u (r .frame)
 
-  unused-zero : (k : ℕ) → k < 64 → there (treeOf t) k ≡ false → (p : ℕ) → p < 40 → place u k p ≡ pos 0
+  unused-zero : (k : ℕ) → k < nodes → there (treeOf t) k ≡ false → (p : ℕ) → p < recordLength → place u k p ≡ pos 0
   unfolding plus minus balance waiting
   unused-zero k hk h =
       let none = r .queues .idle k hk (unused-client (treeOf t) k h) in
@@ -44,20 +45,20 @@ module _ (t u : List ℤ) (f : InOrder t) (r : Reached t u) (most : Under (treeO
       (λ p l. r .frame .early k p l ∙ f .empty k hk h p (omega arith))
       (r .vacant .zero k hk h)
       (omega (arith, zarith, r .queues .few k hk))
-      (λ p l. r .frame .spare k p l ∙ f .empty k hk h (9 + p) (omega arith))
+      (λ p l. r .frame .spare k p l ∙ f .empty k hk h (spareAt + p) (omega arith))
       (λ p l. r .queues .spare k hk p l (omega arith))
 
-  limits-again : (k : ℕ) → k < 64 → there (treeOf t) k ≡ true → Limits u k
+  limits-again : (k : ℕ) → k < nodes → there (treeOf t) k ≡ true → Limits u k
   limits-again k hk h =
       let l = f .limits k hk h in
       let e = r .frame .early k in
       record {
-        sort = rw (e 0 (omega arith)) (l .sort);
-        parent = rw (e 1 (omega arith)) (l .parent);
-        level = rw (e 2 (omega arith)) (l .level);
-        kind = rw (e 3 (omega arith)) (l .kind);
-        share = rw (e 4 (omega arith)) (l .share);
-        depth = rw (e 5 (omega arith)) (l .depth);
+        sort = rw (e sortAt (omega arith)) (l .sort);
+        parent = rw (e parentAt (omega arith)) (l .parent);
+        level = rw (e levelAt (omega arith)) (l .level);
+        kind = rw (e kindAt (omega arith)) (l .kind);
+        share = rw (e shareAt (omega arith)) (l .share);
+        depth = rw (e depthAt (omega arith)) (l .depth);
         waiting = r .queues .few k hk;
       }
 
@@ -66,15 +67,15 @@ module _ (t u : List ℤ) (f : InOrder t) (r : Reached t u) (most : Under (treeO
       let o = f .root in
       let e = r .frame .early 0 in
       record {
-        sort = e 0 (omega arith) ∙ o .sort;
-        parent = e 1 (omega arith) ∙ o .parent;
-        level = e 2 (omega arith) ∙ o .level;
-        kind = e 3 (omega arith) ∙ o .kind;
-        share = e 4 (omega arith) ∙ o .share;
-        rate = rw (e 6 (omega arith)) (o .rate);
+        sort = e sortAt (omega arith) ∙ o .sort;
+        parent = e parentAt (omega arith) ∙ o .parent;
+        level = e levelAt (omega arith) ∙ o .level;
+        kind = e kindAt (omega arith) ∙ o .kind;
+        share = e shareAt (omega arith) ∙ o .share;
+        rate = rw (e rateAt (omega arith)) (o .rate);
       }
 
-  class-again : (c : ℕ) → c < 64 → isClass (treeOf t) c ≡ true → Class u c
+  class-again : (c : ℕ) → c < nodes → isClass (treeOf t) c ≡ true → Class u c
   class-again c hc e =
       let o = f .class c hc e in
       record {
@@ -84,12 +85,12 @@ module _ (t u : List ℤ) (f : InOrder t) (r : Reached t u) (most : Under (treeO
         depths = rw same (o .depths);
       }
 
-  balance-again : (k : ℕ) → k < 64 → there (treeOf t) k ≡ true → Balance u k
+  balance-again : (k : ℕ) → k < nodes → there (treeOf t) k ≡ true → Balance u k
   unfolding depthGrains treeOf
   balance-again k hk h =
       room-balance u k (rw same (r .floor .room k hk h)) (omega (arith, frame-depth t u (r .frame) k, most .most k hk h))
 
-  request-again : (k : ℕ) → k < 64 → (i : ℕ) → i < waiting u k → Request u k i
+  request-again : (k : ℕ) → k < nodes → (i : ℕ) → i < waiting u k → Request u k i
   request-again k hk i hi =
       record {
         size = rw same (r .queues .size k hk i hi);
@@ -111,7 +112,7 @@ module _ (t u : List ℤ) (f : InOrder t) (r : Reached t u) (most : Under (treeO
         root = root-again;
         child = rw same (f .child);
         class = rw same class-again;
-        rates = rw (same, frame-rate t u (r .frame) 0) (λ k hk h. r .frame .early k 6 (omega arith) ∙ f .rates k hk h);
+        rates = rw (same, frame-rate t u (r .frame) 0) (λ k hk h. r .frame .early k rateAt (omega arith) ∙ f .rates k hk h);
         balances = rw same balance-again;
         requests = λ k hk e. request-again k hk;
         differ = r .queues .differ;
@@ -121,7 +122,7 @@ pub reached-first : (t : List ℤ) → InOrder t → Reached t t
 reached-first t f =
     record { frame = frame-refl t; queues = queues-of t f; floor = floor-of t (grounds t f); vacant = vacant-of t f }
 
-pub reached-long : (t u : List ℤ) → InOrder t → Reached t u → length u ≡ 2568
+pub reached-long : (t u : List ℤ) → InOrder t → Reached t u → length u ≡ tableLength
 reached-long t u f r = r .frame .long ∙ f .long
 
 -- A change of nothing but balances.

@@ -15,6 +15,7 @@ use Rattle.numbers.proofs.Every.{head-holds, rest-hold, holds-with, none-left}
 use Rattle.numbers.proofs.Parts.{zarith}
 use Rattle.numbers.proofs.All.{below-cases}
 use Rattle.numbers.proofs.Steps.{for-keeps, for-reaches}
+use Rattle.table.specs.Limits.{nodes}
 use Rattle.table.specs.Places.{balance, count, waiting, size}
 use Rattle.table.specs.Tree.{treeOf}
 use Rattle.table.specs.Tick.{State, grains, enough, dispatched, ready, served, servedAll}
@@ -56,7 +57,7 @@ unfolding ready enough
 facts-ready t k f = holds-with _ _ (lt-ltb 0 (waiting t k) (f .waits)) (holds-with _ _ (f .enough) none-left)
 
 -- A waiting client at a table that is reached is there, and covers what is enough from its own balance.
-module _ (t u : List ℤ) (r : Reached t u) (k : ℕ) (hk : k < 64) (waits : 0 < waiting u k) where
+module _ (t u : List ℤ) (r : Reached t u) (k : ℕ) (hk : k < nodes) (waits : 0 < waiting u k) where
   pub client-at : At (treeOf t) (treeOf t .level k) k
   client-at =
       record { low = hk; there = client-there (treeOf t) k (waiting-client (treeOf t) (count t) u (r .queues) k 0 hk waits); level = refl }
@@ -70,7 +71,7 @@ module _ (t u : List ℤ) (r : Reached t u) (k : ℕ) (hk : k < 64) (waits : 0 <
         client = λ e. omega (arith, zarith);
       }
 
-module _ (t : List ℤ) (f : InOrder t) (k : ℕ) (hk : k < 64) where
+module _ (t : List ℤ) (f : InOrder t) (k : ℕ) (hk : k < nodes) where
   -- One turn of the loop.
   turn : (st : State) → Reached t (st .table) → ready (st .table) k ≡ true → Dispatch (treeOf t) (st .table) (dispatched st k k .table) k k
   turn st r h = let waits = ready-facts (st .table) k h .waits in dispatch t f st r k hk waits k (client-at t (st .table) r k hk waits)
@@ -112,7 +113,7 @@ record Unready (t : List ℤ) (n : ℕ) (st : State) : Type 0 where
   none : (k : ℕ) → k < n → ready (st .table) k ≡ false
 
 module _ (t : List ℤ) (f : InOrder t) where
-  unready-served : (n k : ℕ) → k < 64 → n ≤ k → (m : ℕ) (st : State) → Unready t n st → Unready t n (served m k st)
+  unready-served : (n k : ℕ) → k < nodes → n ≤ k → (m : ℕ) (st : State) → Unready t n st → Unready t n (served m k st)
   unready-served n k hk low = served-keeps (Unready t n) k each
     where
       each : (st : State) → Unready t n st → ready (st .table) k ≡ true → Unready t n (dispatched st k k)
@@ -130,10 +131,10 @@ module _ (t : List ℤ) (f : InOrder t) where
                 (λ h. h);
           }
 
-  unready-all : (st : State) → Reached t (st .table) → Unready t 64 (servedAll st)
+  unready-all : (st : State) → Reached t (st .table) → Unready t nodes (servedAll st)
   unfolding servedAll
   unready-all st r =
-      for-reaches (Unready t) 64 (λ k s. served (waiting (s .table) k) k s)
+      for-reaches (Unready t) nodes (λ k s. served (waiting (s .table) k) k s)
       (λ k s hk p.
       let q = unready-served k k hk (omega arith) (waiting (s .table) k) s p in
       record {
@@ -149,17 +150,17 @@ module _ (t : List ℤ) (f : InOrder t) where
   servedAll-reached st r = unready-all st r .reached
 
   -- After step 2 no client is ready.
-  pub servedAll-suffices : (st : State) → Reached t (st .table) → (k : ℕ) → k < 64 → ready (servedAll st .table) k ≡ false
+  pub servedAll-suffices : (st : State) → Reached t (st .table) → (k : ℕ) → k < nodes → ready (servedAll st .table) k ≡ false
   servedAll-suffices st r = unready-all st r .none
 
 -- What each dispatch of a ready client keeps, step 2 keeps.
-pub servedAll-keeps : (P : State → Type 0) → ((k : ℕ) (st : State) → k < 64 → P st → ready (st .table) k ≡ true → P (dispatched st k k)) → (st : State) → P st → P (servedAll st)
+pub servedAll-keeps : (P : State → Type 0) → ((k : ℕ) (st : State) → k < nodes → P st → ready (st .table) k ≡ true → P (dispatched st k k)) → (st : State) → P st → P (servedAll st)
 unfolding servedAll
 servedAll-keeps P each =
-    for-keeps P 64 (λ k s. served (waiting (s .table) k) k s) (λ k s hk p. served-keeps P k (λ st. each k st hk) (waiting (s .table) k) s p)
+    for-keeps P nodes (λ k s. served (waiting (s .table) k) k s) (λ k s hk p. served-keeps P k (λ st. each k st hk) (waiting (s .table) k) s p)
 
 -- The same with what is known at each dispatch.
-pub servedAll-with : (t : List ℤ) → InOrder t → (P : State → Type 0) → ((k : ℕ) (st : State) → k < 64 → Reached t (st .table) → Ready (st .table) k → Dispatch (treeOf t) (st .table) (dispatched st k k .table) k k → P st → P (dispatched st k k)) → (st : State) → Reached t (st .table) → P st → P (servedAll st)
+pub servedAll-with : (t : List ℤ) → InOrder t → (P : State → Type 0) → ((k : ℕ) (st : State) → k < nodes → Reached t (st .table) → Ready (st .table) k → Dispatch (treeOf t) (st .table) (dispatched st k k .table) k k → P st → P (dispatched st k k)) → (st : State) → Reached t (st .table) → P st → P (servedAll st)
 servedAll-with t f P each st r p =
     servedAll-keeps (λ s. Reached t (s .table) × P s)
     (λ k s hk q e. (turn-reached t f k hk s (q .0) e, each k s hk (q .0) (ready-facts (s .table) k e) (turn t f k hk s (q .0) e) (q .1)))

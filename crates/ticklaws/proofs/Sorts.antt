@@ -9,29 +9,30 @@ use lib.Dec.{eqb}
 use lib.IntN.{ℤ}
 use Rattle.numbers.proofs.Tests.{by-test}
 use Rattle.numbers.proofs.Parts.{zarith}
+use Rattle.table.specs.Limits.{nodes, class, client}
 use Rattle.table.specs.Tree.{Tree, treeOf, there, isClass, isClient}
 use Rattle.table.proofs.Facts.{InOrder}
 
 pub unused-client : (tree : Tree) (k : ℕ) → there tree k ≡ false → isClient tree k ≡ false
 unfolding there isClient
-unused-client tree k h = ne-eqb (tree .sort k) 2 (λ e. omega (arith, eqb-true (tree .sort k) 0 (not-false (eqb (tree .sort k) 0) h)))
+unused-client tree k h = ne-eqb (tree .sort k) client (λ e. omega (arith, eqb-true (tree .sort k) 0 (not-false (eqb (tree .sort k) 0) h)))
 
 pub class-client : (tree : Tree) (k : ℕ) → isClass tree k ≡ true → isClient tree k ≡ false
 unfolding isClass isClient
-class-client tree k h = ne-eqb (tree .sort k) 2 (λ e. omega (arith, eqb-true (tree .sort k) 1 h))
+class-client tree k h = ne-eqb (tree .sort k) client (λ e. omega (arith, eqb-true (tree .sort k) class h))
 
 pub client-class : (tree : Tree) (k : ℕ) → isClient tree k ≡ true → isClass tree k ≡ false
 unfolding isClass isClient
-client-class tree k h = ne-eqb (tree .sort k) 1 (λ e. omega (arith, eqb-true (tree .sort k) 2 h))
+client-class tree k h = ne-eqb (tree .sort k) class (λ e. omega (arith, eqb-true (tree .sort k) client h))
 
 pub client-there : (tree : Tree) (k : ℕ) → isClient tree k ≡ true → there tree k ≡ true
 unfolding there isClient
-client-there tree k h = rw (eqb-true (tree .sort k) 2 h)
+client-there tree k h = rw (eqb-true (tree .sort k) client h)
 
-pub by-sort {ℓ} : {P : Type ℓ} (t : List ℤ) → InOrder t → (k : ℕ) → k < 64 → (there (treeOf t) k ≡ false → P) → (isClass (treeOf t) k ≡ true → P) → (isClient (treeOf t) k ≡ true → P) → P
+pub by-sort {ℓ} : {P : Type ℓ} (t : List ℤ) → InOrder t → (k : ℕ) → k < nodes → (there (treeOf t) k ≡ false → P) → (isClass (treeOf t) k ≡ true → P) → (isClient (treeOf t) k ≡ true → P) → P
 unfolding treeOf there isClass isClient
-by-sort t f k hk unused class client =
+by-sort t f k hk if-unused if-class if-client =
     by-test (there (treeOf t) k)
-    (λ h. by-test (isClient (treeOf t) k) client
-    (λ e. class (eq-eqb (treeOf t .sort k) 1 (omega (arith, zarith, f .limits k hk h .sort, eqb-false (treeOf t .sort k) 2 e)))))
-    unused
+    (λ h. by-test (isClient (treeOf t) k) if-client
+    (λ e. if-class (eq-eqb (treeOf t .sort k) class (omega (arith, zarith, f .limits k hk h .sort, eqb-false (treeOf t .sort k) client e)))))
+    if-unused

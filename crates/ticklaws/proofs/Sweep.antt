@@ -9,6 +9,7 @@ use lib.IntN.{ℤ}
 use Rattle.numbers.specs.Below.{forBelow}
 use Rattle.numbers.proofs.All.{below-cases}
 use Rattle.numbers.proofs.Steps.{for-reaches}
+use Rattle.table.specs.Limits.{tableLength, nodes, balanceAt}
 use Rattle.table.specs.Places.{put, balance}
 use Rattle.table.proofs.Places.{place-put-same, place-put-node}
 use Rattle.ticklaws.proofs.Frame.{OnlyBalances, only-refl, only-put, only-trans}
@@ -19,13 +20,13 @@ pub record Set (u v : List ℤ) (k : ℕ) (z : ℤ) : Type 0 where
   pub new : balance v k ≡ z
   pub others : (j : ℕ) → (j ≡ k → ⊥) → balance v j ≡ balance u j
 
-pub set-put : (u : List ℤ) (k : ℕ) (z : ℤ) → length u ≡ 2568 → k < 64 → Set u (put u k 7 z) k z
+pub set-put : (u : List ℤ) (k : ℕ) (z : ℤ) → length u ≡ tableLength → k < nodes → Set u (put u k balanceAt z) k z
 unfolding balance
 set-put u k z n hk =
     record {
       only = only-put u k z;
-      new = place-put-same u k 7 z n hk (omega arith);
-      others = λ j ne. place-put-node u k 7 z j 7 (omega arith) (omega arith) ne;
+      new = place-put-same u k balanceAt z n hk (omega arith);
+      others = λ j ne. place-put-node u k balanceAt z j balanceAt (omega arith) (omega arith) ne;
     }
 
 pub set-same : (u : List ℤ) (k : ℕ) (z : ℤ) → balance u k ≡ z → Set u u k z
@@ -36,9 +37,9 @@ pub record Swept (t : List ℤ) (w : ℕ → ℤ) (n : ℕ) (u : List ℤ) : Typ
   pub new : (k : ℕ) → k < n → balance u k ≡ w k
   pub rest : (k : ℕ) → n ≤ k → balance u k ≡ balance t k
 
-pub sweep : (t : List ℤ) (w : ℕ → ℤ) (f : ℕ → List ℤ → List ℤ) → ((k : ℕ) (u : List ℤ) → k < 64 → OnlyBalances t u → balance u k ≡ balance t k → Set u (f k u) k (w k)) → Swept t w 64 (forBelow 64 f t)
+pub sweep : (t : List ℤ) (w : ℕ → ℤ) (f : ℕ → List ℤ → List ℤ) → ((k : ℕ) (u : List ℤ) → k < nodes → OnlyBalances t u → balance u k ≡ balance t k → Set u (f k u) k (w k)) → Swept t w nodes (forBelow nodes f t)
 sweep t w f each =
-    for-reaches (Swept t w) 64 f
+    for-reaches (Swept t w) nodes f
     (λ k u hk s.
     let o = each k u hk (s .only) (s .rest k (omega arith)) in
     record {

@@ -12,6 +12,7 @@ use Rattle.numbers.specs.Below.{forBelow}
 use Rattle.numbers.proofs.Parts.{plus-pos, minus-pos}
 use Rattle.numbers.proofs.All.{below-cases}
 use Rattle.numbers.proofs.Steps.{for-reaches}
+use Rattle.table.specs.Limits.{tableLength, headerLength, recordLength, nodes, balanceAt, waitingAt, spareAt, queueAt, queueLength, requestLength}
 use Rattle.table.specs.Places.{place, put, header, balance, waiting}
 use Rattle.table.specs.Tick.{takenOut}
 use Rattle.table.proofs.Places.{length-put, header-put, place-put-same, place-put-node, place-put-place}
@@ -21,14 +22,14 @@ use Rattle.ticklaws.proofs.Queues.{Shifted, same-shifted}
 -- The n places from b on of record k are written, with w.
 record Run (t : List ℤ) (k b : ℕ) (w : ℕ → ℤ) (n : ℕ) (u : List ℤ) : Type 0 where
   long : length u ≡ length t
-  heading : (q : ℕ) → q < 8 → header u q ≡ header t q
-  other : (j p : ℕ) → p < 40 → (j ≡ k → ⊥) → place u j p ≡ place t j p
+  heading : (q : ℕ) → q < headerLength → header u q ≡ header t q
+  other : (j p : ℕ) → p < recordLength → (j ≡ k → ⊥) → place u j p ≡ place t j p
   before : (j p : ℕ) → p < b → place u j p ≡ place t j p
-  after : (j p : ℕ) → p < 40 → b + n ≤ p → place u j p ≡ place t j p
+  after : (j p : ℕ) → p < recordLength → b + n ≤ p → place u j p ≡ place t j p
   written : (p : ℕ) → p < n → place u k (b + p) ≡ w p
 
-module _ (t : List ℤ) (n : length t ≡ 2568) (k : ℕ) (hk : k < 64) (b : ℕ) (w : ℕ → ℤ) where
-  run-next : (m : ℕ) (u : List ℤ) (v : ℤ) → b + m < 40 → v ≡ w m → Run t k b w m u → Run t k b w (suc m) (put u k (b + m) v)
+module _ (t : List ℤ) (n : length t ≡ tableLength) (k : ℕ) (hk : k < nodes) (b : ℕ) (w : ℕ → ℤ) where
+  run-next : (m : ℕ) (u : List ℤ) (v : ℤ) → b + m < recordLength → v ≡ w m → Run t k b w m u → Run t k b w (suc m) (put u k (b + m) v)
   run-next m u v h e r =
       record {
         long = length-put u k (b + m) v ∙ r .long;
@@ -42,7 +43,7 @@ module _ (t : List ℤ) (n : length t ≡ 2568) (k : ℕ) (hk : k < 64) (b : ℕ
             (λ d. rw d (place-put-same u k (b + m) v (r .long ∙ n) hk h ∙ e));
       }
 
-  run : (m : ℕ) (v : ℕ → List ℤ → ℤ) → b + m ≤ 40 → ((p : ℕ) (u : List ℤ) → p < m → Run t k b w p u → v p u ≡ w p) → Run t k b w m (forBelow m (λ p u. put u k (b + p) (v p u)) t)
+  run : (m : ℕ) (v : ℕ → List ℤ → ℤ) → b + m ≤ recordLength → ((p : ℕ) (u : List ℤ) → p < m → Run t k b w p u → v p u ≡ w p) → Run t k b w m (forBelow m (λ p u. put u k (b + p) (v p u)) t)
   run m v h each =
       for-reaches (Run t k b w) m (λ p u. put u k (b + p) (v p u))
       (λ p u hp r. run-next p u (v p u) (omega arith) (each p u hp r) r)
@@ -58,62 +59,62 @@ module _ (t : List ℤ) (n : length t ≡ 2568) (k : ℕ) (hk : k < 64) (b : ℕ
 
 -- The requests moved up, and then the last place freed.
 moved : List ℤ → ℕ → List ℤ
-moved t k = forBelow 21 (λ p u. put u k (16 + p) (place u k (19 + p))) t
+moved t k = forBelow (queueLength - requestLength) (λ p u. put u k (queueAt + p) (place u k (queueAt + requestLength + p))) t
 
 freed : List ℤ → ℕ → List ℤ
-freed t k = forBelow 3 (λ p u. put u k (37 + p) (pos 0)) (moved t k)
+freed t k = forBelow requestLength (λ p u. put u k (queueAt + (queueLength - requestLength) + p) (pos 0)) (moved t k)
 
-taken : (t : List ℤ) (k : ℕ) → takenOut t k ≡ put (freed t k) k 8 (pos (waiting t k - 1))
+taken : (t : List ℤ) (k : ℕ) → takenOut t k ≡ put (freed t k) k waitingAt (pos (waiting t k - 1))
 unfolding takenOut freed moved
 taken t k = refl
 
-module _ (t : List ℤ) (n : length t ≡ 2568) (k : ℕ) (hk : k < 64) where
-  moved-run : Run t k 16 (λ p. place t k (19 + p)) 21 (moved t k)
+module _ (t : List ℤ) (n : length t ≡ tableLength) (k : ℕ) (hk : k < nodes) where
+  moved-run : Run t k queueAt (λ p. place t k (queueAt + requestLength + p)) (queueLength - requestLength) (moved t k)
   unfolding moved
   moved-run =
-      run t n k hk 16 (λ p. place t k (19 + p)) 21 (λ p u. place u k (19 + p)) (omega arith)
-      (λ p u hp r. r .after k (19 + p) (omega arith) (omega arith))
+      run t n k hk queueAt (λ p. place t k (queueAt + requestLength + p)) (queueLength - requestLength) (λ p u. place u k (queueAt + requestLength + p)) (omega arith)
+      (λ p u hp r. r .after k (queueAt + requestLength + p) (omega arith) (omega arith))
 
-  freed-run : Run (moved t k) k 37 (λ p. pos 0) 3 (freed t k)
+  freed-run : Run (moved t k) k (queueAt + (queueLength - requestLength)) (λ p. pos 0) requestLength (freed t k)
   unfolding freed
-  freed-run = run (moved t k) (moved-run .long ∙ n) k hk 37 (λ p. pos 0) 3 (λ p u. pos 0) (omega arith) (λ p u hp r. refl)
+  freed-run = run (moved t k) (moved-run .long ∙ n) k hk (queueAt + (queueLength - requestLength)) (λ p. pos 0) requestLength (λ p u. pos 0) (omega arith) (λ p u hp r. refl)
 
   -- Places before the waiting places, but for the waiting count.
-  taken-before : (j p : ℕ) → p < 16 → (p ≡ 8 → ⊥) → place (takenOut t k) j p ≡ place t j p
+  taken-before : (j p : ℕ) → p < queueAt → (p ≡ waitingAt → ⊥) → place (takenOut t k) j p ≡ place t j p
   taken-before j p hp ne =
       rw (taken t k)
-      (place-put-place (freed t k) k 8 (pos (waiting t k - 1)) j p (omega arith) (omega arith) ne
+      (place-put-place (freed t k) k waitingAt (pos (waiting t k - 1)) j p (omega arith) (omega arith) ne
       ∙ freed-run .before j p (omega arith)
       ∙ moved-run .before j p hp)
 
   -- Places of other nodes.
-  taken-node : (j p : ℕ) → p < 40 → (j ≡ k → ⊥) → place (takenOut t k) j p ≡ place t j p
+  taken-node : (j p : ℕ) → p < recordLength → (j ≡ k → ⊥) → place (takenOut t k) j p ≡ place t j p
   taken-node j p hp ne =
       rw (taken t k)
-      (place-put-node (freed t k) k 8 (pos (waiting t k - 1)) j p (omega arith) hp ne
+      (place-put-node (freed t k) k waitingAt (pos (waiting t k - 1)) j p (omega arith) hp ne
       ∙ freed-run .other j p hp ne
       ∙ moved-run .other j p hp ne)
 
   -- The waiting places themselves.
-  taken-queue : (p : ℕ) → p < 24 → place (takenOut t k) k (16 + p) ≡ place (freed t k) k (16 + p)
+  taken-queue : (p : ℕ) → p < queueLength → place (takenOut t k) k (queueAt + p) ≡ place (freed t k) k (queueAt + p)
   taken-queue p hp =
-      rw (taken t k) (place-put-place (freed t k) k 8 (pos (waiting t k - 1)) k (16 + p) (omega arith) (omega arith) (λ d. omega arith))
+      rw (taken t k) (place-put-place (freed t k) k waitingAt (pos (waiting t k - 1)) k (queueAt + p) (omega arith) (omega arith) (λ d. omega arith))
 
-  taken-waits : place (takenOut t k) k 8 ≡ pos (waiting t k - 1)
-  taken-waits = rw (taken t k) (place-put-same (freed t k) k 8 (pos (waiting t k - 1)) (freed-run .long ∙ moved-run .long ∙ n) hk (omega arith))
+  taken-waits : place (takenOut t k) k waitingAt ≡ pos (waiting t k - 1)
+  taken-waits = rw (taken t k) (place-put-same (freed t k) k waitingAt (pos (waiting t k - 1)) (freed-run .long ∙ moved-run .long ∙ n) hk (omega arith))
 
   pub taken-frame : Frame t (takenOut t k)
   taken-frame =
       record {
-        long = rw (taken t k) (length-put (freed t k) k 8 (pos (waiting t k - 1)) ∙ freed-run .long ∙ moved-run .long);
-        heading = λ q hq. rw (taken t k) (header-put (freed t k) k 8 (pos (waiting t k - 1)) q hq ∙ freed-run .heading q hq ∙ moved-run .heading q hq);
+        long = rw (taken t k) (length-put (freed t k) k waitingAt (pos (waiting t k - 1)) ∙ freed-run .long ∙ moved-run .long);
+        heading = λ q hq. rw (taken t k) (header-put (freed t k) k waitingAt (pos (waiting t k - 1)) q hq ∙ freed-run .heading q hq ∙ moved-run .heading q hq);
         early = λ j p hp. taken-before j p (omega arith) (λ d. omega arith);
-        spare = λ j p hp. taken-before j (9 + p) (omega arith) (λ d. omega arith);
+        spare = λ j p hp. taken-before j (spareAt + p) (omega arith) (λ d. omega arith);
       }
 
   pub taken-balance : (j : ℕ) → balance (takenOut t k) j ≡ balance t j
   unfolding balance
-  taken-balance j = taken-before j 7 (omega arith) (λ d. omega arith)
+  taken-balance j = taken-before j balanceAt (omega arith) (λ d. omega arith)
 
   pub taken-own : 0 < waiting t k → Shifted t (takenOut t k) k 1
   unfolding waiting
@@ -123,12 +124,12 @@ module _ (t : List ℤ) (n : length t ≡ 2568) (k : ℕ) (hk : k < 64) where
         whole = omega (arith, ap minus taken-waits, minus-pos (waiting t k - 1));
         moved = λ p hp.
             taken-queue p (omega arith)
-            ∙ freed-run .before k (16 + p) (omega arith)
+            ∙ freed-run .before k (queueAt + p) (omega arith)
             ∙ moved-run .written p (omega arith)
             ∙ ap (place t k) (omega arith);
         freed = λ p hp l.
-            taken-queue p hp ∙ ap (place (freed t k) k) (omega arith) ∙ freed-run .written (p - 21) (omega arith);
+            taken-queue p hp ∙ ap (place (freed t k) k) (omega arith) ∙ freed-run .written (p - (queueLength - requestLength)) (omega arith);
       }
 
   pub taken-other : (j : ℕ) → (j ≡ k → ⊥) → Shifted t (takenOut t k) j 0
-  taken-other j ne = same-shifted t (takenOut t k) j (taken-node j 8 (omega arith) ne) (λ p hp. taken-node j (16 + p) (omega arith) ne)
+  taken-other j ne = same-shifted t (takenOut t k) j (taken-node j waitingAt (omega arith) ne) (λ p hp. taken-node j (queueAt + p) (omega arith) ne)

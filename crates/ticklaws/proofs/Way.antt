@@ -13,6 +13,7 @@ use lib.IntN.{ℤ}
 use Rattle.numbers.specs.Whole.{plus}
 use Rattle.numbers.proofs.Tests.{by-test, or-cases, or-true-left, or-true-right}
 use Rattle.numbers.proofs.Parts.{zarith, plus-pos}
+use Rattle.table.specs.Limits.{nodes}
 use Rattle.table.specs.Tree.{Tree, treeOf, there, isClass}
 use Rattle.table.proofs.Facts.{InOrder}
 use Rattle.ticklaws.specs.Way.{onWay, atOrAbove}
@@ -21,7 +22,7 @@ use Rattle.treelaws.proofs.Floors.{Levels, levels, grounds}
 
 pub record Ways (tree : Tree) : Type 0 where
   pub levels : Levels tree
-  pub parent : (k : ℕ) → k < 64 → there tree k ≡ true → tree .parent k < 64
+  pub parent : (k : ℕ) → k < nodes → there tree k ≡ true → tree .parent k < nodes
   pub top : tree .level 0 ≡ 0
 
 pub ways-of : (t : List ℤ) → InOrder t → Ways (treeOf t)
@@ -35,7 +36,7 @@ ways-of t f =
 
 -- Node k is one of the 64, is there and stands at level l.
 pub record At (tree : Tree) (l k : ℕ) : Type 0 where
-  pub low : k < 64
+  pub low : k < nodes
   pub there : there tree k ≡ true
   pub level : tree .level k ≡ l
 
@@ -79,7 +80,7 @@ module _ (tree : Tree) (w : Ways tree) where
       }
 
   -- A node on the way is there.
-  pub way-there : (l k j : ℕ) → At tree l k → onWay tree l k j ≡ true → (j < 64) × (there tree j ≡ true)
+  pub way-there : (l k j : ℕ) → At tree l k → onWay tree l k j ≡ true → (j < nodes) × (there tree j ≡ true)
   way-there zero k j a h = rw (way-top tree k j h) (a .low, a .there)
   way-there (suc l) k j a h =
       way-cases tree l k j h (λ e. rw e (a .low, a .there)) (λ on. way-there l (tree .parent k) j (above l k a .up) on)

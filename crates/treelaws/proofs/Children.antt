@@ -15,6 +15,7 @@ use Rattle.numbers.proofs.Every.{head-holds, rest-hold, none-left, holds-with}
 use Rattle.numbers.proofs.Parts.{le-parts, plus-pos, minus-pos}
 use Rattle.numbers.proofs.All.{below-cases}
 use Rattle.numbers.proofs.Sums.{sum-mono, sum-add, sum-scale, sum-cong, sumℤ-parts, term-le-sum}
+use Rattle.table.specs.Limits.{nodes, class}
 use Rattle.table.specs.Tree.{Tree, treeOf, there, isClass, childOf, countIf, sumUnder}
 use Rattle.table.specs.Places.{balance}
 use Rattle.table.specs.Order.{childBalance, childBalances}
@@ -42,7 +43,7 @@ child-of tree c k f =
 
 pub class-there : (tree : Tree) (k : ℕ) → isClass tree k ≡ true → there tree k ≡ true
 unfolding there isClass
-class-there tree k e = ap not (ne-eqb (tree .sort k) 0 (λ z. omega (arith, eqb-true (tree .sort k) 1 e)))
+class-there tree k e = ap not (ne-eqb (tree .sort k) 0 (λ z. omega (arith, eqb-true (tree .sort k) class e)))
 
 count-true : (b : Bool) (f : ℕ → ℕ) (k : ℕ) → b ≡ true → countIf b f k ≡ f k
 unfolding countIf
@@ -84,43 +85,43 @@ sum-more (suc n) j a f g l h m =
     (λ e. omega (arith, sum-mono n f g (λ k d. h k (omega arith)), ap f e, ap g e))
 
 -- A child's term is at most the sum.
-pub child-le-sum : (tree : Tree) (c : ℕ) (f : ℕ → ℕ) (k : ℕ) → k < 64 → childOf tree c k ≡ true → f k ≤ sumUnder tree c f
+pub child-le-sum : (tree : Tree) (c : ℕ) (f : ℕ → ℕ) (k : ℕ) → k < nodes → childOf tree c k ≡ true → f k ≤ sumUnder tree c f
 unfolding sumUnder countIf
-child-le-sum tree c f k hk e = rw e at (term-le-sum 64 k (λ k. countIf (childOf tree c k) f k) hk)
+child-le-sum tree c f k hk e = rw e at (term-le-sum nodes k (λ k. countIf (childOf tree c k) f k) hk)
 
 module _ (tree : Tree) (c : ℕ) where
-  pub under-le : (f g : ℕ → ℕ) → ((k : ℕ) → k < 64 → ChildOf tree c k → f k ≤ g k) → sumUnder tree c f ≤ sumUnder tree c g
+  pub under-le : (f g : ℕ → ℕ) → ((k : ℕ) → k < nodes → ChildOf tree c k → f k ≤ g k) → sumUnder tree c f ≤ sumUnder tree c g
   unfolding sumUnder
   under-le f g h =
-      sum-mono 64 (λ k. countIf (childOf tree c k) f k) (λ k. countIf (childOf tree c k) g k)
+      sum-mono nodes (λ k. countIf (childOf tree c k) f k) (λ k. countIf (childOf tree c k) g k)
       (λ k hk. count-le (childOf tree c k) f g k (λ e. h k hk (child-facts tree c k e)))
 
   pub under-add : (f g : ℕ → ℕ) → sumUnder tree c (λ k. f k + g k) ≡ sumUnder tree c f + sumUnder tree c g
   unfolding sumUnder
   under-add f g =
-      sum-cong 64 (λ k. countIf (childOf tree c k) (λ j. f j + g j) k) (λ k. countIf (childOf tree c k) f k + countIf (childOf tree c k) g k)
+      sum-cong nodes (λ k. countIf (childOf tree c k) (λ j. f j + g j) k) (λ k. countIf (childOf tree c k) f k + countIf (childOf tree c k) g k)
       (λ k hk. count-add (childOf tree c k) f g k)
-      ∙ sum-add 64 (λ k. countIf (childOf tree c k) f k) (λ k. countIf (childOf tree c k) g k)
+      ∙ sum-add nodes (λ k. countIf (childOf tree c k) f k) (λ k. countIf (childOf tree c k) g k)
 
   pub under-scale : (f : ℕ → ℕ) (n : ℕ) → sumUnder tree c (λ k. f k * n) ≡ sumUnder tree c f * n
   unfolding sumUnder
   under-scale f n =
-      sum-cong 64 (λ k. countIf (childOf tree c k) (λ j. f j * n) k) (λ k. countIf (childOf tree c k) f k * n)
+      sum-cong nodes (λ k. countIf (childOf tree c k) (λ j. f j * n) k) (λ k. countIf (childOf tree c k) f k * n)
       (λ k hk. count-scale (childOf tree c k) f n k)
-      ∙ sum-scale 64 (λ k. countIf (childOf tree c k) f k) n
+      ∙ sum-scale nodes (λ k. countIf (childOf tree c k) f k) n
 
   -- Two sums on each side.
-  pub under-sums : (f g f' g' : ℕ → ℕ) → ((k : ℕ) → k < 64 → ChildOf tree c k → f k + g k ≤ f' k + g' k) → sumUnder tree c f + sumUnder tree c g ≤ sumUnder tree c f' + sumUnder tree c g'
+  pub under-sums : (f g f' g' : ℕ → ℕ) → ((k : ℕ) → k < nodes → ChildOf tree c k → f k + g k ≤ f' k + g' k) → sumUnder tree c f + sumUnder tree c g ≤ sumUnder tree c f' + sumUnder tree c g'
   under-sums f g f' g' h = omega (arith, under-le (λ k. f k + g k) (λ k. f' k + g' k) h, under-add f g, under-add f' g')
 
   -- The same where one child's sum is greater by a.
-  pub under-more : (f g f' g' : ℕ → ℕ) (j a : ℕ) → j < 64 → ChildOf tree c j → ((k : ℕ) → k < 64 → ChildOf tree c k → f k + g k ≤ f' k + g' k) → f j + g j + a ≤ f' j + g' j → sumUnder tree c f + sumUnder tree c g + a ≤ sumUnder tree c f' + sumUnder tree c g'
+  pub under-more : (f g f' g' : ℕ → ℕ) (j a : ℕ) → j < nodes → ChildOf tree c j → ((k : ℕ) → k < nodes → ChildOf tree c k → f k + g k ≤ f' k + g' k) → f j + g j + a ≤ f' j + g' j → sumUnder tree c f + sumUnder tree c g + a ≤ sumUnder tree c f' + sumUnder tree c g'
   unfolding sumUnder
   under-more f g f' g' j a hj child h m =
       let e = child-of tree c j child in
       omega (
         arith,
-        sum-more 64 j a (λ k. countIf (childOf tree c k) (λ i. f i + g i) k) (λ k. countIf (childOf tree c k) (λ i. f' i + g' i) k) hj
+        sum-more nodes j a (λ k. countIf (childOf tree c k) (λ i. f i + g i) k) (λ k. countIf (childOf tree c k) (λ i. f' i + g' i) k) hj
             (λ k hk. count-le (childOf tree c k) (λ i. f i + g i) (λ i. f' i + g' i) k (λ d. h k hk (child-facts tree c k d)))
             (rw (count-true (childOf tree c j) (λ i. f i + g i) j e, count-true (childOf tree c j) (λ i. f' i + g' i) j e) m),
         under-add f g,
@@ -128,7 +129,7 @@ module _ (tree : Tree) (c : ℕ) where
       )
 
   -- Where no child's balance rises, neither does their sum.
-  pub under-falls : (B B' : ℕ → ℤ) → ((k : ℕ) → k < 64 → ChildOf tree c k → leZ (B' k) (B k) ≡ true) → sumUnder tree c (λ k. plus (B' k)) + sumUnder tree c (λ k. minus (B k)) ≤ sumUnder tree c (λ k. plus (B k)) + sumUnder tree c (λ k. minus (B' k))
+  pub under-falls : (B B' : ℕ → ℤ) → ((k : ℕ) → k < nodes → ChildOf tree c k → leZ (B' k) (B k) ≡ true) → sumUnder tree c (λ k. plus (B' k)) + sumUnder tree c (λ k. minus (B k)) ≤ sumUnder tree c (λ k. plus (B k)) + sumUnder tree c (λ k. minus (B' k))
   under-falls B B' h =
       under-sums (λ k. plus (B' k)) (λ k. minus (B k)) (λ k. plus (B k)) (λ k. minus (B' k)) (λ k hk child. le-parts (B' k) (B k) (h k hk child))
 
@@ -138,7 +139,7 @@ unfolding childBalances childBalance sumUnder
 balances-parts t c =
     omega (
       arith,
-      sumℤ-parts 64 (childBalance t c),
-      sum-cong 64 (λ k. minus (childBalance t c k)) (λ k. countIf (childOf (treeOf t) c k) (λ j. minus (balance t j)) k) (λ k hk. minus-if (childOf (treeOf t) c k) (balance t) k),
-      sum-cong 64 (λ k. plus (childBalance t c k)) (λ k. countIf (childOf (treeOf t) c k) (λ j. plus (balance t j)) k) (λ k hk. plus-if (childOf (treeOf t) c k) (balance t) k),
+      sumℤ-parts nodes (childBalance t c),
+      sum-cong nodes (λ k. minus (childBalance t c k)) (λ k. countIf (childOf (treeOf t) c k) (λ j. minus (balance t j)) k) (λ k hk. minus-if (childOf (treeOf t) c k) (balance t) k),
+      sum-cong nodes (λ k. plus (childBalance t c k)) (λ k. countIf (childOf (treeOf t) c k) (λ j. plus (balance t j)) k) (λ k hk. plus-if (childOf (treeOf t) c k) (balance t) k),
     )

@@ -12,6 +12,7 @@ use lib.IntN.{ℤ}
 use Rattle.numbers.specs.Below.{sumBelow}
 use Rattle.numbers.proofs.Tests.{by-test, cond-true, cond-false}
 use Rattle.numbers.proofs.Parts.{plus-pos, zarith}
+use Rattle.table.specs.Limits.{nodes, root, wholeShare}
 use Rattle.table.specs.Tree.{Tree, treeOf, there, isFixed, childOf, countIf, sumUnder}
 use Rattle.table.specs.Places.{rate}
 use Rattle.table.specs.Rates.{fixedShare, weight, fixedSum, weightSum, fixedRate, leftRate, weightedRate, childRate, rateAtLevel, rateIn}
@@ -30,13 +31,13 @@ part-le : (a s m : ℕ) → s ≤ m → a * s / m ≤ a
 part-le a s m h = div-le-of-le-mul m (omega (arith, mul-le-mul-left a h))
 
 -- The pieces of a rate.
-pub fixed-le : (r s : ℕ) → s ≤ 10000 → fixedRate r s ≤ r
+pub fixed-le : (r s : ℕ) → s ≤ wholeShare → fixedRate r s ≤ r
 unfolding fixedRate
-fixed-le r s h = part-le r s 10000 h
+fixed-le r s h = part-le r s wholeShare h
 
 pub left-le : (r f : ℕ) → leftRate r f ≤ r
 unfolding leftRate
-left-le r f = part-le r (10000 - f) 10000 (omega arith)
+left-le r f = part-le r (wholeShare - f) wholeShare (omega arith)
 
 pub weighted-le : (l s w : ℕ) → s ≤ w → weightedRate l s w ≤ l
 unfolding weightedRate
@@ -46,16 +47,16 @@ weighted-le l s w h = part-le l s w h
 rates-le : (r f w : ℕ) (shares : List Share) → sumOf (shareRate r f w) shares ≤ fixedRate r (sumOf fixedPart shares) + weightedRate (leftRate r f) (sumOf weightPart shares) w
 unfolding sumOf shareRate fixedPart weightPart fixedRate weightedRate
 rates-le r f w [] = omega arith
-rates-le r f w (fixed s ∷ shares) = rw add-zero (omega (arith, rates-le r f w shares, parts-le r (sumOf fixedPart shares) s 10000))
+rates-le r f w (fixed s ∷ shares) = rw add-zero (omega (arith, rates-le r f w shares, parts-le r (sumOf fixedPart shares) s wholeShare))
 rates-le r f w (weighted s ∷ shares) = omega (arith, rates-le r f w shares, parts-le (leftRate r f) (sumOf weightPart shares) s w)
 
 -- The fixed part and what is left are at most the whole.
-fixed-and-left : (r f : ℕ) → f ≤ 10000 → fixedRate r f + leftRate r f ≤ r
+fixed-and-left : (r f : ℕ) → f ≤ wholeShare → fixedRate r f + leftRate r f ≤ r
 unfolding fixedRate leftRate
-fixed-and-left r f h = let whole : f + (10000 - f) ≡ 10000 = omega arith in omega (arith, rw whole at (parts-le r f (10000 - f) 10000))
+fixed-and-left r f h = let whole : f + (wholeShare - f) ≡ wholeShare = omega arith in omega (arith, rw whole at (parts-le r f (wholeShare - f) wholeShare))
 
 -- The law, for a class of any rate and any list of shares.
-pub rounding : (r : ℕ) (shares : List Share) → sumOf fixedPart shares ≤ 10000 → ratesOf r shares ≤ r
+pub rounding : (r : ℕ) (shares : List Share) → sumOf fixedPart shares ≤ wholeShare → ratesOf r shares ≤ r
 unfolding ratesOf
 rounding r shares h =
     omega (arith, rates-le r (sumOf fixedPart shares) (sumOf weightPart shares) shares, fixed-and-left r (sumOf fixedPart shares) h, weighted-le (leftRate r (sumOf fixedPart shares)) (sumOf weightPart shares) (sumOf weightPart shares) (omega arith))
@@ -91,13 +92,13 @@ unfolding childRate shareRate shareOf
 rate-share tree r c k p = rw p (by-test (isFixed tree k) (λ e. rw e) (λ e. rw e))
 
 -- The law by node numbers: the rates of the children of class c, where its rate is r.
-pub children-rates : (tree : Tree) (c r : ℕ) → fixedSum tree c ≤ 10000 → sumUnder tree c (childRate tree r) ≤ r
+pub children-rates : (tree : Tree) (c r : ℕ) → fixedSum tree c ≤ wholeShare → sumUnder tree c (childRate tree r) ≤ r
 unfolding fixedSum weightSum sumUnder ratesOf
 children-rates tree c r h =
-    let shares : List Share = children tree c 64 in
-    let fixedShares : fixedSum tree c ≡ sumOf fixedPart shares = sum-of-children tree c 64 (fixedShare tree) fixedPart (λ k e. fixed-share tree k) in
-    let weights : weightSum tree c ≡ sumOf weightPart shares = sum-of-children tree c 64 (weight tree) weightPart (λ k e. weight-share tree k) in
-    let rates = sum-of-children tree c 64 (childRate tree r) (shareRate r (sumOf fixedPart shares) (sumOf weightPart shares)) (λ k e. rate-share tree r c k (child-facts tree c k e .parent) ∙ rw (fixedShares, weights)) in
+    let shares : List Share = children tree c nodes in
+    let fixedShares : fixedSum tree c ≡ sumOf fixedPart shares = sum-of-children tree c nodes (fixedShare tree) fixedPart (λ k e. fixed-share tree k) in
+    let weights : weightSum tree c ≡ sumOf weightPart shares = sum-of-children tree c nodes (weight tree) weightPart (λ k e. weight-share tree k) in
+    let rates = sum-of-children tree c nodes (childRate tree r) (shareRate r (sumOf fixedPart shares) (sumOf weightPart shares)) (λ k e. rate-share tree r c k (child-facts tree c k e .parent) ∙ rw (fixedShares, weights)) in
     omega (arith, rounding r shares (omega arith))
 
 -- A node one level below its parent has the rate of a child of it.
@@ -114,15 +115,15 @@ pub weighted-child : (tree : Tree) (c r k : ℕ) → tree .parent k ≡ c → is
 unfolding childRate
 weighted-child tree c r k p e = rw p (cond-false (isFixed tree k) _ _ e)
 
-pub weight-le-sum : (tree : Tree) (c k : ℕ) → k < 64 → childOf tree c k ≡ true → isFixed tree k ≡ false → tree .share k ≤ weightSum tree c
+pub weight-le-sum : (tree : Tree) (c k : ℕ) → k < nodes → childOf tree c k ≡ true → isFixed tree k ≡ false → tree .share k ≤ weightSum tree c
 unfolding weightSum weight
 weight-le-sum tree c k hk h e = rw (cond-false (isFixed tree k) 0 (tree .share k) e) at (child-le-sum tree c (weight tree) k hk h)
 
 -- A child's rate is at most its class's.
-pub fixed-child-le : (tree : Tree) (r k : ℕ) → isFixed tree k ≡ true → tree .share k ≤ 10000 → childRate tree r k ≤ r
+pub fixed-child-le : (tree : Tree) (r k : ℕ) → isFixed tree k ≡ true → tree .share k ≤ wholeShare → childRate tree r k ≤ r
 fixed-child-le tree r k e small = rw (fixed-child tree r k e) (fixed-le r (tree .share k) small)
 
-pub child-rate-le : (tree : Tree) (c r k : ℕ) → k < 64 → childOf tree c k ≡ true → tree .share k ≤ 10000 → childRate tree r k ≤ r
+pub child-rate-le : (tree : Tree) (c r k : ℕ) → k < nodes → childOf tree c k ≡ true → tree .share k ≤ wholeShare → childRate tree r k ≤ r
 child-rate-le tree c r k hk h small =
     by-test (isFixed tree k) (λ e. fixed-child-le tree r k e small)
     (λ e.
@@ -133,12 +134,12 @@ child-rate-le tree c r k hk h small =
 -- there.
 pub record Bounded (tree : Tree) : Type 0 where
   pub root : isFixed tree 0 ≡ true
-  pub share : (k : ℕ) → k < 64 → there tree k ≡ true → tree .share k ≤ 10000
-  pub parent : (k : ℕ) → k < 64 → there tree k ≡ true → tree .parent k < 64
-  pub above : (k : ℕ) → k < 64 → there tree k ≡ true → there tree (tree .parent k) ≡ true
+  pub share : (k : ℕ) → k < nodes → there tree k ≡ true → tree .share k ≤ wholeShare
+  pub parent : (k : ℕ) → k < nodes → there tree k ≡ true → tree .parent k < nodes
+  pub above : (k : ℕ) → k < nodes → there tree k ≡ true → there tree (tree .parent k) ≡ true
 
 -- Then no rate exceeds the disk's, at whatever level it is reckoned.
-pub rate-bounded : (tree : Tree) → Bounded tree → (disk l k : ℕ) → k < 64 → there tree k ≡ true → rateAtLevel tree disk l k ≤ disk
+pub rate-bounded : (tree : Tree) → Bounded tree → (disk l k : ℕ) → k < nodes → there tree k ≡ true → rateAtLevel tree disk l k ≤ disk
 unfolding rateAtLevel
 rate-bounded tree b disk zero k hk e = omega arith
 rate-bounded tree b disk (suc l) k hk e = omega (arith, rate-bounded tree b disk l (tree .parent k) (b .parent k hk e) (b .above k hk e), step (rateAtLevel tree disk l (tree .parent k)))
@@ -158,6 +159,6 @@ in-order-bounded t f =
     }
 
 -- So its rates are at most the disk's.
-pub rates-in-order : (t : List ℤ) → InOrder t → (k : ℕ) → k < 64 → there (treeOf t) k ≡ true → rateIn (treeOf t) (rate t 0) k ≤ rate t 0
+pub rates-in-order : (t : List ℤ) → InOrder t → (k : ℕ) → k < nodes → there (treeOf t) k ≡ true → rateIn (treeOf t) (rate t root) k ≤ rate t root
 unfolding rateIn
-rates-in-order t f k hk e = rate-bounded (treeOf t) (in-order-bounded t f) (rate t 0) (treeOf t .level k) k hk e
+rates-in-order t f k hk e = rate-bounded (treeOf t) (in-order-bounded t f) (rate t root) (treeOf t .level k) k hk e

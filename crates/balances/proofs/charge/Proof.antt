@@ -6,6 +6,7 @@ use mathlib.Core.List.{List}
 use native.Mathlib.Omega.{arith}
 use borrow.Author.Needs.{needs}
 use lib.IntN.{ℤ}
+use Rattle.table.specs.Limits.{nodes}
 use Rattle.table.specs.Tree.{treeOf}
 use Rattle.table.specs.Tick.{charge}
 use Rattle.balances.proofs.Charged.{Chargeable, chargeable-first, chargeable-next, chargeable-here, chargeable-parent, charge-last, charge-above}
@@ -14,7 +15,7 @@ use Rattle.balances.proofs.charge.Tie as tie
 
 abbrev Inv-loop : tie.InvT-loop
 Inv-loop table₀ amount s level₀ node₀ table level node =
-    (node < 64) × (Chargeable (treeOf table₀) amount level table)
+    (node < nodes) × (Chargeable (treeOf table₀) amount level table)
     × (charge table amount level node ≡ charge table₀ amount (treeOf table₀ .level s) s)
 
 abbrev μ-loop : tie.MeasureT-loop

@@ -1,6 +1,7 @@
 -- `balances::cut` meets its contract. The invariant: the nodes so far are cut.
 use Prim.Native.Nat.{_-_}
 use native.Mathlib.Omega.{arith}
+use Rattle.table.specs.Limits.{nodes}
 use Rattle.table.specs.Tick.{cut}
 use Rattle.table.proofs.Turns.{Turns, turns-first, turns-next, turns-all}
 use Rattle.balances.proofs.Sweeps.{cutting, cutting-fits}
@@ -8,10 +9,10 @@ use Rattle.balances.proofs.cut.Statement.{statement}
 use Rattle.balances.proofs.cut.Tie as tie
 
 abbrev Inv-loop : tie.InvT-loop
-Inv-loop table₀ k₀ table k = Turns 64 cutting table₀ table k
+Inv-loop table₀ k₀ table k = Turns nodes cutting table₀ table k
 
 abbrev μ-loop : tie.MeasureT-loop
-μ-loop table₀ k₀ table k = 64 - k
+μ-loop table₀ k₀ table k = nodes - k
 
 loop-holds : tie.Need-loop-holds Inv-loop μ-loop
 loop-holds c = turns-first (c .pre .long)

@@ -7,15 +7,16 @@ use lib.Signed.{leZ}
 use mir.Syntax.{w64}
 use mir.ValLaws.{toZ-ofZ}
 use borrow.Author.Needs.{needs, sfits-of}
+use Rattle.table.specs.Limits.{grainScale}
 use Rattle.table.specs.Places.{put, balance, depthGrains}
 use Rattle.balances.proofs.Sweeps.{cut-stays, cut-falls}
 use Rattle.balances.proofs.cut_node.Statement.{statement}
 use Rattle.balances.proofs.cut_node.Tie as tie
 
 -- The depth in grains, and what the test says.
-most : (c : tie.After-at-most) → c .before .before .before .before .natural .result * 1000 ≡ depthGrains (c .before .before .before .before .before .before .args .table .now) (c .before .before .before .before .before .before .args .k)
+most : (c : tie.After-at-most) → c .before .before .before .before .natural .result * grainScale ≡ depthGrains (c .before .before .before .before .before .before .args .table .now) (c .before .before .before .before .before .before .args .k)
 unfolding depthGrains
-most c = ap (λ (n : ℕ). n * 1000) (c .before .before .before .before .natural .ensures)
+most c = ap (λ (n : ℕ). n * grainScale) (c .before .before .before .before .natural .ensures)
 
 tested : (c : tie.After-at-most) → leZ (balance (c .before .before .before .before .before .before .args .table .now) (c .before .before .before .before .before .before .args .k)) (pos (depthGrains (c .before .before .before .before .before .before .args .table .now) (c .before .before .before .before .before .before .args .k))) ≡ c .at-most .result
 unfolding balance

@@ -5,16 +5,17 @@ use native.Mathlib.Omega.{arith}
 use Rattle.numbers.specs.Whole.{sameℤ}
 use Rattle.numbers.specs.Below.{allBelow}
 use Rattle.numbers.proofs.All.{all-grows, all-done}
+use Rattle.table.specs.Limits.{rateAt}
 use Rattle.table.specs.Places.{place}
 use Rattle.comparing.proofs.same_node.Statement.{statement}
 use Rattle.comparing.proofs.same_node.Tie as tie
 
 abbrev Inv-loop : tie.InvT-loop
 Inv-loop first second k same₀ p₀ same p =
-    (p ≤ 6) × (same ≡ allBelow p (λ q. sameℤ (place first k q) (place second k q)))
+    (p ≤ rateAt) × (same ≡ allBelow p (λ q. sameℤ (place first k q) (place second k q)))
 
 abbrev μ-loop : tie.MeasureT-loop
-μ-loop first second k same₀ p₀ same p = 6 - p
+μ-loop first second k same₀ p₀ same p = rateAt - p
 
 loop-holds : tie.Need-loop-holds Inv-loop μ-loop
 unfolding allBelow
@@ -40,7 +41,7 @@ loop-again c =
 returns : tie.Need-returns Inv-loop μ-loop
 returns c =
     let start = c .before .before .args in
-    all-done (c .before .loop .p) 6 (λ q. sameℤ (place (start .first .now) (start .k) q) (place (start .second .now) (start .k) q)) _ (c .before .loop .inv .1) (omega arith)
+    all-done (c .before .loop .p) rateAt (λ q. sameℤ (place (start .first .now) (start .k) q) (place (start .second .now) (start .k) q)) _ (c .before .loop .inv .1) (omega arith)
 
 pub same-node-spec : {M : Type 1} → statement M
 same-node-spec =

@@ -5,16 +5,17 @@ use native.Mathlib.Omega.{arith}
 use Rattle.numbers.specs.Whole.{sameℤ}
 use Rattle.numbers.specs.Below.{allBelow}
 use Rattle.numbers.proofs.All.{all-grows, all-done}
+use Rattle.table.specs.Limits.{nodes, rateAt}
 use Rattle.table.specs.Places.{place}
 use Rattle.comparing.proofs.same_nodes.Statement.{statement}
 use Rattle.comparing.proofs.same_nodes.Tie as tie
 
 abbrev Inv-loop : tie.InvT-loop
 Inv-loop first second same₀ k₀ same k =
-    (k ≤ 64) × (same ≡ allBelow k (λ j. allBelow 6 (λ q. sameℤ (place first j q) (place second j q))))
+    (k ≤ nodes) × (same ≡ allBelow k (λ j. allBelow rateAt (λ q. sameℤ (place first j q) (place second j q))))
 
 abbrev μ-loop : tie.MeasureT-loop
-μ-loop first second same₀ k₀ same k = 64 - k
+μ-loop first second same₀ k₀ same k = nodes - k
 
 loop-holds : tie.Need-loop-holds Inv-loop μ-loop
 unfolding allBelow
@@ -34,13 +35,13 @@ loop-again c =
     let start = c .before .before .before in
     let at = c .before .before .loop in (
       omega arith,
-      all-grows (at .k) (λ j. allBelow 6 (λ q. sameℤ (place (start .args .first .now) j q) (place (start .args .second .now) j q))) _ _ (at .inv .1) (c .same-node .ensures),
+      all-grows (at .k) (λ j. allBelow rateAt (λ q. sameℤ (place (start .args .first .now) j q) (place (start .args .second .now) j q))) _ _ (at .inv .1) (c .same-node .ensures),
     )
 
 returns : tie.Need-returns Inv-loop μ-loop
 returns c =
     let start = c .before .before .args in
-    all-done (c .before .loop .k) 64 (λ j. allBelow 6 (λ q. sameℤ (place (start .first .now) j q) (place (start .second .now) j q))) _ (c .before .loop .inv .1) (omega arith)
+    all-done (c .before .loop .k) nodes (λ j. allBelow rateAt (λ q. sameℤ (place (start .first .now) j q) (place (start .second .now) j q))) _ (c .before .loop .inv .1) (omega arith)
 
 pub same-nodes-spec : {M : Type 1} → statement M
 same-nodes-spec =

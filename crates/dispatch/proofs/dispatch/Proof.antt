@@ -1,6 +1,6 @@
 -- `dispatch::dispatch` meets its contract: the entry is written, the charge made and the request taken out. A charge leaves the
 -- waiting requests as they were.
-use Prim.Native.Nat.{ℕ, _*_, _≤_}
+use Prim.Native.Nat.{ℕ, _*_, _≤_, _+_}
 use mathlib.Core.Path.{_≡_, ap, _∙_}
 use mathlib.Core.List.{List}
 use native.Mathlib.Omega.{arith}
@@ -9,6 +9,7 @@ use mir.Syntax.{w64}
 use mir.ValLaws.{toZ-ofZ}
 use borrow.Author.Needs.{needs, sfits-of}
 use Rattle.numbers.specs.Whole.{plus}
+use Rattle.table.specs.Limits.{waitingAt, queueAt, sizeAt, greatestRate, grainScale, entryLength}
 use Rattle.table.specs.Places.{place, waiting, tag, size}
 use Rattle.table.specs.Tree.{treeOf}
 use Rattle.table.specs.Tick.{grains, charge, takenOut, dispatched}
@@ -20,18 +21,18 @@ use Rattle.dispatch.proofs.dispatch.Tie as tie
 
 waits : (t u : List ℤ) (amount l s k : ℕ) → u ≡ charge t amount l s → waiting u k ≡ waiting t k
 unfolding waiting
-waits t u amount l s k e = ap (λ (v : List ℤ). plus (place v k 8)) e ∙ ap plus (charge-place l t amount s k 8 (omega arith) (λ e. omega arith))
+waits t u amount l s k e = ap (λ (v : List ℤ). plus (place v k waitingAt)) e ∙ ap plus (charge-place l t amount s k waitingAt (omega arith) (λ e. omega arith))
 
-table-after : (t u v : List ℤ) (k s n : ℕ) → n ≡ plus (place t k 17) → u ≡ charge t (n * 1000) (treeOf t .level s) s → v ≡ takenOut u k → v ≡ tableAfter t k s
+table-after : (t u v : List ℤ) (k s n : ℕ) → n ≡ plus (place t k (queueAt + sizeAt)) → u ≡ charge t (n * grainScale) (treeOf t .level s) s → v ≡ takenOut u k → v ≡ tableAfter t k s
 unfolding tableAfter dispatched grains size
 table-after t u v k s n hn hu hv = cc
 
-list-after : (list new t : List ℤ) (n k s m : ℕ) (x : ℤ) → x ≡ place t k 16 → m ≡ plus (place t k 17) → new ≡ entered list (4 * n) (pos k) x (pos m) (pos s) → new ≡ listAfter list n t k s
+list-after : (list new t : List ℤ) (n k s m : ℕ) (x : ℤ) → x ≡ place t k queueAt → m ≡ plus (place t k (queueAt + sizeAt)) → new ≡ entered list (entryLength * n) (pos k) x (pos m) (pos s) → new ≡ listAfter list n t k s
 unfolding listAfter tag size
 list-after list new t n k s m x hx hm e = cc
 
 -- The size of the request is small.
-small : (c : tie.After-natural) → c .natural .result * 1000 ≤ 1000000000
+small : (c : tie.After-natural) → c .natural .result * grainScale ≤ greatestRate
 small c =
     let start = c .before .before .before .before in
     omega (arith, size-at (start .args .table .now) (start .pre .0) (start .args .k) (start .pre .1))

@@ -5,6 +5,7 @@ use borrow.Author.Tests.{eq-eqb, ne-eqb, not-true, not-false}
 use lib.ListN.{length}
 use lib.Dec.{eqb}
 use Rattle.numbers.proofs.Tests.{same-truth, and-true, and-left, and-right}
+use Rattle.table.specs.Limits.{tableLength}
 use Rattle.table.specs.Tree.{treeOf, eachClass}
 use Rattle.table.specs.Order.{headerInOrder, rootInOrder, inOrder}
 use Rattle.records.specs.Record.{recordsInOrder}
@@ -15,7 +16,7 @@ use Rattle.order.proofs.in_order.Statement.{statement}
 use Rattle.order.proofs.in_order.Tie as tie
 
 -- What is known past each test.
-long : (c : tie.Else2) → length (c .before .before .before .before .before .args .table .now) ≡ 2568
+long : (c : tie.Else2) → length (c .before .before .before .before .before .args .table .now) ≡ tableLength
 long c = c .before .before .before .before .if1 .left
 
 shaped : (c : tie.Else2) → (c .before .before .before .header-in-order .result && c .before .before .root-in-order .result && c .before .records-in-order .result) ≡ true
@@ -36,7 +37,7 @@ covered c = sym (c .before .classes-cover .ensures) ∙ not-false _ (c .if3 .lef
 returns : tie.Need-returns
 returns c =
     let t = c .before .args .table .now in
-    out-of-order t (eqb (length t) 2568) (λ s. eq-eqb (length t) 2568 (s .long)) (ne-eqb (length t) 2568 (c .if1 .taken))
+    out-of-order t (eqb (length t) tableLength) (λ s. eq-eqb (length t) tableLength (s .long)) (ne-eqb (length t) tableLength (c .if1 .taken))
 
 header-in-order-requires : tie.Need-header-in-order-requires
 header-in-order-requires c κs = search needs

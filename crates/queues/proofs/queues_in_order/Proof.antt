@@ -5,6 +5,7 @@ use native.Mathlib.Omega.{arith}
 use Rattle.numbers.specs.Tests.{every}
 use Rattle.numbers.specs.Below.{allBelow}
 use Rattle.numbers.proofs.All.{all-next}
+use Rattle.table.specs.Limits.{nodes}
 use Rattle.queues.specs.Waiting.{waitingInOrder}
 use Rattle.queues.specs.Marks.{MarkedBelow}
 use Rattle.queues.proofs.Marks.{none-below}
@@ -13,10 +14,10 @@ use Rattle.queues.proofs.queues_in_order.Statement.{statement}
 use Rattle.queues.proofs.queues_in_order.Tie as tie
 
 abbrev Inv-loop : tie.InvT-loop
-Inv-loop table marked₀ ok₀ k₀ marked ok k = (k ≤ 64) × (ok ≡ allBelow k (waitingInOrder table)) × MarkedBelow table marked k
+Inv-loop table marked₀ ok₀ k₀ marked ok k = (k ≤ nodes) × (ok ≡ allBelow k (waitingInOrder table)) × MarkedBelow table marked k
 
 abbrev μ-loop : tie.MeasureT-loop
-μ-loop table marked₀ ok₀ k₀ marked ok k = 64 - k
+μ-loop table marked₀ ok₀ k₀ marked ok k = nodes - k
 
 loop-holds : tie.Need-loop-holds Inv-loop μ-loop
 unfolding allBelow

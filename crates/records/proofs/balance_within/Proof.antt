@@ -4,6 +4,7 @@ use mathlib.Core.Path.{ap, ap₂}
 use mathlib.Core.Bool.{Bool, _||_}
 use native.Mathlib.Omega.{arith}
 use lib.Dec.{eqb, leb}
+use Rattle.table.specs.Limits.{lastLevel, grainScale}
 use Rattle.table.specs.Places.{balance, depthGrains}
 use Rattle.table.specs.Tree.{treeOf}
 use Rattle.records.specs.Record.{balanceWithin}
@@ -35,11 +36,11 @@ mul-low c = omega arith
 returns : tie.Need-returns
 unfolding treeOf balanceWithin balance depthGrains
 returns c =
-    let grains = ap (λ (n : ℕ). n * 1000) (c .before .before .before .natural .ensures) in
+    let grains = ap (λ (n : ℕ). n * grainScale) (c .before .before .before .natural .ensures) in
     let below = c .before .negative .ensures in
     joined-as
     (same-tests (ap₂ leb (c .natural2 .ensures) grains)
-    (same-tests (ap₂ (λ (n m : ℕ). leb n (4 * m)) below grains)
+    (same-tests (ap₂ (λ (n m : ℕ). leb n (lastLevel * m)) below grains)
     (last-test (ap₂ (λ (b : Bool) (n : ℕ). b || eqb n 0) (c .before .before .is-class .ensures) below))))
 
 pub balance-within-spec : {M : Type 1} → statement M

@@ -3,6 +3,7 @@ use Prim.Native.Nat.{ℕ}
 use mathlib.Core.Path.{sym, ap, ap₂, _∙_}
 use mathlib.Core.Bool.{Bool, not, _||_}
 use lib.Dec.{eqb, leb}
+use Rattle.table.specs.Limits.{lastClassLevel}
 use Rattle.table.specs.Places.{waiting}
 use Rattle.table.specs.Tree.{treeOf, isClass}
 use Rattle.records.specs.Record.{classPlaced}
@@ -25,7 +26,7 @@ unfolding treeOf classPlaced waiting
 returns c =
     let t = c .before .before .before .args .table .now in
     let k = c .before .before .before .args .k in
-    let level = ap (λ (n : ℕ). leb n 3) (c .before .natural .ensures) in
+    let level = ap (λ (n : ℕ). leb n lastClassLevel) (c .before .natural .ensures) in
     let idle = ap (λ (n : ℕ). eqb n 0) (c .natural2 .ensures) in
     ap₂ (λ (b d : Bool). not b || d) (c .before .before .is-class .ensures) (joined-as (same-tests level (last-test idle)))
     ∙ sym (test-or (isClass (treeOf t) k) (classPlaced t) k)

@@ -4,6 +4,7 @@ use borrow.Author.Needs.{sfits-of}
 use mir.Syntax.{w64}
 use mir.ValLaws.{toZ-ofZ}
 use Rattle.numbers.specs.Whole.{withinℤ}
+use Rattle.table.specs.Limits.{greatestCount}
 use Rattle.table.specs.Order.{headerInOrder}
 use Rattle.records.proofs.Joined.{joined-as, same-tests, last-test}
 use Rattle.records.proofs.Spans.{header-zeros}
@@ -28,7 +29,7 @@ unfolding headerInOrder
 returns c =
     let count = toZ-ofZ w64 _ (sfits-of (c .before .before .heading .ok)) ∙ c .before .before .heading .ensures in
     joined-as
-    (same-tests (c .before .within .ensures ∙ ap (withinℤ 0 9000000000000000000) count)
+    (same-tests (c .before .within .ensures ∙ ap (withinℤ 0 greatestCount) count)
     (last-test (c .zeros .ensures ∙ header-zeros _)))
 
 pub header-in-order-spec : {M : Type 1} → statement M

@@ -5,6 +5,7 @@ use mathlib.Core.Bool.{Bool, _||_}
 use native.Mathlib.Omega.{arith}
 use lib.Dec.{eqb}
 use Rattle.numbers.specs.Whole.{plus}
+use Rattle.table.specs.Limits.{levelAt}
 use Rattle.table.specs.Places.{place}
 use Rattle.table.specs.Tree.{treeOf, isClass}
 use Rattle.table.specs.Order.{parentInOrder}
@@ -36,7 +37,7 @@ returns c =
     let start = c .before .before .before .before .before in
     let t = start .args .table .now in
     let parent = c .before .before .before .before .natural .ensures in
-    let above = c .before .natural3 .ensures ∙ ap (λ (p : ℕ). plus (place t p 2)) parent in
+    let above = c .before .natural3 .ensures ∙ ap (λ (p : ℕ). plus (place t p levelAt)) parent in
     let class = c .before .before .before .is-class .ensures ∙ ap (isClass (treeOf t)) parent in
     let level = c .follows .ensures ∙ ap₂ (λ (n m : ℕ). eqb n (suc m)) (c .before .before .natural2 .ensures) above in
     ap (λ (b : Bool). eqb (start .args .k) 0 || b) (joined-as (same-tests class (last-test level)))

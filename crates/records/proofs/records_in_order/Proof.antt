@@ -3,16 +3,17 @@ use Prim.Native.Nat.{_≤_, _-_}
 use mathlib.Core.Path.{_≡_, refl}
 use native.Mathlib.Omega.{arith}
 use Rattle.numbers.specs.Below.{allBelow}
+use Rattle.table.specs.Limits.{nodes}
 use Rattle.records.proofs.Joined.{all-grows, all-done}
 use Rattle.records.specs.Record.{recordInOrder, recordsInOrder}
 use Rattle.records.proofs.records_in_order.Statement.{statement}
 use Rattle.records.proofs.records_in_order.Tie as tie
 
 abbrev Inv-loop : tie.InvT-loop
-Inv-loop table ok₀ k₀ ok k = (k ≤ 64) × (ok ≡ allBelow k (recordInOrder table))
+Inv-loop table ok₀ k₀ ok k = (k ≤ nodes) × (ok ≡ allBelow k (recordInOrder table))
 
 abbrev μ-loop : tie.MeasureT-loop
-μ-loop table ok₀ k₀ ok k = 64 - k
+μ-loop table ok₀ k₀ ok k = nodes - k
 
 loop-holds : tie.Need-loop-holds Inv-loop μ-loop
 unfolding allBelow

@@ -3,6 +3,7 @@ use Prim.Native.Nat.{ℕ, _+_, _*_, _-_}
 use mathlib.Core.Path.{ap, _∙_}
 use native.Mathlib.Omega.{arith}
 use Rattle.numbers.specs.Whole.{plus}
+use Rattle.table.specs.Limits.{headerLength, recordLength, waitingAt, queueAt, queueLength, requestLength}
 use Rattle.table.specs.Places.{place, waiting}
 use Rattle.table.specs.Order.{spareInOrder}
 use Rattle.records.specs.Record.{zeros}
@@ -51,10 +52,10 @@ unfolding spareInOrder waiting
 returns c =
     let t = c .before .before .before .args .table .now in
     let k = c .before .before .before .args .k in
-    let held = ap (λ (n : ℕ). zeros t (8 + 40 * k + 16 + 3 * n) (24 - 3 * n)) (c .before .before .natural .ensures) in
+    let held = ap (λ (n : ℕ). zeros t (headerLength + recordLength * k + queueAt + requestLength * n) (queueLength - requestLength * n)) (c .before .before .natural .ensures) in
     joined-as
     (same-tests (c .before .zeros .ensures ∙ spare-zeros t k)
-    (last-test (c .zeros2 .ensures ∙ held ∙ queue-zeros t k (3 * plus (place t k 8)) (omega arith))))
+    (last-test (c .zeros2 .ensures ∙ held ∙ queue-zeros t k (requestLength * plus (place t k waitingAt)) (omega arith))))
 
 pub spare-in-order-spec : {M : Type 1} → statement M
 spare-in-order-spec =

@@ -4,6 +4,7 @@ use mathlib.Core.Path.{_≡_, refl}
 use native.Mathlib.Omega.{arith}
 use Rattle.numbers.specs.Below.{sumBelow}
 use Rattle.numbers.proofs.Sums.{sum-next}
+use Rattle.table.specs.Limits.{nodes, mostWaiting}
 use Rattle.table.specs.Places.{waiting}
 use Rattle.table.specs.Tick.{allWaiting}
 use Rattle.table.proofs.Facts.{facts}
@@ -12,10 +13,10 @@ use Rattle.steps.proofs.all_waiting.Statement.{statement}
 use Rattle.steps.proofs.all_waiting.Tie as tie
 
 abbrev Inv-loop : tie.InvT-loop
-Inv-loop table sum₀ k₀ sum k = (k ≤ 64) × (sum ≤ 8 * k) × (sum ≡ sumBelow k (waiting table))
+Inv-loop table sum₀ k₀ sum k = (k ≤ nodes) × (sum ≤ mostWaiting * k) × (sum ≡ sumBelow k (waiting table))
 
 abbrev μ-loop : tie.MeasureT-loop
-μ-loop table sum₀ k₀ sum k = 64 - k
+μ-loop table sum₀ k₀ sum k = nodes - k
 
 loop-holds : tie.Need-loop-holds Inv-loop μ-loop
 unfolding sumBelow
@@ -25,7 +26,7 @@ natural-requires : tie.Need-natural-requires Inv-loop μ-loop
 natural-requires c κs = (facts _ (c .before .before .pre) .long, omega arith, omega arith)
 
 -- What one node adds.
-few : (c : tie.After-natural Inv-loop μ-loop) → c .natural .result ≤ 8
+few : (c : tie.After-natural Inv-loop μ-loop) → c .natural .result ≤ mostWaiting
 few c =
     let start = c .before .before .before in
     omega (arith, waiting-few (start .args .table .now) (facts _ (start .pre)) (c .before .before .loop .k) (omega arith))
@@ -47,7 +48,7 @@ loop-again c =
 returns : tie.Need-returns Inv-loop μ-loop
 unfolding allWaiting
 returns c =
-    let end : c .before .loop .k ≡ 64 = omega arith in
+    let end : c .before .loop .k ≡ nodes = omega arith in
     rw end at (c .before .loop .inv .2)
 
 pub all-waiting-spec : {M : Type 1} → statement M

@@ -3,6 +3,7 @@ use Prim.Native.Nat.{_*_}
 use mathlib.Core.Path.{sym, ap, _∙_}
 use native.Mathlib.Omega.{arith}
 use borrow.Author.Needs.{needs}
+use Rattle.table.specs.Limits.{grainScale}
 use Rattle.table.specs.Tick.{enough}
 use Rattle.balances.proofs.Limits.{size-at}
 use Rattle.steps.proofs.Serving.{not-waiting, is-waiting}
@@ -32,7 +33,7 @@ enough-requires c κs =
 returns-2 : tie.Need-returns-2
 returns-2 c =
     let start = c .before .before .before .before in
-    c .enough .ensures ∙ ap (λ n. enough (start .args .table .now) (n * 1000) (start .args .k)) (c .before .natural2 .ensures)
+    c .enough .ensures ∙ ap (λ n. enough (start .args .table .now) (n * grainScale) (start .args .k)) (c .before .natural2 .ensures)
     ∙ sym (is-waiting (start .args .table .now) (start .args .k) (λ e. c .before .before .if1 .left (c .before .before .before .natural .ensures ∙ e)))
 
 pub ready-spec : {M : Type 1} → statement M

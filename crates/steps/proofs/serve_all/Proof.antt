@@ -7,6 +7,7 @@ use native.Mathlib.Omega.{arith}
 use lib.ListN.{length}
 use Rattle.numbers.specs.Below.{forBelow}
 use Rattle.numbers.proofs.Steps.{for-next}
+use Rattle.table.specs.Limits.{nodes}
 use Rattle.table.specs.Tick.{servedAll}
 use Rattle.steps.specs.Steps.{Shows, serving}
 use Rattle.steps.proofs.Shows.{shows-first}
@@ -16,13 +17,13 @@ use Rattle.steps.proofs.serve_all.Tie as tie
 
 abbrev Inv-loop : tie.InvT-loop
 Inv-loop table₀ list₀ written₀ k₀ table list written k =
-    (k ≤ 64)
+    (k ≤ nodes)
     × (length table ≡ length table₀)
     × (length list ≡ length list₀)
     × Shows list₀ (forBelow k serving (record { table = table₀; entries = [] })) table list written
 
 abbrev μ-loop : tie.MeasureT-loop
-μ-loop table₀ list₀ written₀ k₀ table list written k = 64 - k
+μ-loop table₀ list₀ written₀ k₀ table list written k = nodes - k
 
 loop-holds : tie.Need-loop-holds Inv-loop μ-loop
 unfolding forBelow
@@ -56,7 +57,7 @@ same-length-2 c = c .before .loop .inv .2
 returns : tie.Need-returns Inv-loop μ-loop
 unfolding servedAll serving
 returns c =
-    let end : c .before .loop .k ≡ 64 = omega arith in
+    let end : c .before .loop .k ≡ nodes = omega arith in
     rw end at (c .before .loop .inv .3)
 
 pub serve-all-spec : {M : Type 1} → statement M

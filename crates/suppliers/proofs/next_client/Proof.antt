@@ -4,18 +4,19 @@ use mathlib.Core.Path.{_≡_, refl, sym, _∙_}
 use native.Mathlib.Omega.{arith}
 use borrow.Author.Tests.{not-true, not-false}
 use Rattle.numbers.specs.Below.{forBelow}
+use Rattle.table.specs.Limits.{nodes}
 use Rattle.table.specs.Places.{waiting}
-use Rattle.table.specs.Tick.{better, next}
+use Rattle.table.specs.Tick.{nobody, better, next}
 use Rattle.numbers.proofs.Steps.{turned}
 use Rattle.suppliers.proofs.Next.{idle, unsupplied, later, taken}
 use Rattle.suppliers.proofs.next_client.Statement.{statement}
 use Rattle.suppliers.proofs.next_client.Tie as tie
 
 abbrev Inv-clients : tie.InvT-clients
-Inv-clients table best₀ k₀ best k = (k ≤ 64) × (best ≤ 64) × (best ≡ forBelow k (better table) 64)
+Inv-clients table best₀ k₀ best k = (k ≤ nodes) × (best ≤ nobody) × (best ≡ forBelow k (better table) nodes)
 
 abbrev μ-clients : tie.MeasureT-clients
-μ-clients table best₀ k₀ best k = 64 - k
+μ-clients table best₀ k₀ best k = nodes - k
 
 clients-holds : tie.Need-clients-holds Inv-clients μ-clients
 unfolding forBelow
@@ -35,7 +36,7 @@ unfolding waiting
 clients-again c =
     let at = c .before .before .before .clients in
     let t = c .before .before .before .before .args .table .now in
-    (omega arith, at .inv .1, turned (at .k) (better t) 64 (at .best) (at .best) (at .inv .2) (sym (idle t (at .k) (at .best) (sym (c .before .natural .ensures) ∙ c .if1 .taken))))
+    (omega arith, at .inv .1, turned (at .k) (better t) nobody (at .best) (at .best) (at .inv .2) (sym (idle t (at .k) (at .best) (sym (c .before .natural .ensures) ∙ c .if1 .taken))))
 
 earlier-requires : tie.Need-earlier-requires Inv-clients μ-clients
 earlier-requires c κs = (c .before .before .before .before .pre .long, omega arith, omega arith)
@@ -50,7 +51,7 @@ clients-again-2 : tie.Need-clients-again-2 Inv-clients μ-clients
 clients-again-2 c =
     let at = c .before .before .before .before .before .clients in
     let t = c .before .before .before .before .before .before .args .table .now in
-    (omega arith, at .inv .1, turned (at .k) (better t) 64 (at .best) (at .best) (at .inv .2) (sym (later t (at .k) (at .best) (sym (c .before .earlier .ensures) ∙ not-true _ (c .if2 .taken)))))
+    (omega arith, at .inv .1, turned (at .k) (better t) nobody (at .best) (at .best) (at .inv .2) (sym (later t (at .k) (at .best) (sym (c .before .earlier .ensures) ∙ not-true _ (c .if2 .taken)))))
 
 supplier-of-requires : tie.Need-supplier-of-requires Inv-clients μ-clients
 supplier-of-requires c κs = (c .before .before .before .before .before .before .pre, omega arith)
@@ -65,7 +66,7 @@ clients-again-3 : tie.Need-clients-again-3 Inv-clients μ-clients
 clients-again-3 c =
     let at = c .before .before .before .before .before .before .before .clients in
     let t = c .before .before .before .before .before .before .before .before .args .table .now in
-    (omega arith, at .inv .1, turned (at .k) (better t) 64 (at .best) (at .best) (at .inv .2) (sym (unsupplied t (at .k) (at .best) (omega arith))))
+    (omega arith, at .inv .1, turned (at .k) (better t) nobody (at .best) (at .best) (at .inv .2) (sym (unsupplied t (at .k) (at .best) (omega arith))))
 
 add-k-4 : tie.Need-add-k-4 Inv-clients μ-clients
 add-k-4 c = omega arith
@@ -80,7 +81,7 @@ clients-again-4 c =
     let t = c .before .before .before .before .before .before .before .before .args .table .now in (
       omega arith,
       omega arith,
-      turned (at .k) (better t) 64 (at .best) (at .k) (at .inv .2) (sym (
+      turned (at .k) (better t) nobody (at .best) (at .k) (at .inv .2) (sym (
           taken t (at .k) (at .best)
           (λ e. c .before .before .before .before .if1 .left (c .before .before .before .before .before .natural .ensures ∙ e))
           (sym (c .before .before .before .earlier .ensures) ∙ not-false _ (c .before .before .if2 .left))
@@ -90,7 +91,7 @@ clients-again-4 c =
 returns : tie.Need-returns Inv-clients μ-clients
 unfolding next
 returns c =
-    let end : c .before .clients .k ≡ 64 = omega arith in
+    let end : c .before .clients .k ≡ nodes = omega arith in
     rw end at (c .before .clients .inv .2)
 
 pub next-client-spec : {M : Type 1} → statement M

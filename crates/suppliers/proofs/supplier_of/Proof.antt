@@ -3,6 +3,7 @@
 use Prim.Native.Nat.{ℕ, _*_, _-_, _<_}
 use mathlib.Core.Path.{_≡_, sym, ap, ap₂, _∙_}
 use native.Mathlib.Omega.{arith}
+use Rattle.table.specs.Limits.{nodes, grainScale}
 use Rattle.table.specs.Places.{size}
 use Rattle.table.specs.Tree.{treeOf}
 use Rattle.table.specs.Tick.{grains, supplierFrom, supplier}
@@ -13,7 +14,7 @@ use Rattle.suppliers.proofs.supplier_of.Tie as tie
 
 abbrev Inv-loop : tie.InvT-loop
 Inv-loop table k amount level₀ node₀ level node =
-    (node < 64) × (amount ≡ grains (size table k 0)) × (supplierFrom table amount level node ≡ supplier table k)
+    (node < nodes) × (amount ≡ grains (size table k 0)) × (supplierFrom table amount level node ≡ supplier table k)
 
 abbrev μ-loop : tie.MeasureT-loop
 μ-loop table k amount level₀ node₀ level node = level
@@ -31,9 +32,9 @@ natural-requires-2 : tie.Need-natural-requires-2 Inv-loop μ-loop
 natural-requires-2 c κs = (c .before .pre .0 .long, c .before .pre .1, omega arith)
 
 -- The amount is that of the oldest request.
-amount-is : (c : tie.After-natural Inv-loop μ-loop) → c .natural .result * 1000 ≡ grains (size (c .before .args .table .now) (c .before .args .k) 0)
+amount-is : (c : tie.After-natural Inv-loop μ-loop) → c .natural .result * grainScale ≡ grains (size (c .before .args .table .now) (c .before .args .k) 0)
 unfolding size grains
-amount-is c = ap (λ (n : ℕ). n * 1000) (c .natural .ensures)
+amount-is c = ap (λ (n : ℕ). n * grainScale) (c .natural .ensures)
 
 loop-holds : tie.Need-loop-holds Inv-loop μ-loop
 unfolding treeOf supplier
@@ -66,7 +67,7 @@ loop-again c =
     let at = c .before .before .before .before in
     let start = at .before .before .before in
     let table = start .args .table .now in
-    let amount = at .before .before .natural .result * 1000 in
+    let amount = at .before .before .natural .result * grainScale in
     let level = at .loop .level in (
       omega (arith, c .natural3 .ensures, parent-at table (start .pre .0) (at .loop .node) (at .loop .inv .0)),
       at .loop .inv .1,

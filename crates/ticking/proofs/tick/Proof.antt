@@ -9,6 +9,7 @@ use lib.ListN.{length}
 use lib.IntN.{ℤ, pos}
 use mir.Syntax.{w64}
 use mir.ValLaws.{toZ-ofZ}
+use Rattle.table.specs.Limits.{entryLength}
 use Rattle.table.specs.Answers.{told}
 use Rattle.table.specs.Refusals.{accepted, refused}
 use Rattle.table.specs.Tick.{ticked, tickRefusal, tickTable, tickList, tickAnswer}
@@ -27,7 +28,7 @@ none : (c : tie.Else1) → let s = c .before .before .before .before in tickRefu
 none c = sym (number (c .before)) ∙ c .if1 .left
 
 -- How many were dispatched.
-counted : (c : tie.After-run) → let s = c .before .before .before .before .before .before .before in length (ticked (s .args .table .now) .entries) / 4 ≡ c .run .result
+counted : (c : tie.After-run) → let s = c .before .before .before .before .before .before .before in length (ticked (s .args .table .now) .entries) / entryLength ≡ c .run .result
 counted c = omega (arith, c .run .ensures .1 .1)
 
 tick-refusal-requires : tie.Need-tick-refusal-requires

@@ -6,6 +6,7 @@ use native.Mathlib.Omega.{arith}
 use borrow.Author.Needs.{needs}
 use borrow.Author.Tests.{not-false, lt-ltb, le-ltb}
 use lib.ListN.{length}
+use Rattle.table.specs.Limits.{entryLength}
 use Rattle.table.specs.Order.{inOrder}
 use Rattle.table.specs.Tick.{allWaiting, tickRefusal}
 use Rattle.table.proofs.Facts.{facts}
@@ -36,7 +37,7 @@ returns-2 c =
     let s = c .before .before .before .before in (
       sym
           (first-past 1 _ _ (ap not (order (c .before .before)))
-          ∙ first-here 13 _ _ (lt-ltb (length (s .args .list .now)) (4 * allWaiting (s .args .table .now)) (omega (arith, c .if2 .taken, c .before .all-waiting .ensures)))),
+          ∙ first-here 13 _ _ (lt-ltb (length (s .args .list .now)) (entryLength * allWaiting (s .args .table .now)) (omega (arith, c .if2 .taken, c .before .all-waiting .ensures)))),
       omega arith,
     )
 
@@ -46,7 +47,7 @@ returns-3 c =
     let s = c .before .before .before .before in (
       sym
           (first-past 1 _ _ (ap not (order (c .before .before)))
-          ∙ first-past 13 _ _ (le-ltb (length (s .args .list .now)) (4 * allWaiting (s .args .table .now)) (omega (arith, c .if2 .left, c .before .all-waiting .ensures)))
+          ∙ first-past 13 _ _ (le-ltb (length (s .args .list .now)) (entryLength * allWaiting (s .args .table .now)) (omega (arith, c .if2 .left, c .before .all-waiting .ensures)))
           ∙ first-end),
       omega arith,
     )

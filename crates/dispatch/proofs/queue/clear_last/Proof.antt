@@ -3,6 +3,7 @@ use Prim.Native.Nat.{ℕ, _+_, _-_}
 use mathlib.Core.List.{List}
 use native.Mathlib.Omega.{arith}
 use lib.IntN.{ℤ, pos}
+use Rattle.table.specs.Limits.{queueAt, queueLength, requestLength}
 use Rattle.table.specs.Places.{put}
 use Rattle.table.proofs.Turns.{Turns, turns-first, turns-next, turns-all}
 use Rattle.dispatch.specs.Queue.{lastCleared}
@@ -10,13 +11,13 @@ use Rattle.dispatch.proofs.queue.clear_last.Statement.{statement}
 use Rattle.dispatch.proofs.queue.clear_last.Tie as tie
 
 abbrev step : ℕ → ℕ → List ℤ → List ℤ
-step k p u = put u k (37 + p) (pos 0)
+step k p u = put u k (queueAt + (queueLength - requestLength) + p) (pos 0)
 
 abbrev Inv-loop : tie.InvT-loop
-Inv-loop table₀ k p₀ table p = Turns 3 (step k) table₀ table p
+Inv-loop table₀ k p₀ table p = Turns requestLength (step k) table₀ table p
 
 abbrev μ-loop : tie.MeasureT-loop
-μ-loop table₀ k p₀ table p = 3 - p
+μ-loop table₀ k p₀ table p = requestLength - p
 
 loop-holds : tie.Need-loop-holds Inv-loop μ-loop
 loop-holds c = turns-first (c .pre .0)

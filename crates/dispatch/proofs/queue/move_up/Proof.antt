@@ -3,6 +3,7 @@ use Prim.Native.Nat.{ℕ, _+_, _-_}
 use mathlib.Core.List.{List}
 use native.Mathlib.Omega.{arith}
 use lib.IntN.{ℤ}
+use Rattle.table.specs.Limits.{queueAt, queueLength, requestLength}
 use Rattle.table.specs.Places.{place, put}
 use Rattle.table.proofs.Turns.{Turns, turns-first, turns-next, turns-all}
 use Rattle.dispatch.specs.Queue.{movedUp}
@@ -10,13 +11,13 @@ use Rattle.dispatch.proofs.queue.move_up.Statement.{statement}
 use Rattle.dispatch.proofs.queue.move_up.Tie as tie
 
 abbrev step : ℕ → ℕ → List ℤ → List ℤ
-step k p u = put u k (16 + p) (place u k (19 + p))
+step k p u = put u k (queueAt + p) (place u k (queueAt + requestLength + p))
 
 abbrev Inv-loop : tie.InvT-loop
-Inv-loop table₀ k p₀ table p = Turns 21 (step k) table₀ table p
+Inv-loop table₀ k p₀ table p = Turns (queueLength - requestLength) (step k) table₀ table p
 
 abbrev μ-loop : tie.MeasureT-loop
-μ-loop table₀ k p₀ table p = 21 - p
+μ-loop table₀ k p₀ table p = (queueLength - requestLength) - p
 
 loop-holds : tie.Need-loop-holds Inv-loop μ-loop
 loop-holds c = turns-first (c .pre .0)

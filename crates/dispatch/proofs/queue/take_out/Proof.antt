@@ -4,6 +4,7 @@ use mathlib.Core.Path.{ap, _∙_}
 use mathlib.Core.List.{List}
 use native.Mathlib.Omega.{arith}
 use lib.IntN.{ℤ, pos}
+use Rattle.table.specs.Limits.{waitingAt}
 use Rattle.table.specs.Places.{waiting}
 use Rattle.table.specs.Tick.{takenOut}
 use Rattle.table.proofs.Places.{put-then}
@@ -43,7 +44,7 @@ unfolding takenOut movedUp lastCleared waiting
 returns c =
     let start = c .before .before .before .before .before .before .before .before .before .before .before in
     let k = start .args .k in
-    put-then k 8 (c .before .put-natural .ensures) (ap (λ (n : ℕ). pos (n - 1)) (c .before .before .before .before .before .before .before .before .before .natural .ensures))
+    put-then k waitingAt (c .before .put-natural .ensures) (ap (λ (n : ℕ). pos (n - 1)) (c .before .before .before .before .before .before .before .before .before .natural .ensures))
     (c .before .before .before .before .clear-last .ensures ∙ ap (λ (u : List ℤ). lastCleared u k) (c .before .before .before .before .before .before .before .move-up .ensures))
 
 pub take-out-spec : {M : Type 1} → statement M

@@ -5,6 +5,7 @@ use mathlib.Core.Bool.{true}
 use native.Mathlib.Omega.{arith}
 use borrow.Author.Tests.{not-true, not-false}
 use lib.Dec.{leb}
+use Rattle.table.specs.Limits.{wholeShare, grainScale}
 use Rattle.table.specs.Places.{balance, depthGrains}
 use Rattle.table.specs.Tree.{treeOf, isClass}
 use Rattle.treelaws.proofs.Children.{class-there}
@@ -57,9 +58,9 @@ returns-2 c =
     let sums = start .pre .3 in
     let depth = c .before .before .natural .ensures in
     let needed = ap₂ _+_ (sums .credits) (c .before .negative .ensures) in
-    let covered = ap₂ _+_ (ap₂ _+_ (sums .debts) (c .natural2 .ensures)) (ap (λ (n : ℕ). n * 1000) depth) in
+    let covered = ap₂ _+_ (ap₂ _+_ (sums .debts) (c .natural2 .ensures)) (ap (λ (n : ℕ). n * grainScale) depth) in
     joined-as
-    (same-tests (ap (λ (n : ℕ). leb n 10000) (sums .fixed))
+    (same-tests (ap (λ (n : ℕ). leb n wholeShare) (sums .fixed))
     (same-tests (ap₂ leb (sums .depths) depth)
     (last-test (ap₂ leb needed covered))))
     ∙ sym (test-here _ (classCovers (start .args .table .now)) _ (class (c .before .before .before)))

@@ -3,6 +3,7 @@ use Prim.Native.Nat.{_≤_, _<_, _-_}
 use mathlib.Core.Path.{_≡_, refl, _∙_}
 use native.Mathlib.Omega.{arith}
 use Rattle.numbers.specs.Below.{allBelow}
+use Rattle.table.specs.Limits.{nodes}
 use Rattle.table.specs.Tree.{treeOf, isClass, testIf, eachClass}
 use Rattle.rating.proofs.Terms.{fixed-sum, depth-sum, credit-sum, debt-sum}
 use Rattle.order.specs.Cover.{classCovers}
@@ -12,10 +13,10 @@ use Rattle.order.proofs.classes.classes_cover.Statement.{statement}
 use Rattle.order.proofs.classes.classes_cover.Tie as tie
 
 abbrev Inv-loop : tie.InvT-loop
-Inv-loop table fixed depths credits debts ok₀ c₀ ok c = (c ≤ 64) × (ok ≡ allBelow c (λ c. testIf (isClass (treeOf table) c) (classCovers table) c))
+Inv-loop table fixed depths credits debts ok₀ c₀ ok c = (c ≤ nodes) × (ok ≡ allBelow c (λ c. testIf (isClass (treeOf table) c) (classCovers table) c))
 
 abbrev μ-loop : tie.MeasureT-loop
-μ-loop table fixed depths credits debts ok₀ c₀ ok c = 64 - c
+μ-loop table fixed depths credits debts ok₀ c₀ ok c = nodes - c
 
 sums-requires : tie.Need-sums-requires Inv-loop μ-loop
 sums-requires c κs = (c .pre .0, summable 0 _ (c .pre .1))
@@ -62,7 +63,7 @@ class-covers-requires c κs =
     let start = c .before .before .before .before .before .before in
     let t = start .args .table .now in
     let k = c .before .loop .c in
-    let below : k < 64 = c .loop-test .taken in
+    let below : k < nodes = c .loop-test .taken in
     let credits = c .before .before .before .sums3 .ensures k below in
     let debts = c .before .before .sums4 .ensures k below in (
       start .pre .0,

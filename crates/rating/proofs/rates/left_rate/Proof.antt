@@ -2,6 +2,7 @@
 use Prim.Native.Nat.{_-_}
 use mathlib.Core.Path.{refl}
 use native.Mathlib.Omega.{arith}
+use Rattle.table.specs.Limits.{wholeShare}
 use Rattle.table.specs.Rates.{leftRate}
 use Rattle.rating.proofs.Rated.{product-small}
 use borrow.Author.Needs.{needs}
@@ -12,7 +13,7 @@ sub-result : tie.Need-sub-result
 sub-result c = search needs
 
 mul-result : tie.Need-mul-result
-mul-result c = omega (arith, product-small (c .args .rate) (10000 - c .args .fixed) (omega arith) (omega arith))
+mul-result c = omega (arith, product-small (c .args .rate) (wholeShare - c .args .fixed) (omega arith) (omega arith))
 
 returns : tie.Need-returns
 unfolding leftRate

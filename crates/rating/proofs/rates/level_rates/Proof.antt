@@ -4,6 +4,7 @@ use mathlib.Core.Path.{_≡_, sym, _∙_}
 use mathlib.Core.Bool.{true}
 use mathlib.Core.Logic.{⊎-elim}
 use native.Mathlib.Omega.{arith}
+use Rattle.table.specs.Limits.{nodes}
 use Rattle.table.specs.Tree.{treeOf}
 use Rattle.rating.specs.Rated.{atLevel}
 use Rattle.rating.proofs.Levels.{SoFar, so-far-start, so-far-write, so-far-skip, so-far-end, level-there, level-is}
@@ -11,10 +12,10 @@ use Rattle.rating.proofs.rates.level_rates.Statement.{statement}
 use Rattle.rating.proofs.rates.level_rates.Tie as tie
 
 abbrev Inv-loop : tie.InvT-loop
-Inv-loop table fixed weights rates₀ level k₀ rates k = (0 < k) × (k ≤ 64) × SoFar table level k rates
+Inv-loop table fixed weights rates₀ level k₀ rates k = (0 < k) × (k ≤ nodes) × SoFar table level k rates
 
 abbrev μ-loop : tie.MeasureT-loop
-μ-loop table fixed weights rates₀ level k₀ rates k = 64 - k
+μ-loop table fixed weights rates₀ level k₀ rates k = nodes - k
 
 loop-holds : tie.Need-loop-holds Inv-loop μ-loop
 loop-holds c = (omega arith, omega arith, so-far-start _ _ _ (c .pre .0) (c .pre .2) (c .pre .3))
@@ -61,7 +62,7 @@ loop-again c =
 
 returns : tie.Need-returns Inv-loop μ-loop
 returns c =
-    let end : c .before .loop .k ≡ 64 = omega arith in
+    let end : c .before .loop .k ≡ nodes = omega arith in
     so-far-end _ _ _ (rw end at (c .before .loop .inv .2))
 
 pub level-rates-spec : {M : Type 1} → statement M

@@ -4,6 +4,7 @@ use mathlib.Core.Path.{_≡_, sym, ap, _∙_}
 use native.Mathlib.Omega.{arith}
 use borrow.Author.Needs.{needs}
 use lib.ListN.{getD}
+use Rattle.table.specs.Limits.{nodes, root}
 use Rattle.table.specs.Places.{rate}
 use Rattle.table.specs.Tree.{treeOf}
 use Rattle.table.specs.Rates.{rateIn, childRate}
@@ -21,10 +22,10 @@ class : (c : tie.After-natural) → c .natural .result ≡ treeOf (c .before .ar
 unfolding treeOf
 class c = c .natural .ensures
 
-below : (c : tie.After-natural) → c .natural .result < 64
+below : (c : tie.After-natural) → c .natural .result < nodes
 below c = let p = placed (c .before) in omega (arith, class c)
 
-known : (c : tie.After-natural) → let t = c .before .args .table .now in getD (c .before .args .rates .now) (c .natural .result) 0 ≡ rateIn (treeOf t) (rate t 0) (treeOf t .parent (c .before .args .k))
+known : (c : tie.After-natural) → let t = c .before .args .table .now in getD (c .before .args .rates .now) (c .natural .result) 0 ≡ rateIn (treeOf t) (rate t root) (treeOf t .parent (c .before .args .k))
 known c =
     let p = placed (c .before) in
     rw (class c) (c .before .pre .5 .at (treeOf (c .before .args .table .now) .parent (c .before .args .k)) (p .parent) (p .above) (omega arith))
@@ -72,7 +73,7 @@ returns c =
     let k = at .before .args .k in
     c .child-rate .ensures
     ∙ ap (λ (r : ℕ). childRate (treeOf t) r k) (known at)
-    ∙ sym (rate-of-child (treeOf t) (rate t 0) k (placed (at .before) .level))
+    ∙ sym (rate-of-child (treeOf t) (rate t root) k (placed (at .before) .level))
 
 pub node-rate-spec : {M : Type 1} → statement M
 node-rate-spec =

@@ -1,8 +1,9 @@
 -- `rating::rates::rates` meets its contract. The invariant: the nodes above this level have their rates.
-use Prim.Native.Nat.{_≤_, _<_, _-_}
+use Prim.Native.Nat.{_≤_, _<_, _-_, suc}
 use mathlib.Core.Path.{refl, _∙_}
 use native.Mathlib.Omega.{arith}
 use borrow.Author.Needs.{needs}
+use Rattle.table.specs.Limits.{lastLevel}
 use Rattle.table.specs.Places.{rate}
 use Rattle.rating.specs.Rated.{RatesAbove}
 use Rattle.rating.proofs.Terms.{fixed-sum, weight-sum}
@@ -12,10 +13,10 @@ use Rattle.rating.proofs.rates.rates.Statement.{statement}
 use Rattle.rating.proofs.rates.rates.Tie as tie
 
 abbrev Inv-loop : tie.InvT-loop
-Inv-loop table fixed weights rates₀ level₀ rates level = (0 < level) × (level ≤ 5) × RatesAbove table level rates
+Inv-loop table fixed weights rates₀ level₀ rates level = (0 < level) × (level ≤ suc lastLevel) × RatesAbove table level rates
 
 abbrev μ-loop : tie.MeasureT-loop
-μ-loop table fixed weights rates₀ level₀ rates level = 5 - level
+μ-loop table fixed weights rates₀ level₀ rates level = suc lastLevel - level
 
 sums-requires : tie.Need-sums-requires Inv-loop μ-loop
 sums-requires c κs = (c .pre .long, fixed-summable (c .args .table .now) (c .pre))

@@ -5,6 +5,7 @@ use native.Mathlib.Omega.{arith}
 use lib.ListN.{getD}
 use Rattle.numbers.specs.Below.{allBelow}
 use Rattle.numbers.proofs.All.{all-grows, all-done}
+use Rattle.table.specs.Limits.{nodes}
 use Rattle.table.specs.Tree.{treeOf, there, testIf, eachNode}
 use Rattle.table.specs.Order.{rateInOrder}
 use Rattle.rating.proofs.Rated.{rate-le-disk}
@@ -14,10 +15,10 @@ use Rattle.rating.proofs.rates.rates_in_order.Tie as tie
 
 abbrev Inv-loop : tie.InvT-loop
 Inv-loop table rates right₀ k₀ right k =
-    (k ≤ 64) × (right ≡ allBelow k (λ j. testIf (there (treeOf table) j) (rateInOrder table) j))
+    (k ≤ nodes) × (right ≡ allBelow k (λ j. testIf (there (treeOf table) j) (rateInOrder table) j))
 
 abbrev μ-loop : tie.MeasureT-loop
-μ-loop table rates right₀ k₀ right k = 64 - k
+μ-loop table rates right₀ k₀ right k = nodes - k
 
 rates-requires : tie.Need-rates-requires Inv-loop μ-loop
 rates-requires c κs = c .pre
@@ -60,7 +61,7 @@ returns : tie.Need-returns Inv-loop μ-loop
 unfolding eachNode
 returns c =
     let t = c .before .before .before .args .table .now in
-    all-done (c .before .loop .k) 64 (λ j. testIf (there (treeOf t) j) (rateInOrder t) j) _ (c .before .loop .inv .1) (omega arith)
+    all-done (c .before .loop .k) nodes (λ j. testIf (there (treeOf t) j) (rateInOrder t) j) _ (c .before .loop .inv .1) (omega arith)
 
 pub rates-in-order-spec : {M : Type 1} → statement M
 rates-in-order-spec =

@@ -3,6 +3,7 @@ use Prim.Native.Nat.{_≤_, _-_}
 use mathlib.Core.Path.{_≡_, refl, sym, _∙_}
 use native.Mathlib.Omega.{arith}
 use lib.ListN.{length}
+use Rattle.table.specs.Limits.{nodes}
 use Rattle.table.specs.Tree.{treeOf}
 use Rattle.rating.proofs.Rated.{rate-le-disk}
 use Rattle.rating.proofs.Renewal.{renewedBelow, renewed-start, renewed-end, with-tree, with-length, with-next}
@@ -11,10 +12,10 @@ use Rattle.rating.proofs.rates.renew.Tie as tie
 
 abbrev Inv-loop : tie.InvT-loop
 Inv-loop table₀ rates k₀ table k =
-    (k ≤ 64) × (length table ≡ length table₀) × (treeOf table ≡ treeOf table₀) × (table ≡ renewedBelow k table₀)
+    (k ≤ nodes) × (length table ≡ length table₀) × (treeOf table ≡ treeOf table₀) × (table ≡ renewedBelow k table₀)
 
 abbrev μ-loop : tie.MeasureT-loop
-μ-loop table₀ rates k₀ table k = 64 - k
+μ-loop table₀ rates k₀ table k = nodes - k
 
 rates-requires : tie.Need-rates-requires Inv-loop μ-loop
 rates-requires c κs = c .before .pre
@@ -60,7 +61,7 @@ same-length c = c .before .loop .inv .1
 
 returns : tie.Need-returns Inv-loop μ-loop
 returns c =
-    let end : c .before .loop .k ≡ 64 = omega arith in
+    let end : c .before .loop .k ≡ nodes = omega arith in
     rw end at (c .before .loop .inv .3) ∙ renewed-end _
 
 pub renew-spec : {M : Type 1} → statement M

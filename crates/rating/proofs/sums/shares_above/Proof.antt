@@ -6,6 +6,7 @@ use native.Mathlib.Nat.{add-zero}
 use lib.Dec.{ltb}
 use borrow.Author.Tests.{eq-eqb, ne-eqb}
 use Rattle.numbers.proofs.Tests.{cond-true, cond-false}
+use Rattle.table.specs.Limits.{wholeShare}
 use Rattle.table.specs.Tree.{treeOf}
 use Rattle.table.specs.Rates.{fixedSum}
 use Rattle.rating.specs.Sums.{term}
@@ -30,7 +31,7 @@ sub-result c = omega (arith, sum (c .before), c .before .before .pre .2)
 returns : tie.Need-returns
 returns c =
     let start = c .before .before in
-    ap₂ (λ (n share : ℕ). ltb 10000 (n + share - start .args .old))
+    ap₂ (λ (n share : ℕ). ltb wholeShare (n + share - start .args .old))
     (sum (c .before))
     (sym (cond-true _ (start .args .share) 0 (eq-eqb (start .args .kind) 0 (c .if1 .taken))))
 
@@ -40,8 +41,8 @@ sub-result-2 c = omega (arith, sum (c .before), c .before .before .pre .2)
 returns-2 : tie.Need-returns-2
 returns-2 c =
     let start = c .before .before in
-    ap (λ (n : ℕ). ltb 10000 (n - start .args .old)) (sym (add-zero (c .before .sum-under .result)))
-    ∙ ap₂ (λ (n share : ℕ). ltb 10000 (n + share - start .args .old))
+    ap (λ (n : ℕ). ltb wholeShare (n - start .args .old)) (sym (add-zero (c .before .sum-under .result)))
+    ∙ ap₂ (λ (n share : ℕ). ltb wholeShare (n + share - start .args .old))
     (sum (c .before))
     (sym (cond-false _ (start .args .share) 0 (ne-eqb (start .args .kind) 0 (c .if1 .left))))
 

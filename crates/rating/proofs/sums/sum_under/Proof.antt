@@ -3,6 +3,7 @@ use Prim.Native.Nat.{_≤_, _-_}
 use mathlib.Core.Path.{_≡_, sym, _∙_}
 use native.Mathlib.Omega.{arith}
 use borrow.Author.Needs.{needs}
+use Rattle.table.specs.Limits.{nodes}
 use Rattle.table.specs.Tree.{treeOf}
 use Rattle.rating.specs.Sums.{term}
 use Rattle.rating.proofs.Under.{underBelow, under-start, under-next, under-end, under-small, child-small}
@@ -10,10 +11,10 @@ use Rattle.rating.proofs.sums.sum_under.Statement.{statement}
 use Rattle.rating.proofs.sums.sum_under.Tie as tie
 
 abbrev Inv-loop : tie.InvT-loop
-Inv-loop table which c sum₀ k₀ sum k = (k ≤ 64) × (sum ≡ underBelow k (treeOf table) c (term which table))
+Inv-loop table which c sum₀ k₀ sum k = (k ≤ nodes) × (sum ≡ underBelow k (treeOf table) c (term which table))
 
 abbrev μ-loop : tie.MeasureT-loop
-μ-loop table which c sum₀ k₀ sum k = 64 - k
+μ-loop table which c sum₀ k₀ sum k = nodes - k
 
 loop-holds : tie.Need-loop-holds Inv-loop μ-loop
 loop-holds c = (omega arith, sym (under-start _ _ _))
@@ -38,7 +39,7 @@ loop-again c = (omega arith, omega (arith, under-next (treeOf (c .before .before
 
 returns : tie.Need-returns Inv-loop μ-loop
 returns c =
-    let end : c .before .loop .k ≡ 64 = omega arith in
+    let end : c .before .loop .k ≡ nodes = omega arith in
     rw end at (c .before .loop .inv .1) ∙ under-end _ _ _
 
 pub sum-under-spec : {M : Type 1} → statement M

@@ -6,6 +6,7 @@ use mathlib.Core.Logic.{⊎-elim}
 use native.Mathlib.Omega.{arith}
 use borrow.Author.Needs.{needs}
 use lib.ListN.{length, getD, set, length-set}
+use Rattle.table.specs.Limits.{nodes}
 use Rattle.table.specs.Tree.{treeOf, there}
 use Rattle.rating.specs.Sums.{term}
 use Rattle.rating.proofs.Under.{AllUnder, all-start, all-there, all-skip, all-end, all-small}
@@ -14,16 +15,16 @@ use Rattle.rating.proofs.sums.sums.Tie as tie
 
 abbrev Inv-loop : tie.InvT-loop
 Inv-loop table which sums₀ k₀ sums k =
-    (1 ≤ k) × (k ≤ 64) × (length sums ≡ 64) × AllUnder k (treeOf table) (term which table) sums
+    (1 ≤ k) × (k ≤ nodes) × (length sums ≡ nodes) × AllUnder k (treeOf table) (term which table) sums
 
 abbrev μ-loop : tie.MeasureT-loop
-μ-loop table which sums₀ k₀ sums k = 64 - k
+μ-loop table which sums₀ k₀ sums k = nodes - k
 
 -- The node is there, and its parent is below 64.
 here : (c : tie.Then1 Inv-loop μ-loop) → there (treeOf (c .before .before .before .before .args .table .now)) (c .before .before .before .loop .k) ≡ true
 here c = sym (c .before .there .ensures) ∙ c .if1 .taken
 
-parent : (c : tie.After-natural Inv-loop μ-loop) → c .natural .result < 64
+parent : (c : tie.After-natural Inv-loop μ-loop) → c .natural .result < nodes
 unfolding treeOf
 parent c =
     omega (arith, c .before .before .before .before .before .pre .1 .parent (c .before .before .before .before .loop .k) (omega arith) (here (c .before)) (λ e. omega arith))
@@ -86,7 +87,7 @@ loop-again c =
 
 returns : tie.Need-returns Inv-loop μ-loop
 returns c =
-    let end : c .before .loop .k ≡ 64 = omega arith in
+    let end : c .before .loop .k ≡ nodes = omega arith in
     all-end _ _ _ (rw end at (c .before .loop .inv .3))
 
 pub sums-spec : {M : Type 1} → statement M

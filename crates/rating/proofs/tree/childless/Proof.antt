@@ -6,16 +6,17 @@ use native.Mathlib.Omega.{arith}
 use borrow.Author.Needs.{needs}
 use Rattle.numbers.specs.Below.{allBelow}
 use Rattle.numbers.proofs.All.{all-grows, all-done}
+use Rattle.table.specs.Limits.{nodes}
 use Rattle.table.specs.Tree.{treeOf, childOf, childless}
 use Rattle.rating.proofs.tree.childless.Statement.{statement}
 use Rattle.rating.proofs.tree.childless.Tie as tie
 
 abbrev Inv-loop : tie.InvT-loop
 Inv-loop table c none₀ k₀ none k =
-    (k ≤ 64) × (none ≡ allBelow k (λ j. not (childOf (treeOf table) c j)))
+    (k ≤ nodes) × (none ≡ allBelow k (λ j. not (childOf (treeOf table) c j)))
 
 abbrev μ-loop : tie.MeasureT-loop
-μ-loop table c none₀ k₀ none k = 64 - k
+μ-loop table c none₀ k₀ none k = nodes - k
 
 loop-holds : tie.Need-loop-holds Inv-loop μ-loop
 unfolding allBelow
@@ -42,7 +43,7 @@ returns : tie.Need-returns Inv-loop μ-loop
 unfolding childless
 returns c =
     let start = c .before .before .args in
-    all-done (c .before .loop .k) 64 (λ j. not (childOf (treeOf (start .table .now)) (start .c) j)) _ (c .before .loop .inv .1) (omega arith)
+    all-done (c .before .loop .k) nodes (λ j. not (childOf (treeOf (start .table .now)) (start .c) j)) _ (c .before .loop .inv .1) (omega arith)
 
 pub childless-spec : {M : Type 1} → statement M
 childless-spec =

@@ -2,6 +2,7 @@
 use Prim.Native.Nat.{ℕ}
 use mathlib.Core.Path.{ap}
 use lib.Dec.{eqb}
+use Rattle.table.specs.Limits.{class}
 use Rattle.table.specs.Tree.{treeOf, isClass}
 use borrow.Author.Needs.{needs}
 use Rattle.rating.proofs.tree.is_class.Statement.{statement}
@@ -12,7 +13,7 @@ natural-requires c κs = search needs
 
 returns : tie.Need-returns
 unfolding treeOf isClass
-returns c = ap (λ (n : ℕ). eqb n 1) (c .natural .ensures)
+returns c = ap (λ (n : ℕ). eqb n class) (c .natural .ensures)
 
 pub is-class-spec : {M : Type 1} → statement M
 is-class-spec = tie.close (tie.spec natural-requires returns)

@@ -2,6 +2,7 @@
 use Prim.Native.Nat.{ℕ}
 use mathlib.Core.Path.{ap}
 use lib.Dec.{eqb}
+use Rattle.table.specs.Limits.{client}
 use Rattle.table.specs.Tree.{treeOf, isClient}
 use borrow.Author.Needs.{needs}
 use Rattle.rating.proofs.tree.is_client.Statement.{statement}
@@ -12,7 +13,7 @@ natural-requires c κs = search needs
 
 returns : tie.Need-returns
 unfolding treeOf isClient
-returns c = ap (λ (n : ℕ). eqb n 2) (c .natural .ensures)
+returns c = ap (λ (n : ℕ). eqb n client) (c .natural .ensures)
 
 pub is-client-spec : {M : Type 1} → statement M
 is-client-spec = tie.close (tie.spec natural-requires returns)

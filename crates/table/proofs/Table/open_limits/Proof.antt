@@ -4,6 +4,7 @@ use mir.Facts.{toZ-ofZ}
 use Rattle.numbers.specs.Whole.{withinℤ}
 use Rattle.numbers.proofs.Every.{joined-as, same-tests, last-test}
 use borrow.Author.Needs.{needs}
+use Rattle.table.specs.Limits.{greatestDepth, greatestRate}
 use Rattle.table.proofs.Table.open_limits.Statement.{statement}
 use Rattle.table.proofs.Table.open_limits.Tie as tie
 
@@ -17,8 +18,8 @@ returns : tie.Need-returns
 returns c =
     let start = c .before .before in
     joined-as
-    (same-tests (c .before .within .ensures ∙ ap (withinℤ 1 1000000000) (toZ-ofZ (start .fits .rate)))
-    (last-test (c .within2 .ensures ∙ ap (withinℤ 1 1000000) (toZ-ofZ (start .fits .depth)))))
+    (same-tests (c .before .within .ensures ∙ ap (withinℤ 1 greatestRate) (toZ-ofZ (start .fits .rate)))
+    (last-test (c .within2 .ensures ∙ ap (withinℤ 1 greatestDepth) (toZ-ofZ (start .fits .depth)))))
 
 pub open-limits-spec : {M : Type 1} → statement M
 open-limits-spec = tie.close (tie.spec within-requires within-requires-2 returns)

@@ -1,6 +1,7 @@
 -- `table::Table::put_root` meets its contract: four writes into a table of zeros.
 use mathlib.Core.Path.{refl}
 use mir.Facts.{toZ-ofZ}
+use Rattle.table.specs.Limits.{sortAt, shareAt, depthAt, rateAt, root}
 use Rattle.table.specs.Calls.{opened}
 use Rattle.table.proofs.Places.{put-then}
 use borrow.Author.Needs.{needs}
@@ -26,10 +27,10 @@ returns : tie.Need-returns
 unfolding opened
 returns c =
     let start = c .before .before .before .before .before .before .before .before .before .before .before .before in
-    put-then 0 6 (c .before .put2 .ensures) (toZ-ofZ (start .fits .rate))
-    (put-then 0 5 (c .before .before .before .before .put .ensures) (toZ-ofZ (start .fits .depth))
-    (put-then 0 4 (c .before .before .before .before .before .before .before .put-natural2 .ensures) refl
-    (put-then 0 0 (c .before .before .before .before .before .before .before .before .before .before .put-natural .ensures) refl (start .pre .1))))
+    put-then root rateAt (c .before .put2 .ensures) (toZ-ofZ (start .fits .rate))
+    (put-then root depthAt (c .before .before .before .before .put .ensures) (toZ-ofZ (start .fits .depth))
+    (put-then root shareAt (c .before .before .before .before .before .before .before .put-natural2 .ensures) refl
+    (put-then root sortAt (c .before .before .before .before .before .before .before .before .before .before .put-natural .ensures) refl (start .pre .1))))
 
 pub put-root-spec : {M : Type 1} → statement M
 put-root-spec =
