@@ -11,12 +11,13 @@ use Rattle.numbers.specs.Whole.{plus, minus}
 use Rattle.numbers.specs.Tests.{every}
 use Rattle.numbers.proofs.Tests.{true-false, cond-false}
 use Rattle.numbers.proofs.Every.{head-fails}
+use Rattle.table.specs.Limits.{root}
 use Rattle.table.specs.Tree.{isClass, isClient}
 use Rattle.table.specs.Calls.{joinTable, joinAnswer, leaveTable, leaveAnswer, changeShareTable, changeShareAnswer, changeRateTable, changeRateAnswer, requestTable, requestAnswer}
 use Rattle.calllaws.proofs.Nodes.{class-same, client-same}
 use Rattle.bounds.specs.Events.{Call, join, leave, changeShare, changeRate, request, tick, tableAfter, answerOf, eventOf}
 use Rattle.bounds.specs.Observer.{Observer, entriesOf, entries, observed}
-use Rattle.bounds.specs.Counts.{accepts, isTick, leaves, rateAt, grainsFor, grainsCharged, waits}
+use Rattle.bounds.specs.Counts.{accepts, isTick, leaves, rateAt, entryGrains, grainsForClient, grainsToNode, sumOver, waits}
 use Rattle.bounds.proofs.Simulation.{Agrees, ClassStep, ClientStep}
 use Rattle.bounds.proofs.Changes.{Change, by-answer}
 use Rattle.bounds.proofs.Join.{join-change}
@@ -55,7 +56,7 @@ calls-agree t o call quiet a = calls-change t o call quiet a .agrees
 pub calls-class :
     (t : List ℤ) (o : Observer) (call : Call) → isTick call ≡ false → Agrees t o → (c : ℕ) → isClass (o .tree) c ≡ true
     → every (leaves c call ∷ accepts (answerOf t call) ∷ []) ≡ false → ClassStep t o call c
-unfolding grainsCharged
+unfolding sumOver
 calls-class t o call quiet a c e stays =
     let same = calls-change t o call quiet a .class c e stays in
     record {
@@ -66,15 +67,21 @@ calls-class t o call quiet a c e stays =
             arith,
             ap plus (same .balance),
             ap minus (same .balance),
-            ap (grainsCharged (o .tree) c) (no-entries t call quiet),
+            ap (sumOver (grainsToNode (o .tree) c)) (no-entries t call quiet),
             no-rate t o call c quiet,
           );
     }
 
+pub calls-all :
+    (t : List ℤ) (o : Observer) (call : Call) → isTick call ≡ false
+    → sumOver (grainsToNode (o .tree) root) (entries (eventOf t call)) ≡ sumOver entryGrains (entries (eventOf t call))
+unfolding sumOver
+calls-all t o call quiet = rw (no-entries t call quiet)
+
 pub calls-client :
     (t : List ℤ) (o : Observer) (call : Call) → isTick call ≡ false → Agrees t o → (k : ℕ)
     → isClient (observed o (eventOf t call) .tree) k ≡ true → waits (observed o (eventOf t call)) k ≡ true → ClientStep t o call k
-unfolding grainsFor
+unfolding sumOver
 calls-client t o call quiet a k e busy =
     let same = calls-change t o call quiet a .client k e busy in
     record {

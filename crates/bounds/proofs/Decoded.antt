@@ -11,12 +11,11 @@ use lib.ListN.{length}
 use lib.IntN.{ℤ, pos}
 use Rattle.numbers.specs.Whole.{plus}
 use Rattle.table.specs.Limits.{entryLength}
-use Rattle.table.specs.Tree.{Tree}
 use Rattle.table.specs.Places.{size, tag}
-use Rattle.table.specs.Tick.{State, grains, dispatched}
+use Rattle.table.specs.Tick.{State, dispatched}
 use Rattle.ticklaws.proofs.Dispatch.{dispatch-entry}
 use Rattle.bounds.specs.Observer.{Entry, entriesIn, entriesFor}
-use Rattle.bounds.specs.Counts.{grainsFor, isAbove, grainsCharged}
+use Rattle.bounds.specs.Counts.{sumOver}
 
 -- The entries of a list of numbers, and then those of what stands behind it.
 pub entries-append : (n m : ℕ) (list more : List ℤ) → length list ≡ entryLength * n → entriesIn (n + m) (list ++ more) ≡ entriesIn n list ++ entriesIn m more
@@ -29,24 +28,16 @@ entries-append (suc n) m (a ∷ b ∷ []) more e = absurd (omega arith)
 entries-append (suc n) m (a ∷ b ∷ c ∷ []) more e = absurd (omega arith)
 entries-append (suc n) m (a ∷ b ∷ c ∷ d ∷ list) more e = rw (suc-add n m, entriesIn, entries-append n m list more (omega arith))
 
--- A count over entries that adds a term for each.
-pub count-last : (f : List Entry → ℕ) (term : Entry → ℕ) → f [] ≡ 0 → ((e : Entry) (list : List Entry) → f (e ∷ list) ≡ term e + f list) → (list : List Entry) (e : Entry) → f (list ++ (e ∷ [])) ≡ f list + term e
-count-last f term none next [] e = omega (arith, none, next e [])
-count-last f term none next (a ∷ list) e =
-    omega (arith, next a (list ++ (e ∷ [])), next a list, count-last f term none next list e)
+-- A sum over entries with one entry more.
+pub sum-last : (f : Entry → ℕ) (list : List Entry) (e : Entry) → sumOver f (list ++ (e ∷ [])) ≡ sumOver f list + f e
+unfolding sumOver
+sum-last f [] e = omega arith
+sum-last f (a ∷ list) e = omega (arith, sum-last f list e)
 
 pub entriesFor-last : (k : ℕ) (list : List Entry) (e : Entry) → entriesFor k (list ++ (e ∷ [])) ≡ entriesFor k list + cond (eqb (e .client) k) 1 0
 unfolding entriesFor
-entriesFor-last k = count-last (entriesFor k) (λ e. cond (eqb (e .client) k) 1 0) refl (λ e list. refl)
-
-pub grainsFor-last : (k : ℕ) (list : List Entry) (e : Entry) → grainsFor k (list ++ (e ∷ [])) ≡ grainsFor k list + cond (eqb (e .client) k) (grains (e .size)) 0
-unfolding grainsFor
-grainsFor-last k = count-last (grainsFor k) (λ e. cond (eqb (e .client) k) (grains (e .size)) 0) refl (λ e list. refl)
-
-pub grainsCharged-last : (tree : Tree) (x : ℕ) (list : List Entry) (e : Entry) → grainsCharged tree x (list ++ (e ∷ [])) ≡ grainsCharged tree x list + cond (isAbove tree x (tree .level (e .supplier)) (e .supplier)) (grains (e .size)) 0
-unfolding grainsCharged
-grainsCharged-last tree x =
-    count-last (grainsCharged tree x) (λ e. cond (isAbove tree x (tree .level (e .supplier)) (e .supplier)) (grains (e .size)) 0) refl (λ e list. refl)
+entriesFor-last k [] e = omega arith
+entriesFor-last k (a ∷ list) e = omega (arith, entriesFor-last k list e)
 
 -- The entries that a list of numbers holds, four for each, and that it holds nothing else.
 unfoldable pub told : List ℤ → List Entry

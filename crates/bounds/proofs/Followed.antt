@@ -13,17 +13,17 @@ use lib.IntN.{ℤ, pos}
 use Rattle.numbers.specs.Whole.{plus, minus}
 use Rattle.numbers.proofs.Tests.{by-test, true-false, cond-true, cond-false}
 use Rattle.numbers.proofs.Parts.{zarith, sub-parts}
-use Rattle.table.specs.Tree.{Tree, isClient}
+use Rattle.table.specs.Limits.{root}
+use Rattle.table.specs.Tree.{Tree, isClient, atOrAbove}
 use Rattle.table.specs.Places.{balance, waiting, size}
 use Rattle.table.specs.Tick.{State, grains, dispatched}
-use Rattle.ticklaws.specs.Way.{atOrAbove}
 use Rattle.ticklaws.proofs.Sorts.{client-class}
-use Rattle.ticklaws.proofs.Way.{Ways, At, way-class, above-there}
+use Rattle.ticklaws.proofs.Way.{Ways, At, way-class, above-there, above-root}
 use Rattle.ticklaws.proofs.Dispatch.{Dispatch, takes, dispatch-shifted}
 use Rattle.bounds.specs.Observer.{entriesFor}
-use Rattle.bounds.specs.Counts.{grainsFor, grainsCharged}
+use Rattle.bounds.specs.Counts.{entryGrains, grainsForClient, grainsToNode, sumOver}
 use Rattle.bounds.proofs.Decoded.{told, whole, whole-dispatched}
-use Rattle.bounds.proofs.Dispatched.{eqb-swap, sent-more, grains-more, charged-more}
+use Rattle.bounds.proofs.Dispatched.{eqb-swap, sent-more, all-more, grains-more, charged-more}
 
 -- What the dispatches from one state to another did.
 pub record Followed (tree : Tree) (from to : State) : Type 0 where
@@ -33,16 +33,17 @@ pub record Followed (tree : Tree) (from to : State) : Type 0 where
   pub fewer : (k : ℕ) → waiting (to .table) k ≤ waiting (from .table) k
   pub balances :
       (x : ℕ)
-      → plus (balance (to .table) x) + minus (balance (from .table) x) + grainsCharged tree x (told (to .entries))
-      ≡ minus (balance (to .table) x) + plus (balance (from .table) x) + grainsCharged tree x (told (from .entries))
+      → plus (balance (to .table) x) + minus (balance (from .table) x) + sumOver (grainsToNode tree x) (told (to .entries))
+      ≡ minus (balance (to .table) x) + plus (balance (from .table) x) + sumOver (grainsToNode tree x) (told (from .entries))
 
 pub followed-first : (tree : Tree) (st : State) → Followed tree st st
 followed-first tree st = record { waits = λ k. refl; fewer = λ k. omega arith; balances = λ x. omega arith }
 
--- A list that holds entries only, and in which a client is charged at most what is dispatched for it.
+-- A list that holds entries only, in which a client is charged at most what is dispatched for it, and the root everything.
 pub record Fair (tree : Tree) (list : List ℤ) : Type 0 where
   pub whole : whole list
-  pub own : (k : ℕ) → isClient tree k ≡ true → grainsCharged tree k (told list) ≤ grainsFor k (told list)
+  pub own : (k : ℕ) → isClient tree k ≡ true → sumOver (grainsToNode tree k) (told list) ≤ sumOver (grainsForClient k) (told list)
+  pub root : sumOver (grainsToNode tree root) (told list) ≡ sumOver entryGrains (told list)
 
 module _ (tree : Tree) (st : State) (k s : ℕ) (d : Dispatch tree (st .table) (dispatched st k s .table) k s) (w : whole (st .entries)) where
   one-waits : (j : ℕ) → waiting (dispatched st k s .table) j + entriesFor j (told (dispatched st k s .entries)) ≡ waiting (st .table) j + entriesFor j (told (st .entries))
@@ -56,8 +57,8 @@ module _ (tree : Tree) (st : State) (k s : ℕ) (d : Dispatch tree (st .table) (
 
   one-balance :
       (x : ℕ)
-      → plus (balance (dispatched st k s .table) x) + minus (balance (st .table) x) + grainsCharged tree x (told (dispatched st k s .entries))
-      ≡ minus (balance (dispatched st k s .table) x) + plus (balance (st .table) x) + grainsCharged tree x (told (st .entries))
+      → plus (balance (dispatched st k s .table) x) + minus (balance (st .table) x) + sumOver (grainsToNode tree x) (told (dispatched st k s .entries))
+      ≡ minus (balance (dispatched st k s .table) x) + plus (balance (st .table) x) + sumOver (grainsToNode tree x) (told (st .entries))
   unfolding plus minus
   one-balance x =
       let g = grains (size (st .table) k 0) in
@@ -112,4 +113,13 @@ fair-next tree w st k s at way f =
             grains-more st k s (f .whole) x,
             cond-false (atOrAbove tree s x) g 0 off,
           ));
+      root =
+          let g = grains (size (st .table) k 0) in
+          omega (
+            arith,
+            f .root,
+            charged-more st k s (f .whole) tree root,
+            all-more st k s (f .whole),
+            cond-true (atOrAbove tree s root) g 0 (above-root tree w s (above-there tree w k s at way)),
+          );
     }

@@ -4,7 +4,6 @@ use mathlib.Core.Path.{_≡_, refl, ap, _∙_}
 use mathlib.Core.Bool.{true}
 use mathlib.Core.List.{List, []}
 use native.Mathlib.Omega.{arith}
-use borrow.Author.Tests.{ltb-true}
 use lib.IntN.{ℤ}
 use Rattle.numbers.specs.Whole.{plus}
 use Rattle.numbers.proofs.Tests.{true-false}
@@ -22,8 +21,8 @@ use Rattle.table.proofs.Passed.{JoinPassed, join-passed}
 use Rattle.calllaws.proofs.Join.{join-keeps}
 use Rattle.bounds.specs.Events.{join}
 use Rattle.bounds.specs.Observer.{Observer, setAt, withNode, afterAccepted}
-use Rattle.bounds.specs.Counts.{leaves, waits}
-use Rattle.bounds.proofs.Simulation.{Agrees}
+use Rattle.bounds.specs.Counts.{leaves}
+use Rattle.bounds.proofs.Simulation.{Agrees, waits-more}
 use Rattle.bounds.proofs.Trees.{set-here, set-other, with-node}
 use Rattle.bounds.proofs.Changes.{Same, Change, Others, other-same, queues}
 use Rattle.bounds.proofs.Renewing.{kept-order, renewed-agrees, renewed-same}
@@ -31,14 +30,14 @@ use Rattle.bounds.proofs.Renewing.{kept-order, renewed-agrees, renewed-
 pub join-change :
     (t : List ℤ) (o : Observer) (node parent sort kind share depth : ℤ) → Agrees t o → joinRefusal t node parent sort kind share depth ≡ 0
     → Change t (renewed (joined t (plus node) (plus parent) sort kind share depth)) o (afterAccepted o (join node parent sort kind share depth) []) (λ c. leaves c (join node parent sort kind share depth))
-unfolding joinTable afterAccepted withNode rateOf waiting waits
+unfolding joinTable afterAccepted withNode rateOf waiting
 join-change t o node parent sort kind share depth a h =
     record {
       agrees =
           renewed-agrees u order p tree (ap plus (rest root rateAt (omega arith) (omega arith)) ∙ a .disk)
           (queues t u o p k others a (λ e. omega (arith, idle, nothing (o .asked), nothing (o .sent))));
       class = λ c e stays. same c (λ at. true-false (class-there (o .tree) c e) (rw at (rw (a .tree) at (passed .unused))));
-      client = λ j e busy. same j (λ at. omega (arith, ltb-true (p .sent j) (p .asked j) busy, ap (p .asked) at, nothing (o .asked)));
+      client = λ j e busy. same j (λ at. omega (arith, waits-more p j busy, ap (p .asked) at, nothing (o .asked)));
     }
   where
     k : ℕ

@@ -19,3 +19,4 @@ pub mod Waiting
 pub mod Shown
 pub mod TickSteps
 pub mod Theorem
+pub mod Fakes

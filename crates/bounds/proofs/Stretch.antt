@@ -9,13 +9,13 @@ use native.Mathlib.Decide.{decLt}
 use borrow.Author.Tests.{eqb-true, eq-eqb, ne-eqb}
 use lib.ListN.{length}
 use lib.IntN.{ℤ, pos}
-use Rattle.numbers.specs.Whole.{plus}
+use Rattle.numbers.specs.Whole.{plus, minus}
 use Rattle.numbers.specs.Tests.{every}
 use Rattle.numbers.proofs.Tests.{by-test, true-false}
 use Rattle.numbers.proofs.Every.{none-left, holds-with, head-fails, rest-fail}
 use Rattle.numbers.proofs.Parts.{zarith, plus-pos, minus-pos, within-parts}
-use Rattle.table.specs.Limits.{tableLength, headerLength, recordLength, nodes, depthAt, client, greatestDepth, grainScale}
-use Rattle.table.specs.Places.{place, depthGrains}
+use Rattle.table.specs.Limits.{tableLength, headerLength, recordLength, nodes, depthAt, client, root, lastLevel, greatestDepth, grainScale}
+use Rattle.table.specs.Places.{place, balance, depthGrains}
 use Rattle.table.specs.Tree.{Tree, treeOf, there, isClass, isClient}
 use Rattle.table.specs.Refusals.{refused}
 use Rattle.table.specs.Calls.{leaveRefusal, leaveAnswer}
@@ -25,10 +25,10 @@ use Rattle.treelaws.proofs.Children.{class-there}
 use Rattle.treelaws.proofs.Floors.{grounds, node-floor}
 use Rattle.bounds.specs.Events.{Call, join, leave, changeShare, changeRate, request, tick, tableAfter, answerOf, eventOf, events, tableAfterAll}
 use Rattle.bounds.specs.Observer.{Observer, observedAll}
-use Rattle.bounds.specs.Counts.{accepts, leaves, ratesOver, dispatchedOver, chargedOver, waitsThroughout, staysThroughout}
+use Rattle.bounds.specs.Counts.{accepts, leaves, staysThroughout}
 use Rattle.bounds.specs.Demand.{Bounds}
 use Rattle.bounds.proofs.Simulation.{Agrees, Steps}
-use Rattle.bounds.proofs.Telescope.{agrees-all, class-over, client-over}
+use Rattle.bounds.proofs.Telescope.{agrees-all, ClassOver, class-over, all-over, client-over}
 
 -- A node that is there has a number below 64.
 pub there-below : (t : List ℤ) (k : ℕ) → length t ≡ tableLength → there (treeOf t) k ≡ true → k < nodes
@@ -89,45 +89,56 @@ client-depth t k f e =
     let depth = f .limits k (there-below t k (f .long) here) here .depth in
     omega (arith, within-parts 1 greatestDepth (place t k depthAt) depth)
 
-pub bounds-from : Steps → (t : List ℤ) (o : Observer) → Agrees t o → (calls : List Call) → Bounds o (events t calls)
-bounds-from laws t o a calls =
-    record { clients = of-client; disk = of-class 0 (rw (← a .tree) (root-class t f)) (root-stays t calls); classes = of-class }
-  where
-    f : InOrder t
-    f = facts t (a .order)
+-- The balance of a class before and after a stretch that it is joined throughout: at most its depth, and at least four
+-- depths below zero.
+record ClassEnds (t u : List ℤ) (o : Observer) (c : ℕ) : Type 0 where
+  before : plus (balance t c) ≤ minus (balance t c) + o .tree .depth c * grainScale
+  after : minus (balance u c) ≤ lastLevel * (o .tree .depth c * grainScale)
 
-    b : Agrees (tableAfterAll t calls) (observedAll o (events t calls))
-    b = agrees-all laws t o calls a
+-- Each claim is proved as `Bounds` states it, from the lines that telescope.
+module _ (laws : Steps) (t : List ℤ) (o : Observer) (a : Agrees t o) (calls : List Call) where
+  f : InOrder t
+  f = facts t (a .order)
 
-    g : InOrder (tableAfterAll t calls)
-    g = facts (tableAfterAll t calls) (b .order)
+  b : Agrees (tableAfterAll t calls) (observedAll o (events t calls))
+  b = agrees-all laws t o calls a
 
-    of-class :
-        (c : ℕ) → isClass (o .tree) c ≡ true → staysThroughout c (events t calls) ≡ true
-        → chargedOver o c (events t calls) ≤ ratesOver o c (events t calls) + 5 * (o .tree .depth c * grainScale)
-    of-class c e h =
-        let over = class-over laws t o calls a c e h in
-        let here : isClass (treeOf t) c ≡ true = rw (a .tree) e in
-        let there : isClass (treeOf (tableAfterAll t calls)) c ≡ true = rw (b .tree) (over .class) in
-        let low = there-below t c (f .long) (class-there (treeOf t) c here) in
-        let most = f .balances c low (class-there (treeOf t) c here) .most in
-        let floor = node-floor (tableAfterAll t calls) (grounds _ g) c low (class-there _ c there) in
-        omega (
-          arith,
-          zarith,
-          over .line,
-          floor,
-          most,
-          plus-pos (depthGrains t c),
-          minus-pos (depthGrains t c),
-          depth-in-grains t o c a,
-          depth-in-grains (tableAfterAll t calls) (observedAll o (events t calls)) c b,
-          ap (λ (d : ℕ). d * grainScale) (over .depth),
-        )
+  g : InOrder (tableAfterAll t calls)
+  g = facts (tableAfterAll t calls) (b .order)
 
-    of-client :
-        (k : ℕ) → isClient (observedAll o (events t calls) .tree) k ≡ true → waitsThroughout o k (events t calls) ≡ true
-        → ratesOver o k (events t calls) < dispatchedOver k (events t calls) + observedAll o (events t calls) .tree .depth k * grainScale
-    of-client k e h =
-        let over = client-over laws t o calls a k e h in
-        ⊎-elim (λ u. omega (arith, client-depth (tableAfterAll t calls) k g (rw (b .tree) e), ap (λ (tree : Tree). tree .depth k) (b .tree))) (λ u. omega (arith, over .line, ap (λ (d : ℕ). d * grainScale) (over .depth))) (over .end)
+  class-ends : (c : ℕ) → isClass (o .tree) c ≡ true → ClassOver t o calls c → ClassEnds t (tableAfterAll t calls) o c
+  class-ends c e over =
+      let here = class-there (treeOf t) c (rw (a .tree) e) in
+      let there = class-there (treeOf (tableAfterAll t calls)) c (rw (b .tree) (over .class)) in
+      let low = there-below t c (f .long) here in
+      record {
+        before = omega (arith, zarith, f .balances c low here .most, depth-in-grains t o c a, plus-pos (depthGrains t c), minus-pos (depthGrains t c));
+        after =
+            omega (
+              arith,
+              node-floor (tableAfterAll t calls) (grounds _ g) c low there,
+              depth-in-grains (tableAfterAll t calls) (observedAll o (events t calls)) c b,
+              ap (λ (d : ℕ). d * grainScale) (over .depth),
+            );
+      }
+
+  root-over : ClassOver t o calls root
+  root-over = class-over laws t o calls a root (rw (← a .tree) (root-class t f)) (root-stays t calls)
+
+  pub bounds-from : Bounds o (events t calls)
+  bounds-from =
+      record {
+        clients = λ k e h.
+            let over = client-over laws t o calls a k e h in
+            ⊎-elim
+            (λ still. omega (arith, client-depth (tableAfterAll t calls) k g (rw (b .tree) e), ap (λ (tree : Tree). tree .depth k) (b .tree)))
+            (λ below. omega (arith, over .line, ap (λ (d : ℕ). d * grainScale) (over .depth)))
+            (over .end);
+        disk =
+            let ends = class-ends root (rw (← a .tree) (root-class t f)) root-over in
+            omega (arith, root-over .line, ends .before, ends .after, all-over laws t o calls a);
+        classes = λ c e h.
+            let over = class-over laws t o calls a c e h in
+            let ends = class-ends c e over in
+            omega (arith, over .line, ends .before, ends .after);
+      }

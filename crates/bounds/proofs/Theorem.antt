@@ -4,18 +4,19 @@ use mathlib.Core.Path.{_≡_}
 use mathlib.Core.Bool.{true, false}
 use mathlib.Core.List.{[], _∷_}
 use Rattle.numbers.specs.Tests.{every}
+use Rattle.table.specs.Limits.{root}
 use Rattle.table.specs.Tree.{isClient}
 use Rattle.table.specs.Calls.{openTable}
 use Rattle.bounds.specs.Events.{tableAfter, answerOf, eventOf, events, tableAfterAll}
-use Rattle.bounds.specs.Observer.{observed, start, observedAll}
-use Rattle.bounds.specs.Counts.{accepts, leaves, waits}
+use Rattle.bounds.specs.Observer.{entries, observed, start, observedAll}
+use Rattle.bounds.specs.Counts.{accepts, entryGrains, grainsToNode, sumOver, leaves, waits}
 use Rattle.bounds.specs.Demand.{Demand3}
 use Rattle.bounds.proofs.Simulation.{Agrees, ClassStep, ClientStep, Steps}
 use Rattle.bounds.proofs.Telescope.{agrees-all}
 use Rattle.bounds.proofs.Stretch.{bounds-from}
 use Rattle.bounds.proofs.Opened.{opened-agrees}
-use Rattle.bounds.proofs.CallSteps.{calls-agree, calls-class, calls-client, by-call}
-use Rattle.bounds.proofs.TickSteps.{tick-agrees, tick-class, tick-client}
+use Rattle.bounds.proofs.CallSteps.{calls-agree, calls-class, calls-all, calls-client, by-call}
+use Rattle.bounds.proofs.TickSteps.{tick-agrees, tick-class, tick-all, tick-client}
 
 pub steps : Steps
 steps =
@@ -35,6 +36,11 @@ steps =
           (λ call. isClient (observed o (eventOf t call) .tree) k ≡ true → waits (observed o (eventOf t call)) k ≡ true → ClientStep t o call k)
           (λ call quiet. calls-client t o call quiet a k)
           (λ list. tick-client t o list a k)
+          call;
+      all = λ t o call a.
+          by-call (λ call. sumOver (grainsToNode (o .tree) root) (entries (eventOf t call)) ≡ sumOver entryGrains (entries (eventOf t call)))
+          (λ call quiet. calls-all t o call quiet)
+          (λ list. tick-all t o list a)
           call;
     }
 

@@ -7,7 +7,6 @@ use mathlib.Core.Logic.{_⊎_, inl, inr}
 use mathlib.Core.List.{List}
 use native.Mathlib.Omega.{arith}
 use native.Mathlib.Decide.{ℕ-discrete}
-use borrow.Author.Tests.{ltb-true}
 use lib.IntN.{ℤ}
 use Rattle.numbers.specs.Whole.{plus, minus}
 use Rattle.table.specs.Limits.{nodes, root, grainScale}
@@ -23,9 +22,9 @@ use Rattle.ticklaws.proofs.Frame.{frame-tree, frame-rate}
 use Rattle.ticklaws.proofs.Grown.{rate-in-order}
 use Rattle.ticklaws.proofs.Keeps.{tick-keeps, ticked-settled}
 use Rattle.bounds.specs.Events.{tick, tableAfter, eventOf}
-use Rattle.bounds.specs.Observer.{Observer, Entry, entriesFor, observed}
-use Rattle.bounds.specs.Counts.{grainsFor, grainsCharged, waits}
-use Rattle.bounds.proofs.Simulation.{Agrees, ClassStep, ClientStep}
+use Rattle.bounds.specs.Observer.{Observer, Entry, entries, entriesFor, observed}
+use Rattle.bounds.specs.Counts.{entryGrains, grainsForClient, grainsToNode, sumOver, waits}
+use Rattle.bounds.proofs.Simulation.{Agrees, ClassStep, ClientStep, waits-more}
 use Rattle.bounds.proofs.Stretch.{there-below}
 use Rattle.bounds.proofs.Decoded.{told}
 use Rattle.bounds.proofs.Ticked.{ticked-waits, ticked-fair, ticked-most}
@@ -51,7 +50,7 @@ module _ (t : List ℤ) (o : Observer) (list : List ℤ) (a : Agrees t o) (u : L
             );
       }
 
-  class-shown : (c : ℕ) → isClass (o .tree) c ≡ true → plus (balance u c) + minus (balance t c) + grainsCharged (o .tree) c es ≤ minus (balance u c) + plus (balance t c) + r c → ClassStep t o (tick list) c
+  class-shown : (c : ℕ) → isClass (o .tree) c ≡ true → plus (balance u c) + minus (balance t c) + sumOver (grainsToNode (o .tree) c) es ≤ minus (balance u c) + plus (balance t c) + r c → ClassStep t o (tick list) c
   class-shown c class line =
       record {
         class = rw (s .tree) class;
@@ -60,7 +59,7 @@ module _ (t : List ℤ) (o : Observer) (list : List ℤ) (a : Agrees t o) (u : L
       }
 
   client-shown :
-      (k : ℕ) → isClient (o .tree) k ≡ true → plus (balance t k) + r k ≤ plus (balance u k) + grainsFor k es
+      (k : ℕ) → isClient (o .tree) k ≡ true → plus (balance t k) + r k ≤ plus (balance u k) + sumOver (grainsForClient k) es
       → ((r k ≡ 0) × (plus (balance u k) ≡ plus (balance t k))) ⊎ (plus (balance u k) < o .tree .depth k * grainScale)
       → ClientStep t o (tick list) k
   client-shown k client line end =
@@ -93,7 +92,7 @@ module _ (t : List ℤ) (o : Observer) (list : List ℤ) (a : Agrees t o) where
       ]
 
   pub tick-class : (c : ℕ) → isClass (o .tree) c ≡ true → ClassStep t o (tick list) c
-  unfolding grainsCharged
+  unfolding sumOver
   tick-class c class =
       elim (ℕ-discrete (tickRefusal t list) 0) [
         | yes e ↦
@@ -103,10 +102,19 @@ module _ (t : List ℤ) (o : Observer) (list : List ℤ) (a : Agrees t o) where
         | no ne ↦ class-shown t o list a _ _ _ (shown-refused t o list ne) c class (omega arith)
       ]
 
+  -- Every entry is charged to the root.
+  pub tick-all : sumOver (grainsToNode (o .tree) root) (entries (eventOf t (tick list))) ≡ sumOver entryGrains (entries (eventOf t (tick list)))
+  unfolding sumOver
+  tick-all =
+      elim (ℕ-discrete (tickRefusal t list) 0) [
+        | yes e ↦ rw (accepted e .entries, ← a .tree) (ticked-fair t f .root)
+        | no ne ↦ rw (shown-refused t o list ne .entries)
+      ]
+
   pub tick-client : (k : ℕ) → isClient (observed o (eventOf t (tick list)) .tree) k ≡ true → waits (observed o (eventOf t (tick list))) k ≡ true → ClientStep t o (tick list) k
-  unfolding grainsFor waits
+  unfolding sumOver
   tick-client k client waits =
-      let waited = ltb-true (observed o (eventOf t (tick list)) .sent k) (observed o (eventOf t (tick list)) .asked k) waits in
+      let waited = waits-more (observed o (eventOf t (tick list))) k waits in
       elim (ℕ-discrete (tickRefusal t list) 0) [
         | yes e ↦
             let s = accepted e in

@@ -1,7 +1,7 @@
 -- The whole tick, followed by what its list tells. Balances: step 1 adds each node's rate, steps 2 and 4 take what is
 -- charged, step 3 only lowers, and leaves a balance that is at most its depth.
 use Prim.Native.Nat.{ℕ, _+_, _≤_, _<_}
-use mathlib.Core.Path.{_≡_, ap}
+use mathlib.Core.Path.{_≡_, sym, ap, _∙_}
 use mathlib.Core.Bool.{true}
 use mathlib.Core.List.{List, []}
 use native.Mathlib.Omega.{arith}
@@ -9,12 +9,11 @@ use lib.IntN.{ℤ, pos}
 use lib.Signed.{leZ}
 use Rattle.numbers.specs.Whole.{plus, minus}
 use Rattle.numbers.proofs.Parts.{zarith, add-parts}
-use Rattle.table.specs.Limits.{nodes}
-use Rattle.table.specs.Tree.{Tree, treeOf}
+use Rattle.table.specs.Limits.{nodes, root}
+use Rattle.table.specs.Tree.{Tree, treeOf, atOrAbove}
 use Rattle.table.specs.Places.{rate, balance, waiting, depthGrains}
 use Rattle.table.specs.Tick.{State, grown, cut, supplier, allWaiting, stepTwo, stepThree, ticked}
 use Rattle.table.proofs.Facts.{InOrder}
-use Rattle.ticklaws.specs.Way.{atOrAbove}
 use Rattle.ticklaws.proofs.Frame.{frame-tree}
 use Rattle.ticklaws.proofs.Queues.{only-shifted}
 use Rattle.ticklaws.proofs.Reached.{reached-long}
@@ -25,7 +24,7 @@ use Rattle.ticklaws.proofs.Served.{client-at, servedAll-with}
 use Rattle.ticklaws.proofs.Lent.{lent-with}
 use Rattle.ticklaws.proofs.Keeps.{two-reached, three-settled}
 use Rattle.bounds.specs.Observer.{entriesFor}
-use Rattle.bounds.specs.Counts.{grainsCharged}
+use Rattle.bounds.specs.Counts.{entryGrains, grainsToNode, sumOver}
 use Rattle.bounds.proofs.Decoded.{told, told-none, whole-none}
 use Rattle.bounds.proofs.Followed.{Followed, followed-first, followed-next, Fair, fair-next}
 
@@ -33,12 +32,16 @@ sent-none : (k : ℕ) → entriesFor k (told []) ≡ 0
 unfolding entriesFor
 sent-none k = ap (entriesFor k) told-none
 
-charged-none : (tree : Tree) (x : ℕ) → grainsCharged tree x (told []) ≡ 0
-unfolding grainsCharged
-charged-none tree x = ap (grainsCharged tree x) told-none
+charged-none : (tree : Tree) (x : ℕ) → sumOver (grainsToNode tree x) (told []) ≡ 0
+unfolding sumOver
+charged-none tree x = ap (sumOver (grainsToNode tree x)) told-none
+
+all-none : sumOver entryGrains (told []) ≡ 0
+unfolding sumOver
+all-none = ap (sumOver entryGrains) told-none
 
 fair-none : (tree : Tree) → Fair tree []
-fair-none tree = record { whole = whole-none; own = λ k client. omega (arith, charged-none tree k) }
+fair-none tree = record { whole = whole-none; own = λ k client. omega (arith, charged-none tree k); root = charged-none tree root ∙ sym all-none }
 
 -- Step 1 as a state with no entries.
 one : List ℤ → State
@@ -97,7 +100,7 @@ module _ (t : List ℤ) (f : InOrder t) where
   module _ (x : ℕ) (hx : x < nodes) where
     -- Steps 1 and 2, in parts: the rate added, and what is charged taken.
     grown-served :
-        plus (balance (stepTwo t .table) x) + minus (balance t x) + grainsCharged (treeOf t) x (told (stepTwo t .entries))
+        plus (balance (stepTwo t .table) x) + minus (balance t x) + sumOver (grainsToNode (treeOf t) x) (told (stepTwo t .entries))
         ≡ minus (balance (stepTwo t .table) x) + plus (balance t x) + rate t x
     unfolding one plus minus
     grown-served =
@@ -117,13 +120,13 @@ module _ (t : List ℤ) (f : InOrder t) where
 
     -- Step 4.
     lent-four :
-        plus (balance (ticked t .table) x) + minus (balance (stepThree t .table) x) + grainsCharged (treeOf t) x (told (ticked t .entries))
-        ≡ minus (balance (ticked t .table) x) + plus (balance (stepThree t .table) x) + grainsCharged (treeOf t) x (told (stepTwo t .entries))
+        plus (balance (ticked t .table) x) + minus (balance (stepThree t .table) x) + sumOver (grainsToNode (treeOf t) x) (told (ticked t .entries))
+        ≡ minus (balance (ticked t .table) x) + plus (balance (stepThree t .table) x) + sumOver (grainsToNode (treeOf t) x) (told (stepTwo t .entries))
     unfolding stepThree
     lent-four = four .0 .balances x
 
     pub ticked-most :
-        plus (balance (ticked t .table) x) + minus (balance t x) + grainsCharged (treeOf t) x (told (ticked t .entries))
+        plus (balance (ticked t .table) x) + minus (balance t x) + sumOver (grainsToNode (treeOf t) x) (told (ticked t .entries))
         ≤ minus (balance (ticked t .table) x) + plus (balance t x) + rate t x
     ticked-most =
         omega (
@@ -138,7 +141,7 @@ module _ (t : List ℤ) (f : InOrder t) where
     -- A node that step 3 does not cut loses nothing but what is charged.
     pub ticked-same :
         leZ (balance (stepTwo t .table) x) (pos (depthGrains (stepTwo t .table) x)) ≡ true
-        → plus (balance (ticked t .table) x) + minus (balance t x) + grainsCharged (treeOf t) x (told (ticked t .entries))
+        → plus (balance (ticked t .table) x) + minus (balance t x) + sumOver (grainsToNode (treeOf t) x) (told (ticked t .entries))
         ≡ minus (balance (ticked t .table) x) + plus (balance t x) + rate t x
     ticked-same low =
         omega (

@@ -12,11 +12,10 @@ use Rattle.numbers.specs.Whole.{plus, minus}
 use Rattle.numbers.proofs.Tests.{by-test, true-false}
 use Rattle.numbers.proofs.Parts.{zarith, one-is-zero}
 use Rattle.table.specs.Limits.{nodes, grainScale}
-use Rattle.table.specs.Tree.{treeOf, isClient}
+use Rattle.table.specs.Tree.{treeOf, isClient, atOrAbove}
 use Rattle.table.specs.Places.{rate, balance, waiting, depthGrains, size}
 use Rattle.table.specs.Tick.{grains, enough, stepTwo, ticked}
 use Rattle.table.proofs.Facts.{InOrder}
-use Rattle.ticklaws.specs.Way.{atOrAbove}
 use Rattle.ticklaws.proofs.Sorts.{client-there, client-class}
 use Rattle.ticklaws.proofs.Frame.{frame-tree, frame-grains}
 use Rattle.ticklaws.proofs.Reached.{Reached, reached-first}
@@ -24,7 +23,7 @@ use Rattle.ticklaws.proofs.Way.{ways-of, way-first}
 use Rattle.ticklaws.proofs.Next.{not-supplied}
 use Rattle.ticklaws.proofs.Served.{client-at, facts-ready}
 use Rattle.ticklaws.proofs.Keeps.{two-reached, two-suffices, ticked-settled, ticked-in-order, none-supplied}
-use Rattle.bounds.specs.Counts.{grainsFor}
+use Rattle.bounds.specs.Counts.{grainsForClient, sumOver}
 use Rattle.bounds.proofs.Decoded.{told}
 use Rattle.bounds.proofs.Ticked.{ticked-fewer, ticked-fair, ticked-same}
 
@@ -61,7 +60,7 @@ module _ (t : List ℤ) (f : InOrder t) (k : ℕ) (hk : k < nodes) (client : isC
       let below = short-below t u r k hk (omega (arith, ticked-fewer t f k)) two-short in
       omega (arith, zarith, below, frame-grains t u (r .frame) k, client-floor t u r k hk client)
 
-  pub waiting-line : plus (balance t k) + rate t k ≤ plus (balance (ticked t .table) k) + grainsFor k (told (ticked t .entries))
+  pub waiting-line : plus (balance t k) + rate t k ≤ plus (balance (ticked t .table) k) + sumOver (grainsForClient k) (told (ticked t .entries))
   waiting-line =
       omega (
         arith,

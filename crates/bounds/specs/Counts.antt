@@ -1,12 +1,12 @@
 -- What demand 3 counts over a stretch of events that an observer o follows: rates, grains dispatched and charged, and who
 -- waits or stays throughout. Document 01, "What demand 3 counts".
-use Prim.Native.Nat.{ℕ, zero, suc, _+_}
-use mathlib.Core.Bool.{Bool, true, false, not, cond, _||_}
+use Prim.Native.Nat.{ℕ, _+_}
+use mathlib.Core.Bool.{Bool, true, false, not, cond}
 use mathlib.Core.List.{List, [], _∷_}
 use lib.Dec.{eqb, ltb}
 use Rattle.numbers.specs.Whole.{plus}
 use Rattle.numbers.specs.Tests.{every}
-use Rattle.table.specs.Tree.{Tree}
+use Rattle.table.specs.Tree.{Tree, atOrAbove}
 use Rattle.table.specs.Rates.{rateIn}
 use Rattle.table.specs.Refusals.{Outcome, accepted, refused}
 use Rattle.table.specs.Tick.{grains}
@@ -35,31 +35,35 @@ unfoldable pub ratesOver : Observer → ℕ → List Event → ℕ
 ratesOver o k [] = 0
 ratesOver o k (e ∷ stretch) = rateAt o k e + ratesOver (observed o e) k stretch
 
--- The grains of the entries for client k.
-unfoldable pub grainsFor : ℕ → List Entry → ℕ
-grainsFor k [] = 0
-grainsFor k (e ∷ list) = cond (eqb (e .client) k) (grains (e .size)) 0 + grainsFor k list
+-- The grains that an entry counts.
+unfoldable pub entryGrains : Entry → ℕ
+entryGrains e = grains (e .size)
 
--- The grains dispatched for client k over a stretch.
+-- Those that it counts for client k: all of them where it is dispatched for k.
+unfoldable pub grainsForClient : ℕ → Entry → ℕ
+grainsForClient k e = cond (eqb (e .client) k) (entryGrains e) 0
+
+-- Those that it charges to node x: all of them where x is its supplier or stands above that.
+unfoldable pub grainsToNode : Tree → ℕ → Entry → ℕ
+grainsToNode tree x e = cond (atOrAbove tree (e .supplier) x) (entryGrains e) 0
+
+-- The sum of f over entries.
+unfoldable pub sumOver : (Entry → ℕ) → List Entry → ℕ
+sumOver f [] = 0
+sumOver f (e ∷ list) = f e + sumOver f list
+
+-- The grains dispatched over a stretch: all of them, whatever the entries name; those for client k; those charged to node x.
+unfoldable pub grainsOver : List Event → ℕ
+grainsOver [] = 0
+grainsOver (e ∷ stretch) = sumOver entryGrains (entries e) + grainsOver stretch
+
 unfoldable pub dispatchedOver : ℕ → List Event → ℕ
 dispatchedOver k [] = 0
-dispatchedOver k (e ∷ stretch) = grainsFor k (entries e) + dispatchedOver k stretch
+dispatchedOver k (e ∷ stretch) = sumOver (grainsForClient k) (entries e) + dispatchedOver k stretch
 
--- Whether node x is node s, at level l, or stands above it.
-unfoldable pub isAbove : Tree → ℕ → ℕ → ℕ → Bool
-isAbove tree x zero s = eqb s x
-isAbove tree x (suc l) s = eqb s x || isAbove tree x l (tree .parent s)
-
--- An entry is charged to its supplier and to every node above that.
-unfoldable pub grainsCharged : Tree → ℕ → List Entry → ℕ
-grainsCharged tree x [] = 0
-grainsCharged tree x (e ∷ list) =
-    cond (isAbove tree x (tree .level (e .supplier)) (e .supplier)) (grains (e .size)) 0 + grainsCharged tree x list
-
--- The grains charged to node x over a stretch.
 unfoldable pub chargedOver : Observer → ℕ → List Event → ℕ
 chargedOver o x [] = 0
-chargedOver o x (e ∷ stretch) = grainsCharged (o .tree) x (entries e) + chargedOver (observed o e) x stretch
+chargedOver o x (e ∷ stretch) = sumOver (grainsToNode (o .tree) x) (entries e) + chargedOver (observed o e) x stretch
 
 -- A client has a request waiting when, since its join, more requests were accepted for it than entries dispatched.
 unfoldable pub waits : Observer → ℕ → Bool

@@ -10,7 +10,7 @@ use Rattle.table.specs.Tree.{isClass, isClient}
 use Rattle.table.specs.Calls.{openRefusal, openTable}
 use Rattle.bounds.specs.Events.{Call, Event, events, tableAfterAll}
 use Rattle.bounds.specs.Observer.{Observer, start, observedAll}
-use Rattle.bounds.specs.Counts.{ratesOver, dispatchedOver, chargedOver, waitsThroughout, staysThroughout}
+use Rattle.bounds.specs.Counts.{ratesOver, grainsOver, dispatchedOver, chargedOver, waitsThroughout, staysThroughout}
 
 -- The three claims about a stretch of events, for the observer before it. A depth in grains is depth x 1000.
 pub record Bounds (o : Observer) (stretch : List Event) : Type 0 where
@@ -19,8 +19,8 @@ pub record Bounds (o : Observer) (stretch : List Event) : Type 0 where
   pub clients :
       (k : ℕ) → isClient (observedAll o stretch .tree) k ≡ true → waitsThroughout o k stretch ≡ true
       → ratesOver o k stretch < dispatchedOver k stretch + observedAll o stretch .tree .depth k * grainScale
-  -- The disk: what is charged to the root is at most its rates and five root depths.
-  pub disk : chargedOver o root stretch ≤ ratesOver o root stretch + 5 * (o .tree .depth root * grainScale)
+  -- The disk: all grains dispatched in the stretch are at most its rates and five root depths.
+  pub disk : grainsOver stretch ≤ ratesOver o root stretch + 5 * (o .tree .depth root * grainScale)
   -- A class joined throughout: what is charged to it is at most its rates and five of its depths.
   pub classes :
       (c : ℕ) → isClass (o .tree) c ≡ true → staysThroughout c stretch ≡ true

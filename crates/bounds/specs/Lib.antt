@@ -2,3 +2,4 @@ pub mod Events
 pub mod Observer
 pub mod Counts
 pub mod Demand
+pub mod Fakes

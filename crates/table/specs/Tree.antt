@@ -1,6 +1,6 @@
 -- The tree that a table shows: its sorts, parents, levels, share kinds, shares and depths, by node number.
-use Prim.Native.Nat.{ℕ}
-use mathlib.Core.Bool.{Bool, true, false, not}
+use Prim.Native.Nat.{ℕ, zero, suc}
+use mathlib.Core.Bool.{Bool, true, false, not, _||_}
 use mathlib.Core.List.{List, [], _∷_}
 use lib.Dec.{eqb}
 use lib.IntN.{ℤ}
@@ -73,3 +73,12 @@ eachClient tree p = allBelow nodes (λ k. testIf (isClient tree k) p k)
 -- Whether class c has no children.
 unfoldable pub childless : Tree → ℕ → Bool
 childless tree c = allBelow nodes (λ k. not (childOf tree c k))
+
+-- Whether node j stands on the way from node k, at level l, up to the root, both included.
+unfoldable pub onWay : Tree → ℕ → ℕ → ℕ → Bool
+onWay tree zero k j = eqb j k
+onWay tree (suc l) k j = eqb j k || onWay tree l (tree .parent k) j
+
+-- Whether node j is node k or stands above it.
+unfoldable pub atOrAbove : Tree → ℕ → ℕ → Bool
+atOrAbove tree k j = onWay tree (tree .level k) k j

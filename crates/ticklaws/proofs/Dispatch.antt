@@ -16,10 +16,9 @@ use Rattle.numbers.proofs.Tests.{by-test, true-false}
 use Rattle.numbers.proofs.Parts.{zarith, sub-parts, one-is-zero}
 use Rattle.table.specs.Limits.{tableLength, nodes, entryLength}
 use Rattle.table.specs.Places.{balance, count, waiting, size}
-use Rattle.table.specs.Tree.{Tree, treeOf, there}
+use Rattle.table.specs.Tree.{Tree, treeOf, there, atOrAbove}
 use Rattle.table.specs.Tick.{State, grains, charge, takenOut, dispatched}
 use Rattle.table.proofs.Facts.{InOrder}
-use Rattle.ticklaws.specs.Way.{atOrAbove}
 use Rattle.treelaws.proofs.Floors.{Room, Floor, Under}
 use Rattle.ticklaws.proofs.Frame.{Frame, frame-trans, frame-tree, OnlyBalances, only-frame}
 use Rattle.ticklaws.proofs.Queues.{Shifted, only-shifted, shifted-trans, queues-shifted}

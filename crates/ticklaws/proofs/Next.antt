@@ -16,9 +16,8 @@ use Rattle.numbers.proofs.All.{below-cases}
 use Rattle.numbers.proofs.Steps.{for-reaches}
 use Rattle.table.specs.Limits.{nodes}
 use Rattle.table.specs.Places.{waiting, size, arrival}
-use Rattle.table.specs.Tree.{treeOf}
+use Rattle.table.specs.Tree.{treeOf, onWay, atOrAbove}
 use Rattle.table.specs.Tick.{nobody, grains, enough, supplierFrom, supplier, supplied, better, next}
-use Rattle.ticklaws.specs.Way.{onWay, atOrAbove}
 use Rattle.ticklaws.proofs.Way.{Ways, At, above, way-first, way-up, way-top, way-cases}
 
 -- Node s is the supplier of an amount on the way from node k.

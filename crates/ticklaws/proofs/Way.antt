@@ -13,10 +13,9 @@ use lib.IntN.{ℤ}
 use Rattle.numbers.specs.Whole.{plus}
 use Rattle.numbers.proofs.Tests.{by-test, or-cases, or-true-left, or-true-right}
 use Rattle.numbers.proofs.Parts.{zarith, plus-pos}
-use Rattle.table.specs.Limits.{nodes}
-use Rattle.table.specs.Tree.{Tree, treeOf, there, isClass}
+use Rattle.table.specs.Limits.{nodes, root}
+use Rattle.table.specs.Tree.{Tree, treeOf, there, isClass, onWay, atOrAbove}
 use Rattle.table.proofs.Facts.{InOrder}
-use Rattle.ticklaws.specs.Way.{onWay, atOrAbove}
 use Rattle.treelaws.proofs.Children.{class-there}
 use Rattle.treelaws.proofs.Floors.{Levels, levels, grounds}
 
@@ -112,9 +111,25 @@ module _ (tree : Tree) (w : Ways tree) where
       elim (ℕ-discrete j (tree .parent k))
       [ yes e ↦ rw e (above l k a .class) | no other ↦ way-class l (tree .parent k) j (above l k a .up) on other ])
 
+  -- The root stands on the way from every node that is there.
+  pub way-root : (l k : ℕ) → At tree l k → onWay tree l k root ≡ true
+  way-root zero k a =
+      elim (ℕ-discrete k root) [
+        | yes e ↦ rw e (way-first tree 0 root)
+        | no ne ↦ absurd (higher (w .levels .child k (a .low) (a .there) ne .level))
+      ]
+    where
+      higher : tree .level k ≡ suc (tree .level (tree .parent k)) → ⊥
+      higher e = omega (arith, a .level)
+  way-root (suc l) k a = way-up tree l k root (way-root l (tree .parent k) (above l k a .up))
+
   -- The same of the nodes at or above a node that is there.
   pub above-there : (k j : ℕ) → At tree (tree .level k) k → atOrAbove tree k j ≡ true → At tree (tree .level j) j
   unfolding atOrAbove
   above-there k j a h =
       let on = way-there (tree .level k) k j a h in
       record { low = on .0; there = on .1; level = refl }
+
+  pub above-root : (k : ℕ) → At tree (tree .level k) k → atOrAbove tree k root ≡ true
+  unfolding atOrAbove
+  above-root k a = way-root (tree .level k) k a

@@ -1,0 +1,25 @@
+-- The claims of demand 3 tell the two fakes apart from the controller: ticks that list nothing break the client's claim,
+-- and a tick that dispatches everything at once breaks the disk's. Both are computed from what a caller sees.
+use Prim.Native.Nat.{_<_, _≤_}
+use mathlib.Core.Path.{refl}
+use native.Mathlib.Omega.{arith}
+use Rattle.numbers.specs.Whole.{plus}
+use Rattle.numbers.specs.Tests.{every}
+use Rattle.numbers.specs.Below.{sumBelow}
+use Rattle.table.specs.Tree.{there, isClient, isFixed, childOf, countIf, sumUnder}
+use Rattle.table.specs.Rates.{fixedShare, weight, fixedSum, weightSum, fixedRate, leftRate, weightedRate, childRate, rateAtLevel, rateIn}
+use Rattle.table.specs.Tick.{grains}
+use Rattle.bounds.specs.Observer.{setAt, entriesIn, dispatchedBy, entriesOf, entries, entriesFor, start, withNode, afterAccepted, afterAnswer, observed, observedAll}
+use Rattle.bounds.specs.Counts.{accepts, isTick, rateAt, ratesOver, entryGrains, grainsForClient, sumOver, grainsOver, dispatchedOver, waits, waitsThroughout}
+use Rattle.bounds.specs.Demand.{Bounds}
+use Rattle.bounds.specs.Fakes.{clientJoins, asks, entriesOfOne, dispatches, before, listsNothing, dispatchesEverything}
+
+-- Three ticks at a rate of 1000 are 3000 grains, and its depth is 1000.
+pub lists-nothing : Bounds before listsNothing → ⊥
+unfolding before clientJoins asks entriesOfOne dispatches listsNothing dispatchesEverything observedAll observed afterAnswer afterAccepted start withNode setAt entries entriesOf dispatchedBy entriesIn entriesFor isClient waitsThroughout waits every plus ratesOver rateAt isTick accepts rateIn rateAtLevel childRate isFixed fixedSum fixedShare weightSum weight fixedRate leftRate weightedRate sumUnder sumBelow countIf childOf there dispatchedOver sumOver grainsForClient entryGrains grainsOver grains
+lists-nothing b = omega (arith, b .clients 1 refl refl)
+
+-- Eight requests are 8000 grains; the rate and five depths are 6000.
+pub dispatches-everything : Bounds before dispatchesEverything → ⊥
+unfolding before clientJoins asks entriesOfOne dispatches listsNothing dispatchesEverything observedAll observed afterAnswer afterAccepted start withNode setAt entries entriesOf dispatchedBy entriesIn entriesFor isClient waitsThroughout waits every plus ratesOver rateAt isTick accepts rateIn rateAtLevel childRate isFixed fixedSum fixedShare weightSum weight fixedRate leftRate weightedRate sumUnder sumBelow countIf childOf there dispatchedOver sumOver grainsForClient entryGrains grainsOver grains
+dispatches-everything b = omega (arith, b .disk)

@@ -1,0 +1,21 @@
+-- `Table::depth_grains` meets its contract.
+use Prim.Native.Nat.{ℕ, _*_}
+use mathlib.Core.Path.{ap}
+use borrow.Author.Needs.{needs}
+use Rattle.table.specs.Limits.{grainScale}
+use Rattle.table.specs.Places.{depthGrains}
+use Rattle.table.proofs.Table.depth_grains.Statement.{statement}
+use Rattle.table.proofs.Table.depth_grains.Tie as tie
+
+natural-requires : tie.Need-natural-requires
+natural-requires c κs = search needs
+
+mul-result : tie.Need-mul-result
+mul-result c = search needs
+
+returns : tie.Need-returns
+unfolding depthGrains
+returns c = ap (λ (n : ℕ). n * grainScale) (c .natural .ensures)
+
+pub depth-grains-spec : {M : Type 1} → statement M
+depth-grains-spec = tie.close (tie.spec natural-requires mul-result returns)
