@@ -29,7 +29,7 @@ pub(crate) fn join(table: &mut [i64], new: &NewNode) -> Answer<i64> {
     require(!is_used(table, node), IN_USE)?;
     require(is_class(table, parent), WRONG_NODE)?;
     let level = get(table, parent, LEVEL) + 1;
-    require(new.sort == CLIENT || level <= MAX_CLASS_LEVEL, TOO_LOW)?;
+    require(new.sort == CLIENT || level <= MAX_CLASS_LEVEL, LEVEL_TOO_LOW)?;
     require(fixed_shares_fit(table, parent, node, new.kind, new.share), SHARES_ABOVE)?;
     require(depth_fits(table, parent, new.depth), DEPTH_ABOVE)?;
     set(table, node, SORT, new.sort);
@@ -59,7 +59,7 @@ pub(crate) fn leave(table: &mut [i64], node: i64) -> Answer<i64> {
     require(is_used(table, node), NOT_THERE)?;
     require(node != ROOT, WRONG_NODE)?;
     let childless = children(table, node).next().is_none();
-    require(childless && waiting_count(table, node) == 0, OCCUPIED)?;
+    require(childless && waiting_count(table, node) == 0, NOT_EMPTY)?;
     let in_debt = is_class(table, node) && get(table, node, BALANCE) < 0;
     require(!in_debt, IN_DEBT)?;
     table[at(node, 0)..at(node + 1, 0)].fill(0);
@@ -95,7 +95,7 @@ pub(crate) fn request(table: &mut [i64], client: i64, tag: i64, size: i64) -> An
     require(is_used(table, client), NOT_THERE)?;
     require(is_client(table, client), WRONG_NODE)?;
     require(size <= get(table, client, DEPTH), DEPTH_ABOVE)?;
-    require(waiting_count(table, client) < QUEUE_LEN, WAITING_FULL)?;
+    require(waiting_count(table, client) < QUEUE_LEN, QUEUE_FULL)?;
     require(table[ACCEPTED] < MAX_ACCEPTED, COUNT_AT_END)?;
     table[ACCEPTED] += 1;
     let arrival = table[ACCEPTED];

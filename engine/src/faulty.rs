@@ -32,6 +32,9 @@ pub enum Fault {
     ListsNothing,
     /// Dispatches everything in the first tick that has any, and idles later.
     AllAtOnce,
+    /// Dispatches everything in every tick, names a supplier that is not there,
+    /// and charges nobody.
+    NamesNobody,
     /// A tick that invents its count.
     InventsCount,
     /// "Waiting full" with seven waiting.
@@ -77,7 +80,7 @@ pub enum Fault {
 }
 
 /// All faults that are no lacking clause.
-pub const FAULTS: [Fault; 29] = [
+pub const FAULTS: [Fault; 30] = [
     Fault::CutsFirst,
     Fault::ChargesClient,
     Fault::SparesRoot,
@@ -87,6 +90,7 @@ pub const FAULTS: [Fault; 29] = [
     Fault::ForgivesDebt,
     Fault::ListsNothing,
     Fault::AllAtOnce,
+    Fault::NamesNobody,
     Fault::InventsCount,
     Fault::FullTooEarly,
     Fault::ShortTooEarly,
@@ -243,7 +247,7 @@ impl Faulty {
         let arrival = calls::request(table, client, tag, size)?;
         let full = get(table, client as usize, WAITING) == QUEUE_LEN as i64;
         let answer = match self.fault {
-            Fault::FullTooEarly if full => Err(WAITING_FULL),
+            Fault::FullTooEarly if full => Err(QUEUE_FULL),
             Fault::RefusesRequests => Err(OUTSIDE_LIMITS),
             Fault::AnswersAlike => Ok(1),
             _ => Ok(arrival),
@@ -264,6 +268,7 @@ impl Faulty {
                 self.fired = needed > 0;
                 Ok(faulty_parts::dispatch_all(table, list))
             }
+            Fault::NamesNobody => Ok(faulty_parts::dispatch_all_from_nobody(table, list)),
             fault => Ok(faulty_parts::tick(fault, table, list)),
         }
     }
@@ -335,7 +340,7 @@ impl Controller for Faulty {
                 .nodes
                 .windows(2)
                 .all(|pair| pair[0].parent != pair[1].parent || pair[0].node < pair[1].node);
-            require(rising, PLAN_ORDER)?;
+            require(rising, PLAN_OUT_OF_ORDER)?;
         }
         Engine.plan_read(&bytes, table)
     }

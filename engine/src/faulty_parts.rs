@@ -43,6 +43,23 @@ pub(crate) fn dispatch_all(table: &mut [i64], list: &mut [i64]) -> i64 {
     list.count()
 }
 
+/// Dispatches all that waits, with a supplier that is not there: the lowest
+/// unused number, or 64 if there is none. Balances grow and are cut, and nobody
+/// is charged, so the table stays in order.
+pub(crate) fn dispatch_all_from_nobody(table: &mut [i64], list: &mut [i64]) -> i64 {
+    let mut list = DispatchList::new(list);
+    let nobody = (0..NODES).find(|&node| !is_used(table, node)).unwrap_or(NODES);
+    grow(table);
+    cut(table);
+    for client in 0..NODES {
+        while oldest(table, client).is_some() {
+            let request = take_oldest(table, client);
+            list.add(client, request, nobody);
+        }
+    }
+    list.count()
+}
+
 fn serve_own(fault: Fault, table: &mut [i64], list: &mut DispatchList) {
     for client in 0..NODES {
         while oldest(table, client)

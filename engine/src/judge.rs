@@ -10,20 +10,35 @@
 //! * a client that has a request waiting after every call of the stretch gets
 //!   more grains dispatched than the sum of its rates over the accepted ticks
 //!   of the stretch less depth × 1000;
-//! * to the root, and to every class joined throughout, at most the sum of its
-//!   rates over those ticks plus 5 × depth × 1000 grains are charged.
+//! * all grains dispatched together are at most the sum of the disk's rates
+//!   over those ticks plus 5 × the root's depth × 1000;
+//! * to every class joined throughout, at most the sum of its rates over those
+//!   ticks plus 5 × depth × 1000 grains are charged.
+//!
+//! # Entries
+//!
+//! An accepted tick dispatches as many entries as it answers, from the front of
+//! its list. Every one of them counts for the disk, once, whatever client and
+//! supplier it names. For the client that it names it counts if that is a joined
+//! client, and for the classes below the root if they are met on the way up from
+//! the supplier that it names; a number that no joined node has leads nowhere.
+//!
+//! Two things only a faulty controller does. Where a tick answers more than its
+//! list has whole entries, those in the list count. A negative size counts 0
+//! grains: it makes up for nothing that was dispatched beside it.
 //!
 //! # All stretches in one pass
 //!
 //! Give every node a running sum, its drift. For a client it is all its rates
-//! so far less all grains dispatched for it; for a class all grains charged
-//! less all its rates. What a stretch adds is then the drift at its end less
-//! the drift at its start, and both promises say that this stays under a bound.
-//! For one end the worst start is the one with the lowest drift among all
-//! allowed starts, so it is enough to keep that lowest drift and its position.
-//! Allowed starts of a class are all positions since its join. Those of a
-//! client are all positions since it last had nothing waiting, that one
-//! included: the call after it may be the request itself.
+//! so far less all grains dispatched for it; for the disk all grains dispatched,
+//! and for a class all grains charged, less all its rates. What a stretch adds
+//! is then the drift at its end less the drift at its start, and all promises
+//! say that this stays under a bound. For one end the worst start is the one
+//! with the lowest drift among all allowed starts, so it is enough to keep that
+//! lowest drift and its position. Allowed starts of the disk are all positions;
+//! those of a class, all since its join; those of a client, all since it last
+//! had nothing waiting, that one included: the call after it may be the request
+//! itself.
 
 use std::fmt;
 use std::ops::Range;
@@ -33,7 +48,7 @@ use crate::rates::Division;
 use crate::steps::{Call, Reply, Step, World};
 use crate::table::{node_number, CLASS, CLIENT, FIXED, GRAINS, MAX_SHARE, NODES, ROOT, WEIGHTED};
 
-/// Depths by which a class may exceed its rates.
+/// Depths by which the disk or a class may exceed its rates.
 const CLASS_DEPTHS: i128 = 5;
 
 /// A broken promise.
@@ -47,9 +62,10 @@ pub struct Violation {
     /// right after open has position 0.
     pub stretch: Range<usize>,
     /// Grains of the stretch that count: rates less dispatched for a client,
-    /// charged less rates for a class.
+    /// dispatched less rates for the disk, charged less rates for a class.
     pub grains: i128,
-    /// The bound: grains must stay under it (client) or not exceed it (class).
+    /// The bound: grains must stay under it (client) or not exceed it (disk,
+    /// class).
     pub bound: i128,
 }
 
@@ -204,7 +220,7 @@ impl Judge {
     }
 
     /// An accepted call of the list. What no right controller accepts, such as
-    /// a node number of 64, counts for nothing.
+    /// a join of 64 or of the root, counts for nothing.
     fn accept(&mut self, call: &Call, answer: i64, list: &[i64]) {
         match *call {
             Call::Join(ref new) => self.add(new),
@@ -231,7 +247,8 @@ impl Judge {
     }
 
     fn add(&mut self, new: &NewNode) {
-        if let (Some(node), Some(parent)) = (node_number(new.node), node_number(new.parent)) {
+        let node = node_number(new.node).filter(|&node| node != ROOT);
+        if let (Some(node), Some(parent)) = (node, node_number(new.parent)) {
             let NewNode { sort, kind, share, depth, .. } = *new;
             let account = Account::new(parent, sort, kind, share, depth, self.position);
             self.tree[node] = Some(account);
@@ -244,7 +261,8 @@ impl Judge {
         }
     }
 
-    /// An accepted tick: every node earns its rate, then the entries count.
+    /// An accepted tick: every node earns its rate, then the entries count, as
+    /// many as it answers and the list has whole.
     fn tick(&mut self, answer: i64, list: &[i64]) {
         let rates = self.rates();
         for (account, rate) in self.tree.iter_mut().zip(rates) {
@@ -256,8 +274,10 @@ impl Judge {
         }
         let count = usize::try_from(answer).unwrap_or(0);
         for entry in list.chunks_exact(4).take(count) {
-            let grains = i128::from(entry[2]) * i128::from(GRAINS);
+            // A negative size counts 0.
+            let grains = i128::from(entry[2].max(0)) * i128::from(GRAINS);
             self.count_for_client(entry[0], grains);
+            self.count_for_disk(grains);
             self.charge(entry[3], grains);
         }
     }
@@ -269,17 +289,24 @@ impl Judge {
         }
     }
 
-    /// Charges the classes from the supplier up. The way is no longer than the
-    /// tree has nodes, also where a faulty controller let in a ring.
+    fn count_for_disk(&mut self, grains: i128) {
+        if let Some(disk) = self.tree[ROOT].as_mut() {
+            disk.drift += grains;
+        }
+    }
+
+    /// Charges the classes below the root, from the supplier up. The way is no
+    /// longer than the tree has nodes, also where a faulty controller let in a
+    /// ring.
     fn charge(&mut self, supplier: i64, grains: i128) {
         let mut payer = node_number(supplier);
         for _ in 0..NODES {
-            let Some(node) = payer else { return };
+            let Some(node) = payer.filter(|&node| node != ROOT) else { return };
             let Some(account) = self.tree[node].as_mut() else { return };
             if account.sort == CLASS {
                 account.drift += grains;
             }
-            payer = Some(account.parent).filter(|_| node != ROOT);
+            payer = Some(account.parent);
         }
     }
 

@@ -5,7 +5,7 @@
 //! clause passes over.
 
 use crate::rates;
-use crate::refusal::{require, Answer, BAD_TABLE};
+use crate::refusal::{require, Answer, NOT_IN_ORDER};
 use crate::table::*;
 
 /// One clause of the in-order test, over a table of right length.
@@ -40,12 +40,12 @@ pub fn in_order(table: &[i64]) -> bool {
 
 /// Refusal 1 for a table that is not in order.
 pub fn check(table: &[i64]) -> Answer<()> {
-    require(in_order(table), BAD_TABLE)
+    require(in_order(table), NOT_IN_ORDER)
 }
 
 /// Refusal 1 for a table that has not the right length, whatever it holds.
 pub fn check_length(table: &[i64]) -> Answer<()> {
-    require(table.len() == TABLE_LEN, BAD_TABLE)
+    require(table.len() == TABLE_LEN, NOT_IN_ORDER)
 }
 
 fn header_count(table: &[i64]) -> bool {

@@ -34,10 +34,10 @@ impl Plan {
     /// Decodes a plan of right form, whatever its numbers are. All of cause
     /// 14 is judged here: length, count, offsets and kinds.
     pub fn decode(bytes: &[u8]) -> Answer<Plan> {
-        require(bytes.len() >= HEAD_LEN, PLAN_FORM)?;
+        require(bytes.len() >= HEAD_LEN, PLAN_WRONG)?;
         let count = usize::from(bytes[8]);
-        require(count <= MAX_COUNT, PLAN_FORM)?;
-        require(bytes.len() == plan_len(count), PLAN_FORM)?;
+        require(count <= MAX_COUNT, PLAN_WRONG)?;
+        require(bytes.len() == plan_len(count), PLAN_WRONG)?;
         let nodes: Answer<Vec<NewNode>> =
             (0..count).map(|index| decode_node(bytes, count, index)).collect();
         Ok(Plan { rate: unsigned(&bytes[0..4]), depth: unsigned(&bytes[4..8]), nodes: nodes? })
@@ -83,7 +83,7 @@ pub(crate) fn read(plan: &[u8], table: &mut [i64]) -> Answer<i64> {
     for new in &plan.nodes {
         calls::join(&mut fresh, new)?;
     }
-    require(stands_in_order(&plan, &fresh), PLAN_ORDER)?;
+    require(stands_in_order(&plan, &fresh), PLAN_OUT_OF_ORDER)?;
     table.copy_from_slice(&fresh);
     Ok(0)
 }
@@ -121,9 +121,9 @@ fn body_offset(count: usize, index: usize) -> usize {
 fn decode_node(bytes: &[u8], count: usize, index: usize) -> Answer<NewNode> {
     let entry = &bytes[HEAD_LEN + ENTRY_LEN * index..][..ENTRY_LEN];
     let offset = body_offset(count, index);
-    require(unsigned(&entry[2..4]) == offset as i64, PLAN_FORM)?;
+    require(unsigned(&entry[2..4]) == offset as i64, PLAN_WRONG)?;
     let body = &bytes[offset..offset + BODY_LEN];
-    let (sort, kind) = sort_and_kind(body[0]).ok_or(PLAN_FORM)?;
+    let (sort, kind) = sort_and_kind(body[0]).ok_or(PLAN_WRONG)?;
     Ok(NewNode {
         node: i64::from(entry[0]),
         parent: i64::from(entry[1]),

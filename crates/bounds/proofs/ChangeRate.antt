@@ -22,7 +22,7 @@ use Rattle.bounds.proofs.Changes.{Change, all-same}
 use Rattle.bounds.proofs.Renewing.{kept-order, renewed-agrees, renewed-same}
 
 pub rate-change :
-    (t : List ℤ) (o : Observer) (rate : ℤ) → Agrees t o → changeRateRefusal t rate ≡ root
+    (t : List ℤ) (o : Observer) (rate : ℤ) → Agrees t o → changeRateRefusal t rate ≡ 0
     → Change t (renewed (put t root rateAt rate)) o (afterAccepted o (changeRate rate) []) (λ c. leaves c (changeRate rate))
 unfolding changeRateTable afterAccepted rateOf balance waiting
 rate-change t o rate a h =

@@ -35,7 +35,7 @@ rerated-ready t rate f within =
     (root-kept t (put t root rateAt rate) (λ p hp. place-put-place t root rateAt rate 0 p (omega arith) (omega arith) (omega arith))
     (rw (place-put-same t root rateAt rate (f .long) (omega arith) (omega arith)) within) (f .root))
 
-changed : (t : List ℤ) (rate : ℤ) → changeRateRefusal t rate ≡ root → inOrder (renewed (put t root rateAt rate)) ≡ true
+changed : (t : List ℤ) (rate : ℤ) → changeRateRefusal t rate ≡ 0 → inOrder (renewed (put t root rateAt rate)) ≡ true
 changed t rate h =
     let passed = change-rate-passed t rate h in
     ready-renewed (put t root rateAt rate) (rerated-ready t rate (ready t (facts t (passed .order))) (passed .within))
@@ -45,5 +45,5 @@ pub change-rate-keeps-order : (t : List ℤ) (rate : ℤ) → inOrder t ≡ true
 unfolding changeRateTable
 change-rate-keeps-order t rate = kept-in-order (changeRateRefusal t rate) (renewed (put t root rateAt rate)) t (changed t rate)
 
-pub change-rate-keeps : (t : List ℤ) (rate : ℤ) → changeRateRefusal t rate ≡ root → inOrder (changeRateTable t rate) ≡ true
+pub change-rate-keeps : (t : List ℤ) (rate : ℤ) → changeRateRefusal t rate ≡ 0 → inOrder (changeRateTable t rate) ≡ true
 change-rate-keeps t rate h = change-rate-keeps-order t rate (change-rate-passed t rate h .order)

@@ -161,7 +161,7 @@ pub record ChangeRatePassed (t : List ℤ) (rate : ℤ) : Type 0 where
   pub order : inOrder t ≡ true
   pub within : withinℤ 1 greatestRate rate ≡ true
 
-pub change-rate-passed : (t : List ℤ) (rate : ℤ) → changeRateRefusal t rate ≡ root → ChangeRatePassed t rate
+pub change-rate-passed : (t : List ℤ) (rate : ℤ) → changeRateRefusal t rate ≡ 0 → ChangeRatePassed t rate
 unfolding changeRateRefusal
 change-rate-passed t rate h =
     let p1 = none-first 1 _ _ (omega arith) h in

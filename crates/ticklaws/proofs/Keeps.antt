@@ -7,7 +7,7 @@ use native.Mathlib.Omega.{arith}
 use lib.IntN.{ℤ}
 use Rattle.table.specs.Limits.{nodes}
 use Rattle.table.specs.Order.{inOrder}
-use Rattle.table.specs.Tick.{grown, ready, supplied, next, allWaiting, stepTwo, stepThree, ticked}
+use Rattle.table.specs.Tick.{nobody, grown, ready, supplied, next, allWaiting, stepTwo, stepThree, ticked}
 use Rattle.table.proofs.Facts.{InOrder, facts, from-facts}
 use Rattle.ticklaws.proofs.Reached.{Reached, in-order-again}
 use Rattle.ticklaws.proofs.Grown.{grown-reached}
@@ -39,7 +39,7 @@ module _ (t : List ℤ) (f : InOrder t) where
   ticked-in-order = in-order-again t (ticked t .table) f (ticked-settled .reached) (ticked-settled .under)
 
   -- After step 4 no request has a supplier.
-  pub ticked-suffices : next (ticked t .table) ≡ nodes
+  pub ticked-suffices : next (ticked t .table) ≡ nobody
   unfolding ticked
   ticked-suffices = lent-suffices t f (allWaiting (stepThree t .table)) (stepThree t) three-settled (omega arith)
 

@@ -89,7 +89,7 @@ fn looks(nodes: &[i64]) -> Vec<Step> {
     nodes.iter().map(|&node| look(node)).collect()
 }
 
-/// The edges of document 01, marked or not.
+/// The edges of document 01, marked or not, and some more. What they give is worked by hand in the engine's own tests.
 fn edges() -> Vec<(&'static str, Vec<Step>)> {
     let two = [open(1000, 40), client(5, 0, WEIGHTED, 1, 16), client(6, 0, WEIGHTED, 1, 16)];
     let alone = [open(1000, 40), client(5, 0, WEIGHTED, 4, 16)];
@@ -135,6 +135,14 @@ fn edges() -> Vec<(&'static str, Vec<Step>)> {
                 vec![open(1000, 40), client(1, 0, FIXED, 3333, 1), client(2, 0, FIXED, 3333, 1)],
                 vec![client(3, 0, FIXED, 3334, 1), client(4, 0, WEIGHTED, 1, 1)],
                 looks(&[1, 2, 3, 4]),
+            ]
+            .concat(),
+        ),
+        (
+            "a weight beside fixed 3333",
+            [
+                vec![open(1000, 40), client(1, 0, FIXED, 3333, 1), client(2, 0, WEIGHTED, 1, 1)],
+                looks(&[0, 1, 2]),
             ]
             .concat(),
         ),
@@ -266,6 +274,21 @@ fn edges() -> Vec<(&'static str, Vec<Step>)> {
             ]
             .concat(),
         ),
+        (
+            "same of different trees",
+            [&two[..], &[Step::Keep], &alone, &[same(false), same(true)]].concat(),
+        ),
+        (
+            "same, the kept table out of order, then both",
+            [
+                &two[..],
+                &[poke(5, BALANCE, -1), Step::Keep, poke(5, BALANCE, 0)],
+                &[look(5), same(false), same(true)],
+                &[poke(5, BALANCE, -1), look(5), same(false), same(true)],
+            ]
+            .concat(),
+        ),
+        ("looks at no node", [&alone[..], &looks(&[-1, 64, 4, 6, 63, 0, 5])].concat()),
         (
             "no bucket is full at joining",
             [&two[..], &[tick(0), tick(0), leave(5), client(5, 0, WEIGHTED, 1, 16), look(5)]]

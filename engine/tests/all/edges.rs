@@ -1,4 +1,4 @@
-//! The edges of document 01, with its numbers.
+//! The edges of document 01, with its numbers, and some more worked by hand.
 
 use crate::support::*;
 use hds_engine::refusal::*;
@@ -39,6 +39,16 @@ fn a_weight_beside_three_thirds_gets_nothing() {
     }
     disk.join(client(4, 0, WEIGHTED, 1, 1)).unwrap();
     assert_eq!([1, 2, 3, 4].map(|node| disk.rate(node)), [333, 333, 333, 0]);
+}
+
+#[test]
+fn a_weight_beside_a_third() {
+    // 1000 × 3333 / 10,000 is 333.3; what is left, 1000 × 6667 / 10,000, is
+    // 666.7, and the lone weight gets it whole. One grain goes to nobody.
+    let mut disk = Disk::open(1000, 40);
+    disk.join(client(1, 0, FIXED, 3333, 1)).unwrap();
+    disk.join(client(2, 0, WEIGHTED, 1, 1)).unwrap();
+    assert_eq!([0, 1, 2].map(|node| disk.rate(node)), [1000, 333, 666]);
 }
 
 #[test]
@@ -102,6 +112,35 @@ fn two_equal_clients() -> Disk {
 }
 
 #[test]
+fn same_of_different_trees() {
+    let mut alone = Disk::open(1000, 40);
+    alone.join(client(5, 0, WEIGHTED, 4, 16)).unwrap();
+    assert_eq!(two_equal_clients().same(&alone), Ok(false));
+    assert_eq!(alone.same(&two_equal_clients()), Ok(false));
+}
+
+#[test]
+fn same_with_a_table_out_of_order() {
+    let mut disk = two_equal_clients();
+    let mut broken = two_equal_clients();
+    broken.poke(5, BALANCE, -1);
+    assert_eq!(disk.same(&broken), Err(NOT_IN_ORDER));
+    assert_eq!(broken.same(&disk), Err(NOT_IN_ORDER));
+    disk.poke(5, BALANCE, -1);
+    assert_eq!(disk.same(&broken), Err(NOT_IN_ORDER));
+}
+
+#[test]
+fn looks_at_no_node() {
+    let mut disk = Disk::open(1000, 40);
+    disk.join(client(5, 0, WEIGHTED, 4, 16)).unwrap();
+    for (node, number) in [(-1, 2), (64, 2), (4, 3), (6, 3), (63, 3)] {
+        assert_eq!(disk.look(node), Err(number));
+    }
+    assert_eq!([0, 5].map(|node| disk.look(node)), [Ok([1000, 0, 0]); 2]);
+}
+
+#[test]
 fn the_root_goes_into_debt() {
     let mut disk = Disk::open(1000, 2);
     disk.join(client(1, 0, WEIGHTED, 1, 1)).unwrap();
@@ -142,7 +181,7 @@ fn the_ninth_waiting_request() {
     for arrival in 1..=8 {
         assert_eq!(disk.request(5, -arrival, 16), Ok(arrival));
     }
-    assert_eq!(disk.request(5, 0, 1), Err(WAITING_FULL));
+    assert_eq!(disk.request(5, 0, 1), Err(QUEUE_FULL));
     assert_eq!(disk.look(5), Ok([1, 0, 8]));
 }
 

@@ -3,7 +3,7 @@
 use crate::support::*;
 use hds_engine::differential::{differential, differential_runs, first_difference};
 use hds_engine::faulty::{Fault, Faulty, FAULTS};
-use hds_engine::judge::{watch, Promise};
+use hds_engine::judge::{watch, Promise, Violation};
 use hds_engine::order::CLAUSES;
 use hds_engine::random::{run, Profile};
 use hds_engine::steps::{Call, Step};
@@ -11,7 +11,7 @@ use hds_engine::table::*;
 use hds_engine::Engine;
 
 /// Faults that the judge must object to, with the promise that is broken.
-pub const LOUD: [(Fault, Promise); 11] = [
+pub const LOUD: [(Fault, Promise); 12] = [
     (Fault::CutsFirst, Promise::Client),
     (Fault::ChargesClient, Promise::Client),
     (Fault::SparesRoot, Promise::Disk),
@@ -22,6 +22,7 @@ pub const LOUD: [(Fault, Promise); 11] = [
     (Fault::ForgivesDebt, Promise::Disk),
     (Fault::ListsNothing, Promise::Client),
     (Fault::AllAtOnce, Promise::Disk),
+    (Fault::NamesNobody, Promise::Disk),
     (Fault::OwnOnce, Promise::Client),
 ];
 
@@ -32,7 +33,9 @@ pub fn scenario(fault: Fault) -> Vec<Step> {
         Fault::WeighsWholeRate => weight_beside_the_whole(),
         Fault::FullBucket => comes_and_goes(),
         Fault::ForgivesDebt => class_in_debt_leaves(),
-        Fault::SparesRoot | Fault::TakesLarger | Fault::AllAtOnce => one_client(1000, 10),
+        Fault::SparesRoot | Fault::TakesLarger | Fault::AllAtOnce | Fault::NamesNobody => {
+            one_client(1000, 10)
+        }
         _ => one_client(3500, 1),
     })
 }
@@ -118,6 +121,24 @@ fn the_judge_is_loud_on_faults() {
 fn all_at_once_breaks_the_other_promise_later() {
     let found = watch(&mut Faulty::new(Fault::AllAtOnce), &scenario(Fault::AllAtOnce));
     assert!(found.iter().any(|found| found.promise == Promise::Client));
+}
+
+#[test]
+fn naming_nobody_breaks_the_disks_promise_alone() {
+    // Eight requests of 10 tokens go at the tick after them, and the rate is
+    // 1000: 79,000 grains above it, where five depths are 50,000.
+    let found = watch(&mut Faulty::new(Fault::NamesNobody), &scenario(Fault::NamesNobody));
+    let (promise, stretch) = (Promise::Disk, 9..10);
+    assert_eq!(found, [Violation { promise, node: 0, stretch, grains: 79_000, bound: 50_000 }]);
+    // No client waits after a tick and no class is ever charged, so it is the
+    // disk in random runs too.
+    let mut loud = 0;
+    for seed in 0..20 {
+        let found = watch(&mut Faulty::new(Fault::NamesNobody), &run(seed, 400, Profile::Clean));
+        assert!(found.iter().all(|found| found.promise == Promise::Disk));
+        loud += found.len();
+    }
+    assert!(loud > 0);
 }
 
 #[test]

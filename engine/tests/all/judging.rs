@@ -7,6 +7,7 @@ use crate::support::*;
 use hds_engine::faulty::{Fault, Faulty};
 use hds_engine::judge::{watch, Judge, Promise, Violation};
 use hds_engine::random::{run, Profile, Rng};
+use hds_engine::refusal::{BUFFER_SHORT, QUEUE_FULL};
 use hds_engine::steps::{Call, Reply, Step, World};
 use hds_engine::table::*;
 use hds_engine::{Controller, Engine, NewNode};
@@ -26,8 +27,11 @@ impl Told {
     }
 
     fn tick(&mut self, entries: &[Entry]) {
-        let list = entries.concat();
-        self.0.observe(&tick(), Reply::Number(entries.len() as i64), &list);
+        self.tick_answers(entries.len() as i64, &entries.concat());
+    }
+
+    fn tick_answers(&mut self, answer: i64, list: &[i64]) {
+        self.0.observe(&tick(), Reply::Number(answer), list);
     }
 
     fn found(&self) -> Vec<(Promise, usize, std::ops::Range<usize>)> {
@@ -69,13 +73,13 @@ fn a_client_counts_only_while_it_waits() {
     assert_eq!(told.found(), []);
     // Refused requests do not make it wait.
     for _ in 0..5 {
-        told.0.observe(&request(5, 1), Reply::Refused(11), &[]);
+        told.0.observe(&request(5, 1), Reply::Refused(QUEUE_FULL), &[]);
         told.tick(&[]);
     }
     assert_eq!(told.found(), []);
     // Refused ticks bring no rate.
     told.accepted(request(5, 1));
-    (0..5).for_each(|_| told.0.observe(&tick(), Reply::Refused(13), &[]));
+    (0..5).for_each(|_| told.0.observe(&tick(), Reply::Refused(BUFFER_SHORT), &[]));
     assert_eq!(told.found(), []);
 }
 
@@ -101,6 +105,134 @@ fn the_disk_may_exceed_its_rate_by_five_depths() {
         told.tick(&[[5, 0, 1, 5]; 3]);
         assert_eq!(told.found(), found);
     }
+}
+
+/// Numbers that name no joined node where only 0 and 5 are joined.
+const NOBODY: [i64; 7] = [i64::MIN, -1, 1, 6, 63, 64, i64::MAX];
+
+/// The disk at its boundary, with one tick that may dispatch 6 tokens: a depth
+/// of 1 gives 5000 grains beside a rate of 1000. With a rate of 999 it is one
+/// grain too much.
+const SIX_TOKENS: [(i64, usize); 2] = [(1000, 0), (999, 1)];
+
+#[test]
+fn every_entry_counts_for_the_disk_whatever_supplier_it_names() {
+    for supplier in [0, 5].into_iter().chain(NOBODY) {
+        for (rate, broken) in SIX_TOKENS {
+            let mut told = Told::new(rate, 1);
+            told.accepted(Call::Join(client(5, 0, WEIGHTED, 1, 1)));
+            told.tick(&[[5, 0, 1, supplier]; 6]);
+            let found = [(Promise::Disk, 0, 1..2)];
+            assert_eq!(told.found(), found[..broken], "{supplier}");
+        }
+    }
+}
+
+#[test]
+fn every_entry_counts_for_the_disk_whatever_client_it_names() {
+    for client in [0].into_iter().chain(NOBODY) {
+        for (rate, broken) in SIX_TOKENS {
+            let mut told = Told::new(rate, 1);
+            told.tick(&[[client, 0, 1, 0], [client, 0, 1, client], [client, 0, 4, 6]]);
+            let found = [(Promise::Disk, 0, 0..1)];
+            assert_eq!(told.found(), found[..broken], "{client}");
+        }
+    }
+}
+
+#[test]
+fn entries_without_a_supplier_count_in_every_stretch() {
+    // From the second tick on, 3, 1 and 4 tokens are three rates and five
+    // depths. With 2 more they are 10,000 grains where 9000 may be; all five
+    // ticks may have 10,000.
+    let mut told = Told::new(1000, 1);
+    for size in [0, 3, 1, 4, 2] {
+        assert_eq!(told.found(), []);
+        told.tick(&[[5, 0, size, 64]]);
+    }
+    assert_eq!(told.found(), [(Promise::Disk, 0, 1..5)]);
+}
+
+#[test]
+fn a_supplier_that_left_counts_for_the_disk() {
+    for (rate, broken) in SIX_TOKENS {
+        let mut told = Told::new(rate, 1);
+        told.accepted(Call::Join(class(1, 0, WEIGHTED, 1, 1)));
+        told.accepted(Call::Leave { node: 1 });
+        told.tick(&[[5, 0, 6, 1]]);
+        assert_eq!(told.found().len(), broken);
+    }
+}
+
+#[test]
+fn the_disk_counts_once_and_classes_by_the_way_up() {
+    // The root and classes 1 and 2 have the disk's rate and depth 4. Seven
+    // entries of 3 tokens are 21,000 grains: five depths and a rate of 1000.
+    for (supplier, payers) in [
+        (5, vec![0, 1, 2]),
+        (2, vec![0, 1, 2]),
+        (1, vec![0, 1]),
+        (0, vec![0]),
+        (6, vec![0]),
+        (64, vec![0]),
+        (-1, vec![0]),
+    ] {
+        for (rate, broken) in [(1000, vec![]), (999, payers)] {
+            let mut told = Told::new(rate, 4);
+            told.accepted(Call::Join(class(1, 0, WEIGHTED, 1, 4)));
+            told.accepted(Call::Join(class(2, 1, WEIGHTED, 1, 4)));
+            told.accepted(Call::Join(client(5, 2, WEIGHTED, 1, 4)));
+            told.tick(&[[5, 0, 3, supplier]; 7]);
+            let found: Vec<usize> = told.found().into_iter().map(|(_, node, _)| node).collect();
+            assert_eq!(found, broken, "supplier {supplier}");
+        }
+    }
+}
+
+#[test]
+fn as_many_entries_count_as_the_tick_answers_and_the_list_has() {
+    // Six tokens pass. The list has seven, and half an entry behind them.
+    let list = [[[5, 0, 1, 64]; 7].concat(), vec![5, 0]].concat();
+    for (answer, length, broken) in [
+        (6, 30, 0),
+        (7, 28, 1),
+        (7, 27, 0),
+        (i64::MAX, 27, 0),
+        (i64::MAX, 30, 1),
+        (0, 30, 0),
+        (-7, 30, 0),
+    ] {
+        let mut told = Told::new(1000, 1);
+        told.tick_answers(answer, &list[..length]);
+        assert_eq!(told.found().len(), broken, "{answer} of {length} numbers");
+    }
+}
+
+#[test]
+fn a_negative_size_counts_nothing() {
+    for (size, broken) in [(6, 0), (7, 1)] {
+        let mut told = Told::new(1000, 1);
+        told.accepted(Call::Join(client(5, 0, WEIGHTED, 1, 1)));
+        told.tick(&[[5, 0, -1, 5], [5, 0, size, 64], [5, 0, i64::MIN, 0]]);
+        assert_eq!(told.found().len(), broken);
+    }
+    // A client of depth 1 may lag 500 grains, and not 1000.
+    let mut told = Told::new(500, 1);
+    told.accepted(Call::Join(client(5, 0, WEIGHTED, 1, 1)));
+    (0..3).for_each(|_| told.accepted(request(5, 1)));
+    told.tick(&[[5, 0, -1, 5]]);
+    assert_eq!(told.found(), []);
+    told.tick(&[[5, 0, -1, 5]]);
+    assert_eq!(told.found(), [(Promise::Client, 5, 4..6)]);
+}
+
+#[test]
+fn a_join_of_the_root_leaves_the_disk_its_promise() {
+    let mut told = Told::new(1000, 1);
+    told.accepted(Call::Join(client(0, 0, WEIGHTED, 1, 1000)));
+    told.accepted(Call::Join(class(0, 0, FIXED, 10_000, 1000)));
+    told.tick(&[[5, 0, 7, 0]]);
+    assert_eq!(told.found(), [(Promise::Disk, 0, 2..3)]);
 }
 
 #[test]
@@ -323,11 +455,11 @@ fn next_moment(last: &Moment, call: &Call, reply: Option<Reply>, list: &[i64]) -
                 let (client, grains) = (entry[0] as usize, entry[2] * 1000);
                 *next.dispatched.entry(client).or_insert(0) += grains;
                 *next.open_requests.get_mut(&client).unwrap() -= 1;
+                *next.charged.entry(0).or_insert(0) += grains;
                 let mut payer = entry[3] as usize;
-                *next.charged.entry(payer).or_insert(0) += grains;
-                while payer != 0 {
-                    payer = last.tree[&payer].parent as usize;
+                while let Some(new) = last.tree.get(&payer).filter(|_| payer != 0) {
                     *next.charged.entry(payer).or_insert(0) += grains;
+                    payer = new.parent as usize;
                 }
             }
         }

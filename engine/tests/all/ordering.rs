@@ -6,7 +6,8 @@ use crate::support::*;
 use hds_engine::damage::{any, failing, isolated};
 use hds_engine::order::{in_order, CLAUSES};
 use hds_engine::random::{run, Profile, Rng};
-use hds_engine::steps::{Step, World};
+use hds_engine::refusal::NOT_IN_ORDER;
+use hds_engine::steps::World;
 use hds_engine::table::*;
 use hds_engine::{Controller, Engine};
 
@@ -144,7 +145,7 @@ fn levels_of_classes() {
     }
     disk.join(client(4, 3, WEIGHTED, 1, 10)).unwrap();
     disk.poke(4, SORT, CLASS);
-    assert_eq!(disk.look(0), Err(1));
+    assert_eq!(disk.look(0), Err(NOT_IN_ORDER));
 }
 
 #[test]
@@ -221,7 +222,7 @@ fn every_clause_is_broken_alone() {
             }
             let table = damaged.table.inner();
             assert_eq!(failing(table), [clause]);
-            assert_eq!(Engine.look(table, 0), Err(1));
+            assert_eq!(Engine.look(table, 0), Err(NOT_IN_ORDER));
             broken.insert(clause);
         }
     }
@@ -253,10 +254,7 @@ fn damage_is_of_all_sorts() {
     let (mut lawful, mut lengths, mut several) = (0, 0, 0);
     for _ in 0..500 {
         let steps = any(&mut rng, &table);
-        let mut world = World::default();
-        for (place, &value) in table.iter().enumerate() {
-            world.run(&mut Engine, &Step::Poke { place, value });
-        }
+        let mut world = world_of(&table);
         for step in &steps {
             world.run(&mut Engine, step);
         }

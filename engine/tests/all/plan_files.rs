@@ -7,7 +7,7 @@ use crate::support::*;
 use hds_engine::plan::{check, plan_len, Plan};
 use hds_engine::print::rates_of_plan;
 use hds_engine::random::{run, Profile};
-use hds_engine::steps::World;
+use hds_engine::steps::{Call, World};
 use hds_engine::table::*;
 use hds_engine::{Controller, Engine, NewNode};
 
@@ -166,6 +166,63 @@ fn entries_out_of_order_come_last() {
     ];
     assert_eq!(check(&plan(1000, 40, &nodes)), 0);
     assert_eq!(check(&plan(1000, 40, &[nodes[0], nodes[1], nodes[3], nodes[2]])), 15);
+}
+
+#[test]
+fn causes_of_plan_reading_in_turn() {
+    let child = |node, parent| client(node, parent, WEIGHTED, 1, 1);
+    let upper = |node, parent| class(node, parent, WEIGHTED, 1, 9);
+    let fixed = |node, share| client(node, 0, FIXED, share, 1);
+    let deep = |node, depth| client(node, 0, WEIGHTED, 1, depth);
+    let cases: &[(&[i64], Vec<u8>)] = &[
+        (&[], plan(1000, 40, &[child(1, 0), deep(2, 39)])),
+        // Open, then the joins, then the order.
+        (&[2], plan(0, 40, &[child(1, 0)])),
+        (&[2, 3], plan(0, 40, &[child(1, 9)])),
+        (&[2, 8, 15], plan(1000, 0, &[deep(2, 41), child(1, 0)])),
+        (&[2, 15], plan(1000, 40, &[child(2, 0), fixed(1, 0)])),
+        (&[3, 15], plan(1000, 40, &[child(2, 9), upper(9, 0)])),
+        (&[4, 15], plan(1000, 40, &[child(1, 0), child(1, 0)])),
+        (&[5, 15], plan(1000, 40, &[child(3, 0), child(2, 0), child(4, 3)])),
+        (
+            &[6, 15],
+            plan(1000, 40, &[upper(2, 0), upper(1, 0), upper(3, 2), upper(4, 3), upper(5, 4)]),
+        ),
+        (&[7, 15], plan(1000, 40, &[fixed(2, 9999), fixed(1, 2)])),
+        (&[8, 15], plan(1000, 40, &[child(2, 0), deep(1, 40)])),
+        (&[15], plan(1000, 40, &[child(2, 0), deep(1, 39)])),
+        // Of two joins the earlier one, whatever its number is.
+        (&[3, 2], plan(1000, 40, &[child(1, 9), fixed(2, 0)])),
+        (&[8, 2], plan(1000, 40, &[deep(1, 41), fixed(2, 0)])),
+        (&[8, 7], plan(1000, 40, &[fixed(1, 9999), deep(2, 40), fixed(3, 2)])),
+        (&[7, 4, 15], plan(1000, 40, &[fixed(1, 6000), fixed(2, 6000), child(1, 0)])),
+    ];
+    for (causes, bytes) in cases {
+        let (read, check) =
+            (Call::PlanRead { plan: bytes.clone() }, Call::PlanCheck { plan: bytes.clone() });
+        first_cause_counts(&[-1; TABLE_LEN], &[(causes, read.clone()), (causes, check)]);
+        // The table's length comes first, then the plan's form.
+        first_cause_counts(&[-1; TABLE_LEN - 1], &[(&[&[1], *causes].concat(), read)]);
+        for bytes in wrong_in_form(bytes) {
+            let (read, check) =
+                (Call::PlanRead { plan: bytes.clone() }, Call::PlanCheck { plan: bytes });
+            let causes = [&[14], *causes].concat();
+            first_cause_counts(&[-1; TABLE_LEN], &[(&causes, read.clone()), (&causes, check)]);
+            first_cause_counts(&[-1; TABLE_LEN + 1], &[(&[&[1], &causes[..]].concat(), read)]);
+        }
+    }
+}
+
+/// A plan of at least one node with its length, its count, an offset or a kind
+/// made wrong.
+fn wrong_in_form(plan: &[u8]) -> [Vec<u8>; 4] {
+    let first_body = 9 + 4 * usize::from(plan[8]);
+    let with = |place: usize, byte: u8| {
+        let mut bytes = plan.to_vec();
+        bytes[place] = byte;
+        bytes
+    };
+    [[plan, &[0]].concat(), with(8, plan[8] + 1), with(12, 1), with(first_body, 4)]
 }
 
 #[test]

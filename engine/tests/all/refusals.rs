@@ -1,11 +1,15 @@
-//! "What is turned back", call by call. That a refusal leaves all as it was is
-//! seen to by the watched engine of [`Disk`].
+//! "What is turned back", call by call: tables of calls with all causes that
+//! hold of each, of which the first counts. That a refusal leaves all as it was
+//! is seen to by the watched engine.
 
 use crate::support::*;
+use hds_engine::refusal::*;
+use hds_engine::steps::Call;
 use hds_engine::table::*;
 use hds_engine::{Controller, Engine, NewNode};
 
 const OUTSIDE_NODES: [i64; 4] = [i64::MIN, -1, 64, i64::MAX];
+const OUTSIDE_KINDS: [i64; 4] = [i64::MIN, -1, 2, i64::MAX];
 const OUTSIDE_SHARES: [i64; 4] = [i64::MIN, 0, 10_001, i64::MAX];
 const OUTSIDE_DEPTHS: [i64; 4] = [i64::MIN, 0, 1_000_001, i64::MAX];
 const OUTSIDE_RATES: [i64; 4] = [i64::MIN, 0, 1_000_000_001, i64::MAX];
@@ -21,20 +25,73 @@ fn deep() -> Disk {
     disk
 }
 
+fn leave(node: i64) -> Call {
+    Call::Leave { node }
+}
+
+fn change_share(node: i64, kind: i64, share: i64) -> Call {
+    Call::ChangeShare { node, kind, share }
+}
+
+fn change_rate(rate: i64) -> Call {
+    Call::ChangeRate { rate }
+}
+
+fn tick_with(list_len: usize) -> Call {
+    Call::Tick { list_len }
+}
+
+fn look(node: i64) -> Call {
+    Call::Look { node }
+}
+
+fn plan_write(buffer_len: usize) -> Call {
+    Call::PlanWrite { buffer_len }
+}
+
+/// Sees that a number outside its limits, and nothing else, turns each back.
+fn outside_limits(table: &[i64], calls: impl IntoIterator<Item = Call>) {
+    let cases: Vec<(&[i64], Call)> = calls.into_iter().map(|call| (&[2][..], call)).collect();
+    first_cause_counts(table, &cases);
+}
+
+/// The names of the causes, in the order of document 01.
+const CAUSES: [i64; 15] = [
+    NOT_IN_ORDER,
+    OUTSIDE_LIMITS,
+    NOT_THERE,
+    IN_USE,
+    WRONG_NODE,
+    LEVEL_TOO_LOW,
+    SHARES_ABOVE,
+    DEPTH_ABOVE,
+    NOT_EMPTY,
+    IN_DEBT,
+    QUEUE_FULL,
+    COUNT_AT_END,
+    BUFFER_SHORT,
+    PLAN_WRONG,
+    PLAN_OUT_OF_ORDER,
+];
+
 #[test]
-fn open_is_refused() {
+fn the_causes_are_numbered_from_1_to_15() {
+    assert!(CAUSES.into_iter().eq(1..=15));
+}
+
+#[test]
+fn causes_of_open() {
     for length in [0, 1, 8, TABLE_LEN - 1, TABLE_LEN + 1] {
-        let mut table = vec![3; length];
-        assert_eq!(Engine.open(&mut table, 0, 0), Err(1));
-        assert_eq!(Engine.plan_read(&[], &mut table), Err(1));
-        assert_eq!(table, vec![3; length]);
+        first_cause_counts(
+            &vec![3; length],
+            &[(&[1], open(1000, 40)), (&[1, 2], open(0, 40)), (&[1, 2], open(1000, 0))],
+        );
     }
-    let mut table = vec![3; TABLE_LEN];
-    for (rate, depth) in OUTSIDE_RATES.iter().zip(OUTSIDE_DEPTHS) {
-        assert_eq!(Engine.open(&mut table, *rate, 40), Err(2));
-        assert_eq!(Engine.open(&mut table, 1000, depth), Err(2));
-    }
-    assert_eq!(table, vec![3; TABLE_LEN]);
+    // A table of right length may hold anything.
+    let table = vec![3; TABLE_LEN];
+    outside_limits(&table, OUTSIDE_RATES.map(|rate| open(rate, 40)));
+    outside_limits(&table, OUTSIDE_DEPTHS.map(|depth| open(1000, depth)));
+    first_cause_counts(&table, &[(&[], open(1, 1)), (&[], open(1_000_000_000, 1_000_000))]);
 }
 
 #[test]
@@ -48,92 +105,152 @@ fn open_makes_the_root_alone() {
 }
 
 #[test]
-fn every_call_refuses_a_table_out_of_order_first() {
-    let sound = deep().table;
+fn a_table_out_of_order_comes_first() {
+    let nowhere = NewNode { node: -1, parent: -1, sort: -1, kind: -1, share: -1, depth: -1 };
+    let cases: &Cases = &[
+        (&[1], Call::Join(client(9, 0, WEIGHTED, 1, 1))),
+        (&[1, 2, 3], Call::Join(nowhere)),
+        (&[1], leave(5)),
+        (&[1, 2, 3], leave(-1)),
+        (&[1], change_share(5, WEIGHTED, 1)),
+        (&[1, 2], change_share(5, WEIGHTED, 0)),
+        (&[1], change_rate(1)),
+        (&[1, 2], change_rate(0)),
+        (&[1], request(5, 1)),
+        (&[1, 2], request(5, 0)),
+        (&[1], tick_with(4)),
+        (&[1, 13], tick_with(3)),
+        (&[1], look(5)),
+        (&[1, 2, 3], look(-1)),
+        (&[1], plan_write(64)),
+        (&[1, 13], plan_write(63)),
+    ];
+    // One request waits, and the plan of five nodes has 9 + 11 × 5 bytes.
+    let mut disk = deep();
+    disk.request(4, 0, 20).unwrap();
+    let sound = disk.table;
     let mut damaged = sound.clone();
     damaged[7] = 1;
-    for mut table in [damaged, sound[1..].to_vec(), Vec::new()] {
-        let before = table.clone();
-        let nowhere = NewNode { node: -1, parent: -1, sort: -1, kind: -1, share: -1, depth: -1 };
-        assert_eq!(Engine.join(&mut table, &nowhere), Err(1));
-        assert_eq!(Engine.leave(&mut table, -1), Err(1));
-        assert_eq!(Engine.change_share(&mut table, -1, -1, -1), Err(1));
-        assert_eq!(Engine.change_rate(&mut table, -1), Err(1));
-        assert_eq!(Engine.request(&mut table, -1, 0, -1), Err(1));
-        assert_eq!(Engine.tick(&mut table, &mut []), Err(1));
-        assert_eq!(Engine.look(&table, -1), Err(1));
-        assert_eq!(Engine.same(&table, &sound), Err(1));
-        assert_eq!(Engine.same(&sound, &table), Err(1));
-        assert_eq!(Engine.same(&table, &table), Err(1));
-        assert_eq!(Engine.plan_write(&table, &mut []), Err(1));
-        assert_eq!(table, before);
+    for table in [damaged, sound[..TABLE_LEN - 1].to_vec(), [&sound[..], &[0]].concat()] {
+        first_cause_counts(&table, cases);
+    }
+    // Whatever else holds of a table without a root.
+    for table in [vec![], vec![0; TABLE_LEN]] {
+        let cases: Vec<(&[i64], Call)> =
+            cases.iter().map(|(_, call)| (&[1][..], call.clone())).collect();
+        first_cause_counts(&table, &cases);
     }
 }
 
 #[test]
 fn join_outside_limits() {
-    let mut disk = deep();
+    let table = deep().table;
     let right = client(9, 0, WEIGHTED, 1, 1);
-    for node in OUTSIDE_NODES {
-        assert_eq!(disk.join(NewNode { node, ..right }), Err(2));
-        assert_eq!(disk.join(NewNode { parent: node, ..right }), Err(2));
-    }
-    assert_eq!(disk.join(NewNode { node: 0, ..right }), Err(2));
-    for sort in [i64::MIN, -1, 0, 3, i64::MAX] {
-        assert_eq!(disk.join(NewNode { sort, ..right }), Err(2));
-    }
-    for kind in [i64::MIN, -1, 2, i64::MAX] {
-        assert_eq!(disk.join(NewNode { kind, ..right }), Err(2));
-    }
-    for (share, depth) in OUTSIDE_SHARES.iter().zip(OUTSIDE_DEPTHS) {
-        assert_eq!(disk.join(NewNode { share: *share, ..right }), Err(2));
-        assert_eq!(disk.join(NewNode { depth, ..right }), Err(2));
-    }
-    assert_eq!(disk.join(NewNode { node: 63, share: 10_000, ..right }), Ok(0));
+    let join = Call::Join;
+    outside_limits(&table, OUTSIDE_NODES.map(|node| join(NewNode { node, ..right })));
+    let sorts = [i64::MIN, -1, 0, 3, i64::MAX];
+    outside_limits(&table, sorts.map(|sort| join(NewNode { sort, ..right })));
+    outside_limits(&table, OUTSIDE_KINDS.map(|kind| join(NewNode { kind, ..right })));
+    outside_limits(&table, OUTSIDE_SHARES.map(|share| join(NewNode { share, ..right })));
+    let depths = [i64::MIN, 0];
+    outside_limits(&table, depths.map(|depth| join(NewNode { depth, ..right })));
+    // Depths above a million are above the root's too.
+    let cases = [1_000_001, i64::MAX].map(|depth| (&[2, 8][..], join(NewNode { depth, ..right })));
+    first_cause_counts(&table, &cases);
+    // No parent outside the limits is there.
+    let cases = OUTSIDE_NODES.map(|parent| (&[2, 3][..], join(NewNode { parent, ..right })));
+    first_cause_counts(&table, &cases);
 }
 
 #[test]
-fn join_by_rising_cause() {
+fn causes_of_join() {
+    // Client 6 stands on level 3. What is left under the root is fixed 5000 and
+    // depth 30; under class 2, fixed 5000 and depth 5; under class 3, fixed
+    // 5000 and depth 10.
     let mut disk = deep();
-    // Each line mends the first cause of the one before it.
-    assert_eq!(disk.join(class(4, 60, FIXED, 10_001, 1000)), Err(2));
-    assert_eq!(disk.join(class(4, 60, FIXED, 10_000, 1000)), Err(3));
-    assert_eq!(disk.join(class(4, 5, FIXED, 10_000, 1000)), Err(4));
-    assert_eq!(disk.join(class(9, 5, FIXED, 10_000, 1000)), Err(5));
-    assert_eq!(disk.join(class(9, 3, FIXED, 10_000, 1000)), Err(6));
-    assert_eq!(disk.join(class(9, 2, FIXED, 10_000, 1000)), Err(7));
-    assert_eq!(disk.join(class(9, 2, FIXED, 5000, 11)), Err(8));
-    assert_eq!(disk.join(class(9, 2, FIXED, 5000, 10)), Ok(0));
-    assert_eq!(disk.join(client(10, 3, FIXED, 5000, 10)), Ok(0));
+    disk.join(client(6, 2, WEIGHTED, 1, 5)).unwrap();
+    let sort = |sort, new| NewNode { sort, ..new };
+    let cases: &[(&[i64], NewNode)] = &[
+        (&[2, 3], client(9, 60, WEIGHTED, 0, 1)),
+        (&[2, 3, 4], client(5, 60, WEIGHTED, 1, 0)),
+        (&[2, 4], client(0, 0, WEIGHTED, 1, 1)),
+        (&[2, 4], sort(3, client(5, 0, WEIGHTED, 1, 1))),
+        (&[2, 4, 5], client(0, 5, WEIGHTED, 1, 1)),
+        (&[2, 5], client(9, 5, 2, 1, 1)),
+        (&[2, 6], class(9, 3, WEIGHTED, 10_001, 1)),
+        (&[2, 7], client(9, 0, FIXED, 10_001, 1)),
+        (&[2, 8], client(9, 0, WEIGHTED, 1, 1_000_001)),
+        (&[3], client(9, 60, WEIGHTED, 1, 1)),
+        (&[3], class(9, 9, FIXED, 10_000, 1_000_000)),
+        (&[3, 4], client(5, 60, WEIGHTED, 1, 1)),
+        (&[4], client(5, 0, WEIGHTED, 1, 1)),
+        (&[4, 5], client(4, 5, WEIGHTED, 1, 1)),
+        (&[4, 5], client(5, 5, WEIGHTED, 1, 1)),
+        (&[4, 5, 6], class(5, 4, WEIGHTED, 1, 1)),
+        (&[4, 6], class(5, 3, WEIGHTED, 1, 1)),
+        (&[4, 7], client(5, 3, FIXED, 5001, 1)),
+        (&[4, 8], client(5, 3, WEIGHTED, 1, 11)),
+        (&[5], client(9, 4, FIXED, 10_000, 1_000_000)),
+        (&[5], class(9, 5, WEIGHTED, 1, 1)),
+        (&[5, 6], class(9, 6, WEIGHTED, 1, 1)),
+        (&[5, 6], class(9, 4, FIXED, 10_000, 1_000_000)),
+        (&[6], class(9, 3, FIXED, 5000, 10)),
+        (&[6, 7], class(9, 3, FIXED, 5001, 10)),
+        (&[6, 8], class(9, 3, FIXED, 5000, 11)),
+        (&[6, 7, 8], class(9, 3, FIXED, 5001, 11)),
+        (&[7], client(9, 3, FIXED, 5001, 10)),
+        (&[7], class(9, 2, FIXED, 10_000, 5)),
+        (&[7, 8], client(9, 3, FIXED, 5001, 11)),
+        (&[7, 8], class(9, 2, FIXED, 10_000, 1_000_000)),
+        (&[8], client(9, 3, FIXED, 5000, 11)),
+        (&[8], client(9, 3, WEIGHTED, 10_000, 11)),
+        (&[8], class(9, 2, FIXED, 1, 6)),
+        (&[], client(9, 3, FIXED, 5000, 10)),
+        (&[], client(9, 3, WEIGHTED, 10_000, 10)),
+        (&[], class(9, 2, FIXED, 5000, 5)),
+        (&[], client(63, 0, FIXED, 5000, 30)),
+    ];
+    let cases: Vec<(&[i64], Call)> =
+        cases.iter().map(|&(causes, new)| (causes, Call::Join(new))).collect();
+    first_cause_counts(&disk.table, &cases);
 }
 
 #[test]
-fn leave_by_rising_cause() {
+fn causes_of_leave() {
     let mut disk = deep();
-    for node in OUTSIDE_NODES {
-        assert_eq!(disk.leave(node), Err(2));
-    }
-    assert_eq!(disk.leave(6), Err(3));
-    assert_eq!(disk.leave(0), Err(5));
-    assert_eq!(disk.leave(3), Err(9));
     disk.request(4, 0, 20).unwrap();
-    assert_eq!(disk.leave(4), Err(9));
-}
-
-#[test]
-fn leave_of_a_class_in_debt() {
+    first_cause_counts(&disk.table, &OUTSIDE_NODES.map(|node| (&[2, 3][..], leave(node))));
+    first_cause_counts(
+        &disk.table,
+        &[
+            (&[3], leave(6)),
+            (&[3], leave(63)),
+            (&[5, 9], leave(0)),
+            (&[9], leave(1)),
+            (&[9], leave(3)),
+            (&[9], leave(4)),
+            (&[], leave(5)),
+        ],
+    );
+    // The root and class 3 in debt.
     let mut disk = deep();
+    disk.poke(0, BALANCE, -1);
+    disk.poke(3, BALANCE, -1);
+    first_cause_counts(
+        &disk.table,
+        &[(&[5, 9, 10], leave(0)), (&[9, 10], leave(3)), (&[], leave(4))],
+    );
     disk.leave(4).unwrap();
-    disk.poke(3, BALANCE, -1);
-    assert_eq!(disk.leave(3), Err(10));
-    disk.poke(3, BALANCE, 0);
-    assert_eq!(disk.leave(3), Ok(0));
-    disk.poke(2, BALANCE, 40_000);
-    assert_eq!(disk.leave(2), Ok(0));
-    // Children count before the debt.
-    let mut disk = deep();
-    disk.poke(3, BALANCE, -1);
-    assert_eq!(disk.leave(3), Err(9));
+    first_cause_counts(&disk.table, &[(&[10], leave(3))]);
+    for balance in [0, 30_000] {
+        disk.poke(3, BALANCE, balance);
+        first_cause_counts(&disk.table, &[(&[], leave(3))]);
+    }
+    // The root alone.
+    let mut disk = Disk::open(1000, 40);
+    first_cause_counts(&disk.table, &[(&[5], leave(0))]);
+    disk.poke(0, BALANCE, -1);
+    first_cause_counts(&disk.table, &[(&[5, 10], leave(0))]);
 }
 
 #[test]
@@ -151,32 +268,49 @@ fn leave_gives_the_rate_back_and_zeroes_the_record() {
 }
 
 #[test]
-fn change_share_by_rising_cause() {
+fn causes_of_change_share() {
+    let table = deep().table;
+    outside_limits(&table, OUTSIDE_KINDS.map(|kind| change_share(5, kind, 1)));
+    outside_limits(&table, OUTSIDE_SHARES.map(|share| change_share(5, WEIGHTED, share)));
+    let cases = OUTSIDE_NODES.map(|node| (&[2, 3][..], change_share(node, FIXED, 1)));
+    first_cause_counts(&table, &cases);
+    // Class 1 leaves fixed 5000 for client 5.
+    first_cause_counts(
+        &table,
+        &[
+            (&[2, 3], change_share(60, FIXED, 0)),
+            (&[2, 3], change_share(60, 2, 1)),
+            (&[2, 5], change_share(0, WEIGHTED, 0)),
+            (&[2, 5], change_share(0, 2, 10_000)),
+            (&[2, 7], change_share(5, FIXED, 10_001)),
+            (&[3], change_share(60, FIXED, 1)),
+            (&[3], change_share(60, FIXED, 10_000)),
+            (&[5], change_share(0, FIXED, 10_000)),
+            (&[5], change_share(0, WEIGHTED, 1)),
+            (&[7], change_share(5, FIXED, 5001)),
+            (&[7], change_share(5, FIXED, 10_000)),
+            (&[], change_share(5, FIXED, 5000)),
+            (&[], change_share(5, WEIGHTED, 10_000)),
+            (&[], change_share(1, FIXED, 10_000)),
+            (&[], change_share(1, WEIGHTED, 1)),
+        ],
+    );
+}
+
+#[test]
+fn change_share_does_not_count_the_share_before() {
     let mut disk = deep();
-    for node in OUTSIDE_NODES {
-        assert_eq!(disk.change_share(node, FIXED, 1), Err(2));
-    }
-    for share in OUTSIDE_SHARES {
-        assert_eq!(disk.change_share(60, FIXED, share), Err(2));
-    }
-    for kind in [i64::MIN, -1, 2, i64::MAX] {
-        assert_eq!(disk.change_share(60, kind, 1), Err(2));
-    }
-    assert_eq!(disk.change_share(60, FIXED, 1), Err(3));
-    assert_eq!(disk.change_share(0, FIXED, 10_000), Err(5));
-    assert_eq!(disk.change_share(5, FIXED, 5001), Err(7));
     assert_eq!(disk.change_share(5, FIXED, 5000), Ok(0));
     assert_eq!(disk.change_share(5, FIXED, 4999), Ok(0));
     assert_eq!(disk.change_share(1, FIXED, 5001), Ok(0));
     assert_eq!([1, 2, 3, 4, 5].map(|node| disk.rate(node)), [500, 250, 125, 62, 499]);
+    assert_eq!(disk.change_share(1, FIXED, 5002), Err(7));
 }
 
 #[test]
-fn change_rate_within_limits_only() {
+fn causes_of_change_rate() {
     let mut disk = deep();
-    for rate in OUTSIDE_RATES {
-        assert_eq!(disk.change_rate(rate), Err(2));
-    }
+    outside_limits(&disk.table, OUTSIDE_RATES.map(change_rate));
     assert_eq!(disk.change_rate(1), Ok(0));
     assert_eq!([0, 1, 5].map(|node| disk.rate(node)), [1, 0, 0]);
     assert_eq!(disk.change_rate(1_000_000_000), Ok(0));
@@ -184,38 +318,110 @@ fn change_rate_within_limits_only() {
 }
 
 #[test]
-fn request_by_rising_cause() {
+fn causes_of_request() {
+    // Eight wait at client 4; clients 4 and 5 have depth 20.
     let mut disk = deep();
-    for node in OUTSIDE_NODES {
-        assert_eq!(disk.request(node, 0, 1), Err(2));
-    }
-    assert_eq!(disk.request(60, 0, 0), Err(2));
-    assert_eq!(disk.request(60, 0, 1000), Err(3));
-    assert_eq!(disk.request(3, 0, 1000), Err(5));
-    assert_eq!(disk.request(0, 0, 1000), Err(5));
     for _ in 0..8 {
         disk.request(4, i64::MIN, 20).unwrap();
     }
+    outside_limits(&disk.table, [i64::MIN, -1, 0].map(|size| request(5, size)));
+    first_cause_counts(&disk.table, &OUTSIDE_NODES.map(|node| (&[2, 3][..], request(node, 1))));
+    first_cause_counts(
+        &disk.table,
+        &[
+            (&[2, 3], request(60, 0)),
+            (&[2, 5], request(3, 0)),
+            (&[2, 5], request(0, 0)),
+            (&[2, 11], request(4, 0)),
+            (&[3], request(60, 1)),
+            (&[3], request(60, i64::MAX)),
+            (&[5], request(3, 1)),
+            (&[5], request(0, i64::MAX)),
+            (&[8], request(5, 21)),
+            (&[8], request(5, i64::MAX)),
+            (&[8, 11], request(4, 21)),
+            (&[11], request(4, 20)),
+            (&[11], request(4, 1)),
+            (&[], request(5, 20)),
+            (&[], request(5, 1)),
+        ],
+    );
     disk.table[ACCEPTED] = MAX_ACCEPTED;
-    assert_eq!(disk.request(4, 0, 21), Err(8));
-    assert_eq!(disk.request(4, 0, 20), Err(11));
-    assert_eq!(disk.request(5, 0, 20), Err(12));
+    first_cause_counts(
+        &disk.table,
+        &[
+            (&[2, 12], request(5, 0)),
+            (&[2, 3, 12], request(60, 0)),
+            (&[2, 5, 12], request(3, 0)),
+            (&[2, 11, 12], request(4, 0)),
+            (&[3, 12], request(60, 1)),
+            (&[5, 12], request(3, 1)),
+            (&[8, 12], request(5, 21)),
+            (&[8, 11, 12], request(4, 21)),
+            (&[11, 12], request(4, 20)),
+            (&[12], request(5, 20)),
+        ],
+    );
     disk.table[ACCEPTED] = MAX_ACCEPTED - 1;
     assert_eq!(disk.request(5, i64::MAX, 20), Ok(MAX_ACCEPTED));
     assert_eq!(disk.request(5, 0, 20), Err(12));
 }
 
 #[test]
-fn look_by_rising_cause() {
+fn causes_of_tick() {
     let mut disk = deep();
-    for node in OUTSIDE_NODES {
-        assert_eq!(disk.look(node), Err(2));
-    }
-    assert_eq!(disk.look(60), Err(3));
+    first_cause_counts(&disk.table, &[(&[], tick_with(0)), (&[], tick_with(1))]);
+    disk.request(4, 0, 20).unwrap();
+    disk.request(5, 0, 20).unwrap();
+    first_cause_counts(
+        &disk.table,
+        &[(&[13], tick_with(0)), (&[13], tick_with(7)), (&[], tick_with(8)), (&[], tick_with(9))],
+    );
+    // Also where nothing is dispatched, all that wait count.
+    assert_eq!(disk.tick(), Vec::<Entry>::new());
+}
+
+#[test]
+fn causes_of_look() {
+    let mut disk = deep();
+    first_cause_counts(&disk.table, &OUTSIDE_NODES.map(|node| (&[2, 3][..], look(node))));
+    first_cause_counts(&disk.table, &[(&[3], look(60)), (&[3], look(6)), (&[3], look(63))]);
     assert_eq!(disk.look(0), Ok([1000, 0, 0]));
     disk.request(4, 0, 20).unwrap();
     assert_eq!(disk.tick(), Vec::<Entry>::new());
     assert_eq!(disk.look(4), Ok([62, 62, 1]));
+}
+
+#[test]
+fn causes_of_plan_write() {
+    first_cause_counts(
+        &deep().table,
+        &[
+            (&[13], plan_write(0)),
+            (&[13], plan_write(63)),
+            (&[], plan_write(64)),
+            (&[], plan_write(65)),
+        ],
+    );
+    let alone = Disk::open(1, 1).table;
+    first_cause_counts(&alone, &[(&[13], plan_write(8)), (&[], plan_write(9))]);
+}
+
+#[test]
+fn causes_of_same() {
+    let sound = deep().table;
+    let other = Disk::open(1000, 100).table;
+    let mut damaged = sound.clone();
+    damaged[7] = 1;
+    let broken = [damaged, sound[1..].to_vec(), [&sound[..], &[0]].concat(), Vec::new()];
+    for table in &broken {
+        assert_eq!(Engine.same(table, &sound), Err(1));
+        assert_eq!(Engine.same(&sound, table), Err(1));
+        assert_eq!(Engine.same(&other, table), Err(1));
+        assert!(broken.iter().all(|second| Engine.same(table, second) == Err(1)));
+    }
+    assert_eq!(Engine.same(&sound, &sound), Ok(true));
+    assert_eq!(Engine.same(&sound, &other), Ok(false));
 }
 
 #[test]

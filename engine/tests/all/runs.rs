@@ -77,16 +77,6 @@ fn wild_runs_reach_every_refusal_of_every_call() {
     assert_eq!(seen, expected);
 }
 
-/// The refusal number, or 0 for an accepted call.
-fn refusal(call: &Call, reply: Reply) -> i64 {
-    match reply {
-        Reply::Refused(number) => number,
-        Reply::Number(number) if matches!(call, Call::PlanCheck { .. }) => number,
-        Reply::Panicked => panic!("the engine panicked"),
-        _ => 0,
-    }
-}
-
 fn name(call: &Call) -> &'static str {
     match call {
         Call::Open { .. } => "open",

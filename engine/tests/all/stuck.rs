@@ -3,6 +3,7 @@
 
 use hds_engine::differential::first_difference;
 use hds_engine::random::{run, Profile};
+use hds_engine::refusal::NOT_IN_ORDER;
 use hds_engine::{Answer, Controller, Engine, NewNode};
 
 #[derive(Clone, Copy, Debug, PartialEq)]
@@ -52,7 +53,7 @@ impl Stuck {
             buffer.copy_from_slice(&before);
         }
         match self.1 {
-            Way::Refuses => Err(1),
+            Way::Refuses => Err(NOT_IN_ORDER),
             Way::AnswersAlike => Ok(alike),
             Way::LeavesBuffers => answer,
         }

@@ -1,7 +1,7 @@
 //! Helpers for the tests.
 
 use hds_engine::order;
-use hds_engine::steps::{Call, Step};
+use hds_engine::steps::{Call, Reply, Step, World};
 use hds_engine::table::*;
 use hds_engine::{Answer, Controller, Engine, NewNode};
 
@@ -177,6 +177,39 @@ impl<C: Controller> Controller for Watched<C> {
 
     fn plan_check(&mut self, plan: &[u8]) -> i64 {
         self.0.plan_check(plan)
+    }
+}
+
+/// Calls, each with all causes that hold of it, in the order in which they are
+/// judged. One without a cause is accepted.
+pub type Cases<'a> = [(&'a [i64], Call)];
+
+/// Sees that each call, made on that table, gets the first of its causes.
+pub fn first_cause_counts(table: &[i64], cases: &Cases) {
+    for (causes, call) in cases {
+        let reply = world_of(table).call(&mut Watched(Engine), call);
+        let expected = causes.first().copied().unwrap_or(0);
+        assert_eq!(refusal(call, reply), expected, "{call:?}, of which {causes:?} hold");
+    }
+}
+
+/// A world whose table holds these numbers.
+pub fn world_of(table: &[i64]) -> World {
+    let mut world = World::default();
+    world.run(&mut Engine, &Step::Resize { len: table.len() });
+    for (place, &value) in table.iter().enumerate() {
+        world.run(&mut Engine, &Step::Poke { place, value });
+    }
+    world
+}
+
+/// The refusal number, or 0 for an accepted call.
+pub fn refusal(call: &Call, reply: Reply) -> i64 {
+    match reply {
+        Reply::Refused(number) => number,
+        Reply::Number(number) if matches!(call, Call::PlanCheck { .. }) => number,
+        Reply::Panicked => panic!("the engine panicked"),
+        _ => 0,
     }
 }
 

@@ -1,0 +1,43 @@
+-- The laws of a tick, all together.
+use Prim.Native.Nat.{ℕ, _+_, _<_}
+use mathlib.Core.Path.{_≡_}
+use mathlib.Core.Bool.{true, false}
+use mathlib.Core.List.{List}
+use native.Mathlib.Omega.{arith}
+use lib.IntN.{ℤ, pos}
+use Rattle.numbers.specs.Whole.{plus, minus}
+use Rattle.numbers.proofs.Parts.{zarith}
+use Rattle.table.specs.Limits.{nodes}
+use Rattle.table.specs.Places.{balance, waiting, size}
+use Rattle.table.specs.Tree.{treeOf, atOrAbove}
+use Rattle.table.specs.Order.{inOrder}
+use Rattle.table.specs.Tick.{grains, enough, ticked}
+use Rattle.table.proofs.Facts.{InOrder, facts}
+use Rattle.ticklaws.specs.Laws.{TickLaws}
+use Rattle.ticklaws.proofs.Frame.{frame-tree}
+use Rattle.ticklaws.proofs.Way.{ways-of}
+use Rattle.ticklaws.proofs.Next.{not-supplied}
+use Rattle.ticklaws.proofs.Served.{client-at}
+use Rattle.ticklaws.proofs.Keeps.{tick-keeps, ticked-settled, ticked-in-order, none-supplied}
+use Rattle.ticklaws.proofs.Entries.{ticked-entries}
+
+-- A balance that is not enough is below the amount.
+too-little : (t : List ℤ) (amount j : ℕ) → enough t amount j ≡ false → plus (balance t j) < minus (balance t j) + amount
+unfolding enough plus minus
+too-little t amount j h = omega (arith, zarith)
+
+none-enough : (t : List ℤ) → InOrder t → (k : ℕ) → k < nodes → 0 < waiting (ticked t .table) k → (j : ℕ) → atOrAbove (treeOf t) k j ≡ true → enough (ticked t .table) (grains (size (ticked t .table) k 0)) j ≡ false
+none-enough t f k hk waits j on =
+    let u = ticked t .table in
+    let r = ticked-settled t f .reached in
+    let same = frame-tree t u (r .frame) in
+    not-supplied u (ways-of u (ticked-in-order t f)) k (rw same (client-at t u r k hk waits)) waits (none-supplied t f k hk) j (rw same on)
+
+pub tick-laws : (t : List ℤ) → inOrder t ≡ true → TickLaws t
+tick-laws t h =
+    let f = facts t h in
+    record {
+      order = tick-keeps t h;
+      ends = λ k hk waits j on. omega (arith, too-little (ticked t .table) _ j (none-enough t f k hk waits j on));
+      entries = omega (arith, ticked-entries t f);
+    }

@@ -1,0 +1,24 @@
+-- What a tick of a table in order does, over the definitions of table/specs/Tick.
+use Prim.Native.Nat.{ℕ, _+_, _*_, _<_}
+use mathlib.Core.Path.{_≡_}
+use mathlib.Core.Bool.{true}
+use mathlib.Core.List.{List}
+use lib.ListN.{length}
+use lib.IntN.{ℤ}
+use Rattle.numbers.specs.Whole.{plus, minus}
+use Rattle.table.specs.Limits.{nodes, entryLength}
+use Rattle.table.specs.Places.{balance, waiting, size}
+use Rattle.table.specs.Tree.{treeOf, atOrAbove}
+use Rattle.table.specs.Order.{inOrder}
+use Rattle.table.specs.Tick.{grains, allWaiting, ticked}
+
+pub record TickLaws (t : List ℤ) : Type 0 where
+  -- The table is in order again.
+  pub order : inOrder (ticked t .table) ≡ true
+  -- It ends when no request has a supplier: where one still waits at node k, every balance from k up to the root is below
+  -- the grains of the oldest.
+  pub ends :
+      (k : ℕ) → k < nodes → 0 < waiting (ticked t .table) k → (j : ℕ) → atOrAbove (treeOf t) k j ≡ true
+      → plus (balance (ticked t .table) j) < minus (balance (ticked t .table) j) + grains (size (ticked t .table) k 0)
+  -- Every request that waited still waits or has an entry of four numbers.
+  pub entries : length (ticked t .entries) + entryLength * allWaiting (ticked t .table) ≡ entryLength * allWaiting t
