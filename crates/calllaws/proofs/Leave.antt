@@ -41,10 +41,10 @@ module _ (t : List ℤ) (k : ℕ) (passed : LeavePassed t k) (r : Ready t) where
   gone : there (treeOf (cleared t k)) k ≡ false
   gone = zero-unused (cleared t k) k (edited .here sortAt (omega arith))
 
-  not-below-zero : minus (balance t k) ≡ 0
+  pub not-below-zero : minus (balance t k) ≡ 0
   not-below-zero =
       by-test (isClass (treeOf t) k)
-      (λ c. omega (arith, zarith, passed .no-debt c, one-is-zero (balance t k), plus-pos 0, minus-pos 0))
+      (passed .no-debt)
       (λ c. omega (arith, zarith, r .node k (passed .node) .balance (passed .there) .client c, one-is-zero (balance t k), plus-pos 0, minus-pos 0))
 
   busy : (i : ℕ) → i < waiting t k → ⊥

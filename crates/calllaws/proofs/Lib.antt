@@ -8,3 +8,4 @@ pub mod Fresh
 pub mod Open
 pub mod Join
 pub mod Leave
+pub mod Laws

@@ -1,19 +1,19 @@
 -- What an accepted call has passed: each cause of its refusals as the plain fact that it is not there.
 use Prim.Native.Nat.{ℕ, _≤_, _<_}
-use mathlib.Core.Path.{_≡_}
-use mathlib.Core.Bool.{true, false, not}
+use mathlib.Core.Path.{_≡_, refl}
+use mathlib.Core.Bool.{Bool, true, false, not}
 use mathlib.Core.List.{List, [], _∷_}
 use native.Mathlib.Omega.{arith}
 use borrow.Author.Tests.{not-false, eq-eqb, eqb-false, ltb-false}
 use lib.ListN.{length}
 use lib.Dec.{ltb}
 use lib.IntN.{ℤ, pos}
-use lib.Signed.{leZ, ltZ}
-use Rattle.numbers.specs.Whole.{plus, withinℤ}
+use lib.Signed.{leZ}
+use Rattle.numbers.specs.Whole.{plus, minus, withinℤ}
 use Rattle.numbers.specs.Tests.{every}
 use Rattle.numbers.proofs.Tests.{by-test, true-false, or-false-left, or-false-right}
 use Rattle.numbers.proofs.Every.{head-holds, rest-hold, holds-with, none-left}
-use Rattle.numbers.proofs.Parts.{zarith, within-parts}
+use Rattle.numbers.proofs.Parts.{zarith, one-is-zero, within-parts}
 use Rattle.table.specs.Limits.{tableLength, nodes, lastNode, class, client, fixed, weighted, root, lastClassLevel, wholeShare, greatestDepth, greatestRate, greatestCount, mostWaiting}
 use Rattle.table.specs.Places.{count, balance, waiting}
 use Rattle.table.specs.Tree.{treeOf, there, isClass, isClient, childless, sumUnder}
@@ -93,6 +93,13 @@ join-passed t node parent sort kind share depth h =
       depths = ltb-false _ _ (p8 .0);
     }
 
+-- Of two tests that do not both hold, the second fails where the first holds.
+second-fails : (a b : Bool) → every (a ∷ b ∷ []) ≡ false → a ≡ true → b ≡ false
+unfolding every
+second-fails true true h e = h
+second-fails true false h e = refl
+second-fails false b h e = absurd (true-false e refl)
+
 -- Leave, of node k.
 pub record LeavePassed (t : List ℤ) (k : ℕ) : Type 0 where
   pub order : inOrder t ≡ true
@@ -101,10 +108,10 @@ pub record LeavePassed (t : List ℤ) (k : ℕ) : Type 0 where
   pub below : k ≡ 0 → ⊥
   pub childless : childless (treeOf t) k ≡ true
   pub idle : waiting t k ≡ 0
-  pub no-debt : isClass (treeOf t) k ≡ true → ltZ (balance t k) (pos 0) ≡ false
+  pub no-debt : isClass (treeOf t) k ≡ true → minus (balance t k) ≡ 0
 
 pub leave-passed : (t : List ℤ) (node : ℤ) → leaveRefusal t node ≡ 0 → LeavePassed t (plus node)
-unfolding leaveRefusal
+unfolding leaveRefusal plus minus
 leave-passed t node h =
     let p1 = none-first 1 _ _ (omega arith) h in
     let p2 = none-first 2 _ _ (omega arith) (p1 .1) in
@@ -121,9 +128,8 @@ leave-passed t node h =
       childless = not-false _ (or-false-left (not (childless (treeOf t) (plus node))) (ltb 0 (waiting t (plus node))) (p9 .0));
       idle = omega (arith, ltb-false 0 (waiting t (plus node)) (or-false-right (not (childless (treeOf t) (plus node))) (ltb 0 (waiting t (plus node))) (p9 .0)));
       no-debt = λ class.
-          by-test (ltZ (balance t (plus node)) (pos 0))
-          (λ low. absurd (true-false (holds-with _ _ class (holds-with _ _ low none-left)) (p10 .0)))
-          (λ y. y);
+          let not-low = second-fails _ _ (p10 .0) class in
+          omega (arith, zarith, one-is-zero (balance t (plus node)));
     }
 
 -- Change share, of node k.
