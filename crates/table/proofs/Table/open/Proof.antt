@@ -41,7 +41,8 @@ clear-requires c κs = open-long _ _ _ (accepted (c .before))
 
 put-root-requires : tie.Need-put-root-requires
 put-root-requires c κs =
-    (c .before .before .clear .kept .0 ∙ open-long _ _ _ (accepted (c .before .before .before .before)), c .before .before .clear .ensures)
+    let cleared = c .before .before in
+    (cleared .clear .kept .0 ∙ open-long _ _ _ (accepted (cleared .before .before)), cleared .clear .ensures)
 
 same-length-2 : tie.Need-same-length-2
 same-length-2 c = search needs
@@ -49,8 +50,10 @@ same-length-2 c = search needs
 returns-2 : tie.Need-returns-2
 unfolding told openAnswer openTable
 returns-2 c =
-    let start = c .before .before .before .before .before .before .before .before .before in
-    let zero = accepted (c .before .before .before .before .before .before) in (
+    let cleared = c .before .before .before in
+    let passed = cleared .before .before .before in
+    let start = passed .before .before .before in
+    let zero = accepted passed in (
       sym (outcome-accepted _ _ zero),
       rw (toZ-ofZ w64 _ (start .fits .rate), toZ-ofZ w64 _ (start .fits .depth)) at (c .before .put-root .ensures) ∙ sym (kept-new _ _ _ zero),
     )

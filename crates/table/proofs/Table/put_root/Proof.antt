@@ -26,11 +26,14 @@ same-length c = search needs
 returns : tie.Need-returns
 unfolding opened
 returns c =
-    let start = c .before .before .before .before .before .before .before .before .before .before .before .before in
-    put-then root rateAt (c .before .put2 .ensures) (toZ-ofZ (start .fits .rate))
-    (put-then root depthAt (c .before .before .before .before .put .ensures) (toZ-ofZ (start .fits .depth))
-    (put-then root shareAt (c .before .before .before .before .before .before .before .put-natural2 .ensures) refl
-    (put-then root sortAt (c .before .before .before .before .before .before .before .before .before .before .put-natural .ensures) refl (start .pre .1))))
+    let rated = c .before in
+    let deep = rated .before .before .before in
+    let shared = deep .before .before .before in
+    let sorted = shared .before .before .before in
+    let start = sorted .before .before in
+    put-then root rateAt (rated .put2 .ensures) (toZ-ofZ (start .fits .rate))
+    (put-then root depthAt (deep .put .ensures) (toZ-ofZ (start .fits .depth))
+    (put-then root shareAt (shared .put-natural2 .ensures) refl (put-then root sortAt (sorted .put-natural .ensures) refl (start .pre .1))))
 
 pub put-root-spec : {M : Type 1} → statement M
 put-root-spec =
