@@ -53,9 +53,9 @@ pub fn child_rate(table: &[i64], k: usize, rate: u64, fixed: u64, weights: u64) 
 // The rate of node k, not the root, where the nodes above it have theirs.
 fn node_rate(
     table: &[i64],
-    fixed: &[u64; 64],
-    weights: &[u64; 64],
-    rates: &[u64; 64],
+    fixed: &[u64; Table::NODES],
+    weights: &[u64; Table::NODES],
+    rates: &[u64; Table::NODES],
     k: usize,
 ) -> u64
     requires { ⌜ Rated (now table) × ClassSums (now table) (now fixed) (now weights) × (0 < k) × (k < nodes) × (there (treeOf (now table)) k ≡ true) × RatesAbove (now table) (treeOf (now table) .level k) (now rates) ⌝ }
@@ -68,9 +68,9 @@ fn node_rate(
 // The rates of the nodes at one level, where the nodes above have theirs.
 fn level_rates(
     table: &[i64],
-    fixed: &[u64; 64],
-    weights: &[u64; 64],
-    rates: &mut [u64; 64],
+    fixed: &[u64; Table::NODES],
+    weights: &[u64; Table::NODES],
+    rates: &mut [u64; Table::NODES],
     level: u64,
 )
     requires { ⌜ Rated (now table) × ClassSums (now table) (now fixed) (now weights) × (0 < level) × RatesAbove (now table) level (now rates) ⌝ }
@@ -86,13 +86,13 @@ fn level_rates(
 }
 
 // Every node's rate, level by level from the root.
-pub fn rates(table: &[i64]) -> [u64; 64]
+pub fn rates(table: &[i64]) -> [u64; Table::NODES]
     requires { ⌜ Rated (now table) ⌝ }
     ensures { λ r. ⌜ ((k : ℕ) → k < nodes → there (treeOf (now (table .entry))) k ≡ true → getD r k 0 ≡ rateIn (treeOf (now (table .entry))) (rate (now (table .entry)) root) k) ⌝ }
 {
     let fixed = sums::sums(table, sums::FIXED_SHARES);
     let weights = sums::sums(table, sums::WEIGHTS);
-    let mut rates: [u64; 64] = [0; 64];
+    let mut rates: [u64; Table::NODES] = [0; Table::NODES];
     rates[0] = Table::natural(table, 0, Table::RATE);
     let mut level: u64 = 1;
     while level <= Table::LAST_LEVEL {

@@ -98,11 +98,11 @@ pub fn shares_above(table: &[i64], c: usize, old: u64, kind: u64, share: u64) ->
 }
 
 // The sums under all classes, in one pass. The root is nobody's child.
-pub fn sums(table: &[i64], which: u64) -> [u64; 64]
+pub fn sums(table: &[i64], which: u64) -> [u64; Table::NODES]
     requires { ⌜ (length (now table) ≡ tableLength) × Summable which (now table) ⌝ }
     ensures { λ r. ⌜ ((c : ℕ) → c < nodes → getD r c 0 ≡ sumUnder (treeOf (now (table .entry))) c (term which (now (table .entry)))) ⌝ }
 {
-    let mut sums: [u64; 64] = [0; 64];
+    let mut sums: [u64; Table::NODES] = [0; Table::NODES];
     let mut k: usize = 1;
     while k < Table::NODES {
         if tree::there(table, k) {
