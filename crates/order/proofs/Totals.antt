@@ -11,8 +11,9 @@ use Rattle.table.specs.Limits.{nodes, depthAt, balanceAt, lastLevel, greatestDe
 use Rattle.table.specs.Places.{place, balance, depthGrains}
 use Rattle.table.specs.Tree.{treeOf, childOf, countIf, sumUnder}
 use Rattle.table.proofs.Facts.{limits-of}
+use Rattle.rating.specs.declared.sums.Summand.{Summand}
 use Rattle.rating.specs.Sums.{term, Summable}
-use Rattle.rating.proofs.Summable.{balances-summable}
+use Rattle.rating.proofs.Summable.{summable-of}
 use Rattle.rating.proofs.Under.{child-small}
 use Rattle.records.specs.Record.{recordsInOrder}
 use Rattle.records.proofs.Bounds.{bounds}
@@ -28,13 +29,13 @@ pub small : (t : List ℤ) (k : ℕ) → Node t k → Small t k
 unfolding treeOf balance depthGrains
 small t k f = let b = bounds t k (f .limits) in omega arith
 
-pub summable : (which : ℕ) (t : List ℤ) → recordsInOrder t ≡ true → Summable which t
+pub summable : (which : Summand) (t : List ℤ) → recordsInOrder t ≡ true → Summable which t
 unfolding balance
 summable which t h =
-    balances-summable which t (λ k hk e. limits-of t k (node-at t h k hk e .limits))
+    summable-of which t (λ k hk e. limits-of t k (node-at t h k hk e .limits))
     (λ k hk e. let s = small t k (node-at t h k hk e) in record { credit = omega arith; debt = omega arith })
 
-pub sum-small : (which : ℕ) (t : List ℤ) → recordsInOrder t ≡ true → (c : ℕ) → sumUnder (treeOf t) c (term which t) ≤ 2 ^ 63
+pub sum-small : (which : Summand) (t : List ℤ) → recordsInOrder t ≡ true → (c : ℕ) → sumUnder (treeOf t) c (term which t) ≤ 2 ^ 63
 unfolding sumUnder
 sum-small which t h c =
     omega (arith, sum-bound nodes (2 ^ 57) (λ k. countIf (childOf (treeOf t) c k) (term which t) k) (λ k hk. child-small which t (summable which t h) c k hk))

@@ -1,5 +1,6 @@
 // What each class covers: fixed shares, depths and balances under it.
 use rating::sums;
+use rating::sums::Summand;
 use rating::tree;
 use table::Table;
 ghost use mathlib.Core.Path.{_≡_};
@@ -30,10 +31,10 @@ pub fn classes_cover(table: &[i64]) -> bool
     requires { ⌜ (length (now table) ≡ tableLength) × (recordsInOrder (now table) ≡ true) ⌝ }
     ensures { λ r. ⌜ r ≡ eachClass (treeOf (now (table .entry))) (classCovers (now (table .entry))) ⌝ }
 {
-    let fixed = sums::sums(table, sums::FIXED_SHARES);
-    let depths = sums::sums(table, sums::DEPTHS);
-    let credits = sums::sums(table, sums::CREDITS);
-    let debts = sums::sums(table, sums::DEBTS);
+    let fixed = sums::sums(table, Summand::FixedShares);
+    let depths = sums::sums(table, Summand::Depths);
+    let credits = sums::sums(table, Summand::Credits);
+    let debts = sums::sums(table, Summand::Debts);
     let mut ok = true;
     let mut c: usize = 0;
     while c < Table::NODES {

@@ -1,4 +1,3 @@
-pub mod Terms
 pub mod Under
 pub mod Rated
 pub mod Levels

@@ -22,9 +22,10 @@ use Rattle.table.proofs.Facts.{Limits, Root, Child, InOrder, facts, root-there,
 use Rattle.treelaws.proofs.Children.{child-of, class-there}
 use Rattle.treelaws.proofs.Renewed.{rate-at-root, renewed-tree, renewed-disk}
 use Rattle.treelaws.proofs.Rounding.{rate-of-child, child-rate-le, weight-le-sum}
-use Rattle.rating.specs.Sums.{Summable}
+use Rattle.rating.specs.declared.sums.Summand.{Summand}
+use Rattle.rating.specs.declared.sums.Summand.the-variants.{FixedShares, Weights}
+use Rattle.rating.specs.Sums.{term, Summable}
 use Rattle.rating.specs.Rated.{Placed, Rated}
-use Rattle.rating.proofs.Terms.{fixed-term, weight-term}
 
 -- A rate times a share fits 64 bits.
 pub product-small : (r s : ℕ) → r ≤ greatestRate → s ≤ wholeShare → r * s ≤ greatestRate * wholeShare
@@ -53,19 +54,21 @@ pub weights-there : (tree : Tree) (k : ℕ) → k < nodes → there tree k ≡ t
 weights-there tree k hk e ne p weighted = omega (arith, weight-le-sum tree (tree .parent k) k hk (placed-child tree k e ne) weighted)
 
 module _ (t : List ℤ) (f : Rated t) where
-  pub fixed-summable : Summable 0 t
-  fixed-summable =
+  -- What is at most the share can be summed.
+  share-summable : (which : Summand) → ((k : ℕ) → term which t k ≤ treeOf t .share k) → Summable which t
+  share-summable which le =
       record {
         parent = λ k hk e ne. f .node k hk e ne .parent;
-        small = λ k hk e ne. let p = f .node k hk e ne in omega (arith, fixed-term t k, fixed-share-le (treeOf t) k);
+        small = λ k hk e ne. let p = f .node k hk e ne in omega (arith, le k);
       }
 
-  pub weight-summable : Summable 1 t
-  weight-summable =
-      record {
-        parent = λ k hk e ne. f .node k hk e ne .parent;
-        small = λ k hk e ne. let p = f .node k hk e ne in omega (arith, weight-term t k, weight-le (treeOf t) k);
-      }
+  pub fixed-summable : Summable FixedShares t
+  unfolding term
+  fixed-summable = share-summable FixedShares (λ k. fixed-share-le (treeOf t) k)
+
+  pub weight-summable : Summable Weights t
+  unfolding term
+  weight-summable = share-summable Weights (λ k. weight-le (treeOf t) k)
 
   -- A node at level 0 is the root.
   pub only-root : (k : ℕ) → k < nodes → there (treeOf t) k ≡ true → treeOf t .level k ≡ 0 → k ≡ 0

@@ -14,6 +14,7 @@ use Rattle.numbers.proofs.Sums.{sum-next, sum-bound}
 use Rattle.table.specs.Limits.{nodes}
 use Rattle.table.specs.Tree.{Tree, treeOf, there, childOf, countIf, sumUnder}
 use Rattle.treelaws.proofs.Children.{child-facts, child-of}
+use Rattle.rating.specs.declared.sums.Summand.{Summand}
 use Rattle.rating.specs.Sums.{term, Summable}
 
 -- A term that is counted, and one that is not.
@@ -53,7 +54,7 @@ module _ (tree : Tree) (c : ℕ) (f : ℕ → ℕ) where
   under-root = under-skip 0 (λ e. child-facts tree c 0 e .below refl) ∙ under-start
 
 -- A term adds at most 2^57.
-pub child-small : (which : ℕ) (t : List ℤ) → Summable which t → (c k : ℕ) → k < nodes → countIf (childOf (treeOf t) c k) (term which t) k ≤ 2 ^ 57
+pub child-small : (which : Summand) (t : List ℤ) → Summable which t → (c k : ℕ) → k < nodes → countIf (childOf (treeOf t) c k) (term which t) k ≤ 2 ^ 57
 child-small which t s c k hk =
     by-test (childOf (treeOf t) c k)
     (λ e.
@@ -61,7 +62,7 @@ child-small which t s c k hk =
     omega (arith, counted (childOf (treeOf t) c k) (term which t) k e, s .small k hk (child .there) (child .below)))
     (λ e. omega (arith, uncounted (childOf (treeOf t) c k) (term which t) k e))
 
-pub under-small : (which : ℕ) (t : List ℤ) → Summable which t → (n c : ℕ) → n ≤ nodes → underBelow n (treeOf t) c (term which t) ≤ n * 2 ^ 57
+pub under-small : (which : Summand) (t : List ℤ) → Summable which t → (n c : ℕ) → n ≤ nodes → underBelow n (treeOf t) c (term which t) ≤ n * 2 ^ 57
 unfolding underBelow
 under-small which t s n c h = sum-bound n (2 ^ 57) (λ k. countIf (childOf (treeOf t) c k) (term which t) k) (λ k hk. child-small which t s c k (omega arith))
 
@@ -95,6 +96,6 @@ pub all-end : (tree : Tree) (f : ℕ → ℕ) (sums : List ℕ) → AllUnder nod
 unfolding AllUnder
 all-end tree f sums h c hc = h c hc ∙ under-end tree c f
 
-pub all-small : (which : ℕ) (t : List ℤ) → Summable which t → (n : ℕ) → n ≤ nodes → (sums : List ℕ) → AllUnder n (treeOf t) (term which t) sums → (c : ℕ) → c < nodes → getD sums c 0 ≤ n * 2 ^ 57
+pub all-small : (which : Summand) (t : List ℤ) → Summable which t → (n : ℕ) → n ≤ nodes → (sums : List ℕ) → AllUnder n (treeOf t) (term which t) sums → (c : ℕ) → c < nodes → getD sums c 0 ≤ n * 2 ^ 57
 unfolding AllUnder
 all-small which t s n hn sums h c hc = omega (arith, h c hc, under-small which t s n c hn)

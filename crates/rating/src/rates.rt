@@ -90,8 +90,8 @@ pub fn rates(table: &[i64]) -> [u64; Table::NODES]
     requires { ⌜ Rated (now table) ⌝ }
     ensures { λ r. ⌜ ((k : ℕ) → k < nodes → there (treeOf (now (table .entry))) k ≡ true → getD r k 0 ≡ rateIn (treeOf (now (table .entry))) (rate (now (table .entry)) root) k) ⌝ }
 {
-    let fixed = sums::sums(table, sums::FIXED_SHARES);
-    let weights = sums::sums(table, sums::WEIGHTS);
+    let fixed = sums::sums(table, sums::Summand::FixedShares);
+    let weights = sums::sums(table, sums::Summand::Weights);
     let mut rates: [u64; Table::NODES] = [0; Table::NODES];
     rates[0] = Table::natural(table, 0, Table::RATE);
     let mut level: u64 = 1;

@@ -7,22 +7,18 @@ ghost use lib.Dec.{eqb, ltb};
 ghost use Rattle.table.specs.Limits.{tableLength, nodes, wholeShare};
 ghost use Rattle.table.specs.Tree.{treeOf, childOf, countIf, sumUnder};
 ghost use Rattle.table.specs.Rates.{fixedShare, weight, fixedSum};
-ghost use Rattle.rating.specs.Sums.{term, fixedShares, Summable};
+ghost use Rattle.rating.specs.Sums.{term, Summable};
 use super::tree;
 use table::Table;
 
-// What is summed.
-pub const FIXED_SHARES: u64 = 0;
-
-pub const WEIGHTS: u64 = 1;
-
-pub const DEPTHS: u64 = 2;
-
-// The natural parts of the balances.
-pub const CREDITS: u64 = 3;
-
-// The negative parts of the balances.
-pub const DEBTS: u64 = 4;
+// What is summed. Credits are the natural parts of the balances, debts the negative parts.
+pub enum Summand {
+    FixedShares,
+    Weights,
+    Depths,
+    Credits,
+    Debts,
+}
 
 // The share of node k where it is fixed, else 0.
 pub fn fixed_share(table: &[i64], k: usize) -> u64
@@ -47,21 +43,21 @@ pub fn weight(table: &[i64], k: usize) -> u64
 }
 
 // The summand of node k.
-pub fn term(table: &[i64], which: u64, k: usize) -> u64
+pub fn term(table: &[i64], which: Summand, k: usize) -> u64
     requires { ⌜ (length (now table) ≡ tableLength) × (k < nodes) ⌝ }
     ensures { λ r. ⌜ r ≡ term which (now (table .entry)) k ⌝ }
 {
     match which {
-        FIXED_SHARES => fixed_share(table, k),
-        WEIGHTS => weight(table, k),
-        DEPTHS => Table::natural(table, k, Table::DEPTH),
-        CREDITS => Table::natural(table, k, Table::BALANCE),
-        _ => numbers::negative(Table::get(table, k, Table::BALANCE)),
+        Summand::FixedShares => fixed_share(table, k),
+        Summand::Weights => weight(table, k),
+        Summand::Depths => Table::natural(table, k, Table::DEPTH),
+        Summand::Credits => Table::natural(table, k, Table::BALANCE),
+        Summand::Debts => numbers::negative(Table::get(table, k, Table::BALANCE)),
     }
 }
 
 // The summand of node k where it is a child of class c, else 0.
-fn child_term(table: &[i64], which: u64, c: usize, k: usize) -> u64
+fn child_term(table: &[i64], which: Summand, c: usize, k: usize) -> u64
     requires { ⌜ (length (now table) ≡ tableLength) × (k < nodes) ⌝ }
     ensures { λ r. ⌜ r ≡ countIf (childOf (treeOf (now (table .entry))) c k) (term which (now (table .entry))) k ⌝ }
 {
@@ -72,7 +68,7 @@ fn child_term(table: &[i64], which: u64, c: usize, k: usize) -> u64
 }
 
 // The sum under class c.
-pub fn sum_under(table: &[i64], which: u64, c: usize) -> u64
+pub fn sum_under(table: &[i64], which: Summand, c: usize) -> u64
     requires { ⌜ (length (now table) ≡ tableLength) × Summable which (now table) ⌝ }
     ensures { λ r. ⌜ r ≡ sumUnder (treeOf (now (table .entry))) c (term which (now (table .entry))) ⌝ }
 {
@@ -87,10 +83,10 @@ pub fn sum_under(table: &[i64], which: u64, c: usize) -> u64
 
 // Whether the fixed shares under class c would be above 10,000 with a share of this kind in the place of an old fixed share.
 pub fn shares_above(table: &[i64], c: usize, old: u64, kind: u64, share: u64) -> bool
-    requires { ⌜ (length (now table) ≡ tableLength) × (Summable fixedShares (now table)) × (old ≤ fixedSum (treeOf (now table)) c) × (share ≤ wholeShare) × (fixedSum (treeOf (now table)) c ≤ wholeShare) ⌝ }
+    requires { ⌜ (length (now table) ≡ tableLength) × (Summable Summand.FixedShares (now table)) × (old ≤ fixedSum (treeOf (now table)) c) × (share ≤ wholeShare) × (fixedSum (treeOf (now table)) c ≤ wholeShare) ⌝ }
     ensures { λ r. ⌜ r ≡ ltb wholeShare (fixedSum (treeOf (now (table .entry))) c + cond (eqb kind 0) share 0 - old) ⌝ }
 {
-    let sum = sum_under(table, FIXED_SHARES, c);
+    let sum = sum_under(table, Summand::FixedShares, c);
     if kind == Table::FIXED {
         return Table::WHOLE_SHARE < sum + share - old;
     }
@@ -98,7 +94,7 @@ pub fn shares_above(table: &[i64], c: usize, old: u64, kind: u64, share: u64) ->
 }
 
 // The sums under all classes, in one pass. The root is nobody's child.
-pub fn sums(table: &[i64], which: u64) -> [u64; Table::NODES]
+pub fn sums(table: &[i64], which: Summand) -> [u64; Table::NODES]
     requires { ⌜ (length (now table) ≡ tableLength) × Summable which (now table) ⌝ }
     ensures { λ r. ⌜ ((c : ℕ) → c < nodes → getD r c 0 ≡ sumUnder (treeOf (now (table .entry))) c (term which (now (table .entry)))) ⌝ }
 {

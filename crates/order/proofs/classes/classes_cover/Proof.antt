@@ -5,7 +5,9 @@ use native.Mathlib.Omega.{arith}
 use Rattle.numbers.specs.Below.{allBelow}
 use Rattle.table.specs.Limits.{nodes}
 use Rattle.table.specs.Tree.{treeOf, isClass, testIf, eachClass}
-use Rattle.rating.proofs.Terms.{fixed-sum, depth-sum, credit-sum, debt-sum}
+use Rattle.table.specs.Rates.{fixedSum}
+use Rattle.rating.specs.declared.sums.Summand.the-variants.{FixedShares, Depths, Credits, Debts}
+use Rattle.rating.specs.Sums.{term}
 use Rattle.order.specs.Cover.{classCovers}
 use Rattle.records.proofs.Joined.{all-grows, all-done}
 use Rattle.order.proofs.Totals.{summable, sum-small}
@@ -19,16 +21,16 @@ abbrev μ-loop : tie.MeasureT-loop
 μ-loop table fixed depths credits debts ok₀ c₀ ok c = nodes - c
 
 sums-requires : tie.Need-sums-requires Inv-loop μ-loop
-sums-requires c κs = (c .pre .0, summable 0 _ (c .pre .1))
+sums-requires c κs = (c .pre .0, summable FixedShares _ (c .pre .1))
 
 sums-requires-2 : tie.Need-sums-requires-2 Inv-loop μ-loop
-sums-requires-2 c κs = (c .before .pre .0, summable 2 _ (c .before .pre .1))
+sums-requires-2 c κs = (c .before .pre .0, summable Depths _ (c .before .pre .1))
 
 sums-requires-3 : tie.Need-sums-requires-3 Inv-loop μ-loop
-sums-requires-3 c κs = (c .before .before .pre .0, summable 3 _ (c .before .before .pre .1))
+sums-requires-3 c κs = (c .before .before .pre .0, summable Credits _ (c .before .before .pre .1))
 
 sums-requires-4 : tie.Need-sums-requires-4 Inv-loop μ-loop
-sums-requires-4 c κs = (c .before .before .before .pre .0, summable 4 _ (c .before .before .before .pre .1))
+sums-requires-4 c κs = (c .before .before .before .pre .0, summable Debts _ (c .before .before .before .pre .1))
 
 loop-holds : tie.Need-loop-holds Inv-loop μ-loop
 unfolding allBelow
@@ -59,6 +61,7 @@ array-read-class-covers-4 : tie.Need-array-read-class-covers-4 Inv-loop μ-loop
 array-read-class-covers-4 c = omega arith
 
 class-covers-requires : tie.Need-class-covers-requires Inv-loop μ-loop
+unfolding term fixedSum
 class-covers-requires c κs =
     let start = c .before .before .before .before .before .before in
     let t = start .args .table .now in
@@ -70,13 +73,13 @@ class-covers-requires c κs =
       below,
       start .pre .1,
       record {
-        fixed = c .before .before .before .before .before .sums .ensures k below ∙ fixed-sum t k;
-        depths = c .before .before .before .before .sums2 .ensures k below ∙ depth-sum t k;
-        credits = credits ∙ credit-sum t k;
-        debts = debts ∙ debt-sum t k;
+        fixed = c .before .before .before .before .before .sums .ensures k below;
+        depths = c .before .before .before .before .sums2 .ensures k below;
+        credits = credits;
+        debts = debts;
       },
-      omega (arith, credits, sum-small 3 t (start .pre .1) k),
-      omega (arith, debts, sum-small 4 t (start .pre .1) k),
+      omega (arith, credits, sum-small Credits t (start .pre .1) k),
+      omega (arith, debts, sum-small Debts t (start .pre .1) k),
     )
 
 add-c : tie.Need-add-c Inv-loop μ-loop

@@ -5,8 +5,9 @@ use native.Mathlib.Omega.{arith}
 use borrow.Author.Needs.{needs}
 use Rattle.table.specs.Limits.{lastLevel}
 use Rattle.table.specs.Places.{rate}
+use Rattle.table.specs.Rates.{fixedSum, weightSum}
+use Rattle.rating.specs.Sums.{term}
 use Rattle.rating.specs.Rated.{RatesAbove}
-use Rattle.rating.proofs.Terms.{fixed-sum, weight-sum}
 use Rattle.rating.proofs.Rated.{fixed-summable, weight-summable}
 use Rattle.rating.proofs.Levels.{rates-start, rates-end}
 use Rattle.rating.proofs.rates.rates.Statement.{statement}
@@ -35,14 +36,15 @@ unfolding rate
 loop-holds c = (omega arith, omega arith, rates-start _ _ _ (c .before .before .before .pre) refl (c .natural .ensures))
 
 level-rates-requires : tie.Need-level-rates-requires Inv-loop μ-loop
+unfolding term fixedSum weightSum
 level-rates-requires c κs =
     let start = c .before .before .before .before .before .before .before .before in
     let t = start .args .table .now in
     let at = c .before .before .before .before .loop in (
       start .pre,
       record {
-        fixed = λ j hj. c .before .before .before .before .before .before .before .sums .ensures j hj ∙ fixed-sum t j;
-        weights = λ j hj. c .before .before .before .before .before .before .sums2 .ensures j hj ∙ weight-sum t j;
+        fixed = λ j hj. c .before .before .before .before .before .before .before .sums .ensures j hj;
+        weights = λ j hj. c .before .before .before .before .before .before .sums2 .ensures j hj;
       },
       at .inv .0,
       at .inv .2,

@@ -1,30 +1,41 @@
--- `rating::sums::term` meets its contract, kind by kind.
-use Prim.Native.Nat.{ℕ}
-use mathlib.Core.Path.{_≡_, sym, ap, _∙_}
-use mathlib.Core.List.{List}
-use lib.IntN.{ℤ}
+-- `rating::sums::term` meets its contract, case by case.
+use mathlib.Core.Path.{ap, _∙_}
 use mir.Facts.{toZ-ofZ}
 use borrow.Author.Needs.{sfits-of}
 use Rattle.numbers.specs.Whole.{minus}
 use Rattle.table.specs.Places.{balance}
 use Rattle.table.specs.Tree.{treeOf}
 use Rattle.rating.specs.Sums.{term}
-use Rattle.rating.proofs.Terms.{fixed-term, weight-term, depth-term, credit-term, debt-term}
 use borrow.Author.Needs.{needs}
 use Rattle.rating.proofs.sums.term.Statement.{statement}
 use Rattle.rating.proofs.sums.term.Tie as tie
 
+enum-told : tie.Need-enum-told
+enum-told c = search needs
+
 fixed-share-requires : tie.Need-fixed-share-requires
 fixed-share-requires c κs = search needs
+
+enum-told-2 : tie.Need-enum-told-2
+enum-told-2 c = search needs
 
 weight-requires : tie.Need-weight-requires
 weight-requires c κs = search needs
 
+enum-told-3 : tie.Need-enum-told-3
+enum-told-3 c = search needs
+
 natural-requires : tie.Need-natural-requires
 natural-requires c κs = search needs
 
+enum-told-4 : tie.Need-enum-told-4
+enum-told-4 c = search needs
+
 natural-requires-2 : tie.Need-natural-requires-2
 natural-requires-2 c κs = search needs
+
+enum-told-5 : tie.Need-enum-told-5
+enum-told-5 c = search needs
 
 get-requires : tie.Need-get-requires
 get-requires c κs = search needs
@@ -32,42 +43,41 @@ get-requires c κs = search needs
 negative-requires : tie.Need-negative-requires
 negative-requires c κs = search needs
 
--- The summand goes by the kind.
-same-kind : (t : List ℤ) (k : ℕ) {m n : ℕ} → m ≡ n → term m t k ≡ term n t k
-same-kind t k e = ap (λ (which : ℕ). term which t k) e
-
 returns : tie.Need-returns
-returns c = let start = c .before .before .args in c .fixed-share .ensures ∙ sym (same-kind (start .table .now) (start .k) (c .before .match .keys1) ∙ fixed-term _ _)
+unfolding term
+returns c = rw (c .before .enum-told .given .1) (c .fixed-share .ensures)
 
 returns-2 : tie.Need-returns-2
-returns-2 c = let start = c .before .before .args in c .weight .ensures ∙ sym (same-kind (start .table .now) (start .k) (c .before .match .keys2) ∙ weight-term _ _)
+unfolding term
+returns-2 c = rw (c .before .enum-told2 .given .1) (c .weight .ensures)
 
 returns-3 : tie.Need-returns-3
-unfolding treeOf
-returns-3 c = let start = c .before .before .args in c .natural .ensures ∙ sym (same-kind (start .table .now) (start .k) (c .before .match .keys3) ∙ depth-term _ _)
+unfolding term treeOf
+returns-3 c = rw (c .before .enum-told3 .given .1) (c .natural .ensures)
 
 returns-4 : tie.Need-returns-4
-unfolding balance
-returns-4 c = let start = c .before .before .args in c .natural2 .ensures ∙ sym (same-kind (start .table .now) (start .k) (c .before .match .keys4) ∙ credit-term _ _)
+unfolding term balance
+returns-4 c = rw (c .before .enum-told4 .given .1) (c .natural2 .ensures)
 
 returns-5 : tie.Need-returns-5
-unfolding balance
+unfolding term balance
 returns-5 c =
-    let start = c .before .before .before .args in
-    let rest = c .before .before .match .rest in
     let got = c .before .get in
-    c .negative .ensures
-    ∙ ap minus (toZ-ofZ (sfits-of (got .ok)) ∙ got .ensures)
-    ∙ sym (debt-term (start .table .now) (start .k) (start .which) (rest .0 .0 .0 .1) (rest .0 .0 .1) (rest .0 .1) (rest .1))
+    rw (c .before .before .enum-told5 .given .1) (c .negative .ensures ∙ ap minus (toZ-ofZ (sfits-of (got .ok)) ∙ got .ensures))
 
 pub term-spec : {M : Type 1} → statement M
 term-spec =
     tie.close
     (tie.spec
+    enum-told
     fixed-share-requires
+    enum-told-2
     weight-requires
+    enum-told-3
     natural-requires
+    enum-told-4
     natural-requires-2
+    enum-told-5
     get-requires
     negative-requires
     returns
