@@ -10,8 +10,9 @@ use lib.Signed.{leZ}
 use Rattle.numbers.specs.Whole.{plus}
 use Rattle.numbers.specs.Below.{forBelow}
 use Rattle.numbers.proofs.Tests.{by-test, cond-true, cond-false}
-use Rattle.table.specs.Limits.{recordLength, nodes, depthAt, rateAt, balanceAt}
+use Rattle.table.specs.Limits.{recordLength, nodes, depthAt, rateAt, balanceAt, greatestDepth}
 use Rattle.table.specs.Places.{place, put, rate, balance, depthGrains}
+use Rattle.table.specs.Tree.{treeOf}
 use Rattle.table.proofs.Places.{place-put-node}
 use Rattle.balances.specs.Within.{Within}
 use Rattle.balances.proofs.Limits.{depth-at, rate-at}
@@ -60,8 +61,8 @@ module _ (t : List ℤ) (w : Within t) (k : ℕ) (low : k < nodes) (u : List ℤ
         ap plus (found growth growth-own k t k rateAt (omega arith) (omega arith)),
       )
 
-  pub cutting-fits : u ≡ forBelow k cutting t → depthGrains u k < 2 ^ 63
-  unfolding depthGrains
+  pub cutting-fits : u ≡ forBelow k cutting t → treeOf u .depth k ≤ greatestDepth
+  unfolding treeOf
   cutting-fits e =
       omega (
         arith,

@@ -7,7 +7,7 @@ ghost use lib.ListN.{length};
 ghost use lib.IntN.{pos, _+ℤ_};
 ghost use lib.Signed.{leZ};
 ghost use Rattle.numbers.specs.Whole.{minus, plus};
-ghost use Rattle.table.specs.Limits.{tableLength, nodes, balanceAt};
+ghost use Rattle.table.specs.Limits.{tableLength, nodes, balanceAt, greatestDepth};
 ghost use Rattle.table.specs.Places.{balance, put, rate, depthGrains};
 ghost use Rattle.table.specs.Tree.{treeOf};
 ghost use Rattle.table.specs.Tick.{lower, charge, grown, cut};
@@ -63,10 +63,10 @@ pub fn grow(table: &mut [i64])
 
 // Node k's balance is cut to its depth where it is above.
 fn cut_node(table: &mut [i64], k: usize)
-    requires { ⌜ (length (now table) ≡ tableLength) × (k < nodes) × (depthGrains (now table) k < 2 ^ 63) ⌝ }
+    requires { ⌜ (length (now table) ≡ tableLength) × (k < nodes) × (treeOf (now table) .depth k ≤ greatestDepth) ⌝ }
     ensures { λ _. ⌜ now (table .exit) ≡ cond (leZ (balance (now (table .entry)) k) (pos (depthGrains (now (table .entry)) k))) (now (table .entry)) (put (now (table .entry)) k balanceAt (pos (depthGrains (now (table .entry)) k))) ⌝ }
 {
-    let most = Table::natural(table, k, Table::DEPTH) * Table::GRAIN_SCALE;
+    let most = Table::depth_grains(table, k);
     let balance = Table::get(table, k, Table::BALANCE);
     if numbers::at_most(balance, numbers::whole(most)) {
         return;

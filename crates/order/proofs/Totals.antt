@@ -19,9 +19,10 @@ use Rattle.records.specs.Record.{recordsInOrder}
 use Rattle.records.proofs.Bounds.{bounds}
 use Rattle.records.proofs.Nodes.{Node, node-at}
 
--- A node's depth and the parts of its balance.
+-- A node's depth, the same in grains, and the parts of its balance.
 pub record Small (t : List ℤ) (k : ℕ) : Type 0 where
   pub depth : plus (place t k depthAt) ≤ greatestDepth
+  pub grains : depthGrains t k ≤ greatestDepth * grainScale
   pub credit : plus (place t k balanceAt) ≤ greatestRate
   pub debt : minus (place t k balanceAt) ≤ lastLevel * (greatestDepth * grainScale)
 

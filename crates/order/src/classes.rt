@@ -22,7 +22,7 @@ fn class_covers(table: &[i64], c: usize, fixed: u64, depths: u64, credits: u64, 
     }
     let depth = Table::natural(table, c, Table::DEPTH);
     let needed = credits + records::negative(table, c, Table::BALANCE);
-    let covered = debts + Table::natural(table, c, Table::BALANCE) + depth * Table::GRAIN_SCALE;
+    let covered = debts + Table::natural(table, c, Table::BALANCE) + Table::depth_grains(table, c);
     (fixed <= Table::WHOLE_SHARE) & (depths <= depth) & (needed <= covered)
 }
 

@@ -154,7 +154,7 @@ fn balance_within(table: &[i64], k: usize) -> bool
     requires { ⌜ (length (now table) ≡ tableLength) × (k < nodes) × (treeOf (now table) .depth k ≤ greatestDepth) ⌝ }
     ensures { λ r. ⌜ r ≡ balanceWithin (now (table .entry)) k ⌝ }
 {
-    let grains = Table::natural(table, k, Table::DEPTH) * Table::GRAIN_SCALE;
+    let grains = Table::depth_grains(table, k);
     let class = tree::is_class(table, k);
     let below = negative(table, k, Table::BALANCE);
     let high = Table::natural(table, k, Table::BALANCE) <= grains;

@@ -13,7 +13,7 @@ use Rattle.numbers.proofs.Tests.{by-test}
 use Rattle.numbers.proofs.Every.{head-fails, every-two}
 use Rattle.numbers.proofs.Parts.{zarith, add-parts, one-is-zero, plus-pos}
 use Rattle.numbers.proofs.Steps.{for-keeps}
-use Rattle.table.specs.Limits.{nodes, waitingAt, queueAt, sizeAt, grainScale, entryLength}
+use Rattle.table.specs.Limits.{nodes, waitingAt, entryLength}
 use Rattle.table.specs.Places.{place, rate, balance, waiting, size}
 use Rattle.table.specs.Tree.{treeOf, there}
 use Rattle.table.specs.Tick.{State, grains, enough, grown, dispatched, ready, served, allWaiting}
@@ -53,9 +53,9 @@ module _ (t : List ℤ) (k : ℕ) where
   unfolding ready waiting
   not-waiting e = sym (head-fails _ _ (le-ltb 0 (waiting t k) (omega arith)))
 
-  pub is-waiting : (plus (place t k waitingAt) ≡ 0 → ⊥) → ready t k ≡ enough t (plus (place t k (queueAt + sizeAt)) * grainScale) k
-  unfolding ready waiting grains size
-  is-waiting w = every-two _ _ ∙ ap (λ b. b && enough t (plus (place t k (queueAt + sizeAt)) * grainScale) k) (lt-ltb 0 (waiting t k) (omega arith))
+  pub is-waiting : (plus (place t k waitingAt) ≡ 0 → ⊥) → ready t k ≡ enough t (grains (size t k 0)) k
+  unfolding ready waiting
+  is-waiting w = every-two _ _ ∙ ap (λ b. b && enough t (grains (size t k 0)) k) (lt-ltb 0 (waiting t k) (omega arith))
 
 -- One dispatch of a ready client.
 module _ (u : List ℤ) (w : Way u) (k : ℕ) (hk : k < nodes) (e : ready u k ≡ true) where

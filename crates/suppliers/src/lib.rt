@@ -26,7 +26,7 @@ pub fn supplier_of(table: &[i64], k: usize) -> usize
     requires { ⌜ Within (now table) × (k < nodes) ⌝ }
     ensures { λ r. ⌜ r ≡ supplier (now (table .entry)) k ⌝ }
 {
-    let amount = Table::natural(table, k, Table::QUEUE + Table::SIZE) * Table::GRAIN_SCALE;
+    let amount = Table::grains(Table::natural(table, k, Table::QUEUE + Table::SIZE));
     let mut level = Table::natural(table, k, Table::LEVEL);
     let mut node = k;
     loop {

@@ -1,5 +1,5 @@
 -- `balances::cut_node` meets its contract: the balance is at most the depth and stays, or the depth is written.
-use Prim.Native.Nat.{ℕ, _*_}
+use Prim.Native.Nat.{_≤_, _^_}
 use mathlib.Core.Path.{_≡_, sym, ap, ap₂, _∙_}
 use native.Mathlib.Omega.{arith}
 use lib.IntN.{pos}
@@ -7,39 +7,44 @@ use lib.Signed.{leZ}
 use mir.Syntax.{w64}
 use mir.ValLaws.{toZ-ofZ}
 use borrow.Author.Needs.{needs, sfits-of}
-use Rattle.table.specs.Limits.{grainScale}
 use Rattle.table.specs.Places.{put, balance, depthGrains}
+use Rattle.table.specs.Tree.{treeOf}
+use Rattle.balances.proofs.Limits.{depth-grains-small}
 use Rattle.balances.proofs.Sweeps.{cut-stays, cut-falls}
 use Rattle.balances.proofs.cut_node.Statement.{statement}
 use Rattle.balances.proofs.cut_node.Tie as tie
 
--- The depth in grains, and what the test says.
-most : (c : tie.After-at-most) → c .before .before .before .before .natural .result * grainScale ≡ depthGrains (c .before .before .before .before .before .before .args .table .now) (c .before .before .before .before .before .before .args .k)
-unfolding depthGrains
-most c = ap (λ (n : ℕ). n * grainScale) (c .before .before .before .before .natural .ensures)
+-- Where the depth in grains is known.
+abbrev deep : tie.After-at-most → tie.After-depth-grains
+deep c = c .before .before .before .before
 
-tested : (c : tie.After-at-most) → leZ (balance (c .before .before .before .before .before .before .args .table .now) (c .before .before .before .before .before .before .args .k)) (pos (depthGrains (c .before .before .before .before .before .before .args .table .now) (c .before .before .before .before .before .before .args .k))) ≡ c .at-most .result
+abbrev start : tie.After-at-most → tie.Start
+start c = deep c .before .before
+
+-- The depth in grains is small, and what the test says.
+small : (c : tie.After-depth-grains) → c .depth-grains .result ≤ 2 ^ 60
+small c =
+    let start = c .before .before in
+    omega (arith, depth-grains-small (start .args .table .now) (start .args .k) (start .pre .2))
+
+tested : (c : tie.After-at-most) → leZ (balance (start c .args .table .now) (start c .args .k)) (pos (depthGrains (start c .args .table .now) (start c .args .k))) ≡ c .at-most .result
 unfolding balance
 tested c =
     sym
     (c .at-most .ensures
     ∙ ap₂ leZ
     (toZ-ofZ w64 _ (sfits-of (c .before .before .get .ok)) ∙ c .before .before .get .ensures)
-    (toZ-ofZ w64 _ (sfits-of (c .before .whole .ok)) ∙ c .before .whole .ensures ∙ ap pos (most c)))
+    (toZ-ofZ w64 _ (sfits-of (c .before .whole .ok)) ∙ c .before .whole .ensures ∙ ap pos (deep c .depth-grains .ensures)))
 
-natural-requires : tie.Need-natural-requires
-natural-requires c κs = search needs
-
-mul-most : tie.Need-mul-most
-unfolding depthGrains
-mul-most c = omega arith
+depth-grains-requires : tie.Need-depth-grains-requires
+unfolding treeOf
+depth-grains-requires c κs = search needs
 
 get-requires : tie.Need-get-requires
 get-requires c κs = search needs
 
 whole-requires : tie.Need-whole-requires
-unfolding depthGrains
-whole-requires c κs = omega arith
+whole-requires c κs = omega (arith, small (c .before .before))
 
 at-most-requires : tie.Need-at-most-requires
 at-most-requires c κs = search needs
@@ -51,23 +56,23 @@ returns : tie.Need-returns
 returns c = cut-stays _ _ (tested (c .before) ∙ c .if1 .taken)
 
 put-natural-requires : tie.Need-put-natural-requires
-unfolding depthGrains
-put-natural-requires c κs = omega arith
+put-natural-requires c κs = omega (arith, small (deep (c .before .before)))
 
 same-length-2 : tie.Need-same-length-2
 same-length-2 c = search needs
 
 returns-2 : tie.Need-returns-2
 returns-2 c =
-    let at = c .before .before .before .before in
-    c .before .put-natural .ensures ∙ ap (put _ _ _) (ap pos (most at)) ∙ cut-falls _ _ (tested at ∙ c .before .before .before .if1 .left)
+    let past = c .before .before .before in
+    c .before .put-natural .ensures
+    ∙ ap (put _ _ _) (ap pos (deep (past .before) .depth-grains .ensures))
+    ∙ cut-falls _ _ (tested (past .before) ∙ past .if1 .left)
 
 pub cut-node-spec : {M : Type 1} → statement M
 cut-node-spec =
     tie.close
     (tie.spec
-    natural-requires
-    mul-most
+    depth-grains-requires
     get-requires
     whole-requires
     at-most-requires

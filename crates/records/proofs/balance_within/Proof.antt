@@ -1,10 +1,10 @@
 -- `records::balance_within` meets its contract: three tests together.
 use Prim.Native.Nat.{ℕ, _*_}
-use mathlib.Core.Path.{ap, ap₂}
+use mathlib.Core.Path.{ap₂}
 use mathlib.Core.Bool.{Bool, _||_}
 use native.Mathlib.Omega.{arith}
 use lib.Dec.{eqb, leb}
-use Rattle.table.specs.Limits.{lastLevel, grainScale}
+use Rattle.table.specs.Limits.{lastLevel}
 use Rattle.table.specs.Places.{balance, depthGrains}
 use Rattle.table.specs.Tree.{treeOf}
 use Rattle.records.specs.Record.{balanceWithin}
@@ -13,12 +13,9 @@ use borrow.Author.Needs.{needs}
 use Rattle.records.proofs.balance_within.Statement.{statement}
 use Rattle.records.proofs.balance_within.Tie as tie
 
-natural-requires : tie.Need-natural-requires
-natural-requires c κs = search needs
-
-mul-grains : tie.Need-mul-grains
+depth-grains-requires : tie.Need-depth-grains-requires
 unfolding treeOf
-mul-grains c = omega arith
+depth-grains-requires c κs = search needs
 
 is-class-requires : tie.Need-is-class-requires
 is-class-requires c κs = search needs
@@ -26,20 +23,20 @@ is-class-requires c κs = search needs
 negative-requires : tie.Need-negative-requires
 negative-requires c κs = search needs
 
-natural-requires-2 : tie.Need-natural-requires-2
-natural-requires-2 c κs = search needs
+natural-requires : tie.Need-natural-requires
+natural-requires c κs = search needs
 
 mul-low : tie.Need-mul-low
-unfolding treeOf
+unfolding treeOf depthGrains
 mul-low c = omega arith
 
 returns : tie.Need-returns
-unfolding treeOf balanceWithin balance depthGrains
+unfolding balanceWithin balance
 returns c =
-    let grains = ap (λ (n : ℕ). n * grainScale) (c .before .before .before .natural .ensures) in
+    let grains = c .before .before .before .depth-grains .ensures in
     let below = c .before .negative .ensures in
     joined-as
-    (same-tests (ap₂ leb (c .natural2 .ensures) grains)
+    (same-tests (ap₂ leb (c .natural .ensures) grains)
     (same-tests (ap₂ (λ (n m : ℕ). leb n (lastLevel * m)) below grains)
     (last-test (ap₂ (λ (b : Bool) (n : ℕ). b || eqb n 0) (c .before .before .is-class .ensures) below))))
 
@@ -47,10 +44,9 @@ pub balance-within-spec : {M : Type 1} → statement M
 balance-within-spec =
     tie.close
     (tie.spec
-    natural-requires
-    mul-grains
+    depth-grains-requires
     is-class-requires
     negative-requires
-    natural-requires-2
+    natural-requires
     mul-low
     returns)

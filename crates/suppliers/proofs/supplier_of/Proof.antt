@@ -1,13 +1,13 @@
 -- `suppliers::supplier_of` meets its contract. The invariant: the supplier on what is left of the way is the one on the
 -- whole way. The measure is the level.
-use Prim.Native.Nat.{ℕ, _*_, _-_, _<_}
+use Prim.Native.Nat.{ℕ, _-_, _<_}
 use mathlib.Core.Path.{_≡_, sym, ap, ap₂, _∙_}
 use native.Mathlib.Omega.{arith}
-use Rattle.table.specs.Limits.{nodes, grainScale}
+use Rattle.table.specs.Limits.{nodes}
 use Rattle.table.specs.Places.{size}
 use Rattle.table.specs.Tree.{treeOf}
 use Rattle.table.specs.Tick.{grains, supplierFrom, supplier}
-use Rattle.balances.proofs.Limits.{parent-at, size-at}
+use Rattle.balances.proofs.Limits.{parent-at, size-at, grains-at}
 use Rattle.suppliers.proofs.Way.{supplier-here, supplier-none, supplier-above}
 use Rattle.suppliers.proofs.supplier_of.Statement.{statement}
 use Rattle.suppliers.proofs.supplier_of.Tie as tie
@@ -19,27 +19,34 @@ Inv-loop table k amount level₀ node₀ level node =
 abbrev μ-loop : tie.MeasureT-loop
 μ-loop table k amount level₀ node₀ level node = level
 
+-- From the loop back to the start, and from a node without enough to the loop.
+abbrev start : tie.At-loop Inv-loop μ-loop → tie.Start Inv-loop μ-loop
+start c = c .before .before .before .before
+
+abbrev at : tie.Else2 Inv-loop μ-loop → tie.At-loop Inv-loop μ-loop
+at c = c .before .before .before
+
 add-natural : tie.Need-add-natural Inv-loop μ-loop
 add-natural c = omega arith
 
 natural-requires : tie.Need-natural-requires Inv-loop μ-loop
 natural-requires c κs = (c .pre .0 .long, c .pre .1, omega arith)
 
-mul-amount : tie.Need-mul-amount Inv-loop μ-loop
-mul-amount c = omega (arith, c .natural .ensures, size-at _ (c .before .pre .0) (c .before .args .k) (c .before .pre .1))
+grains-requires : tie.Need-grains-requires Inv-loop μ-loop
+grains-requires c κs = omega (arith, c .natural .ensures, size-at _ (c .before .pre .0) (c .before .args .k) (c .before .pre .1))
 
 natural-requires-2 : tie.Need-natural-requires-2 Inv-loop μ-loop
-natural-requires-2 c κs = (c .before .pre .0 .long, c .before .pre .1, omega arith)
+natural-requires-2 c κs = (c .before .before .pre .0 .long, c .before .before .pre .1, omega arith)
 
 -- The amount is that of the oldest request.
-amount-is : (c : tie.After-natural Inv-loop μ-loop) → c .natural .result * grainScale ≡ grains (size (c .before .args .table .now) (c .before .args .k) 0)
-unfolding size grains
-amount-is c = ap (λ (n : ℕ). n * grainScale) (c .natural .ensures)
+amount-is : (c : tie.After-grains Inv-loop μ-loop) → c .grains .result ≡ grains (size (c .before .before .args .table .now) (c .before .before .args .k) 0)
+unfolding size
+amount-is c = c .grains .ensures ∙ ap grains (c .before .natural .ensures)
 
 loop-holds : tie.Need-loop-holds Inv-loop μ-loop
 unfolding treeOf supplier
 loop-holds c =
-    let start = c .before .before in (
+    let start = c .before .before .before in (
       start .pre .1,
       amount-is (c .before),
       ap₂ (λ (a l : ℕ). supplierFrom (start .args .table .now) a l (start .args .k)) (amount-is (c .before)) (c .natural2 .ensures),
@@ -47,13 +54,11 @@ loop-holds c =
 
 enough-requires : tie.Need-enough-requires Inv-loop μ-loop
 enough-requires c κs =
-    let start = c .before .before .before in
-    (start .pre .0 .long, c .loop .inv .0, omega (arith, c .before .before .natural .ensures, size-at _ (start .pre .0) (start .args .k) (start .pre .1)))
+    let pre = start c .pre in
+    (pre .0 .long, c .loop .inv .0, omega (arith, c .loop .inv .1, grains-at _ (pre .0) (start c .args .k) (pre .1)))
 
 natural-requires-3 : tie.Need-natural-requires-3 Inv-loop μ-loop
-natural-requires-3 c κs =
-    let at = c .before .before .before in
-    (at .before .before .before .pre .0 .long, at .loop .inv .0, omega arith)
+natural-requires-3 c κs = (start (at c) .pre .0 .long, at c .loop .inv .0, omega arith)
 
 sub-level : tie.Need-sub-level Inv-loop μ-loop
 sub-level c = omega (arith, c .before .if2 .left)
@@ -64,16 +69,15 @@ loop-less c = omega (arith, c .before .if2 .left)
 loop-again : tie.Need-loop-again Inv-loop μ-loop
 unfolding treeOf
 loop-again c =
-    let at = c .before .before .before .before in
-    let start = at .before .before .before in
-    let table = start .args .table .now in
-    let amount = at .before .before .natural .result * grainScale in
-    let level = at .loop .level in (
-      omega (arith, c .natural3 .ensures, parent-at table (start .pre .0) (at .loop .node) (at .loop .inv .0)),
-      at .loop .inv .1,
+    let here = at (c .before) in
+    let table = start here .args .table .now in
+    let amount = here .before .before .grains .result in
+    let level = here .loop .level in (
+      omega (arith, c .natural3 .ensures, parent-at table (start here .pre .0) (here .loop .node) (here .loop .inv .0)),
+      here .loop .inv .1,
       ap (supplierFrom table amount (level - 1)) (c .natural3 .ensures)
-          ∙ sym (supplier-above table amount level (at .loop .node) (c .before .if2 .left) (sym (c .before .before .before .enough .ensures) ∙ c .before .before .if1 .left))
-          ∙ at .loop .inv .2,
+          ∙ sym (supplier-above table amount level (here .loop .node) (c .before .if2 .left) (sym (c .before .before .before .enough .ensures) ∙ c .before .before .if1 .left))
+          ∙ here .loop .inv .2,
     )
 
 returns : tie.Need-returns Inv-loop μ-loop
@@ -94,7 +98,7 @@ supplier-of-spec =
     μ-loop
     add-natural
     natural-requires
-    mul-amount
+    grains-requires
     natural-requires-2
     loop-holds
     enough-requires

@@ -1,12 +1,12 @@
 -- `order::classes::class_covers` meets its contract: three tests together.
-use Prim.Native.Nat.{ℕ, _+_, _*_}
+use Prim.Native.Nat.{ℕ, _+_}
 use mathlib.Core.Path.{_≡_, sym, ap, ap₂, _∙_}
 use mathlib.Core.Bool.{true}
 use native.Mathlib.Omega.{arith}
 use borrow.Author.Tests.{not-true, not-false}
 use lib.Dec.{leb}
-use Rattle.table.specs.Limits.{wholeShare, grainScale}
-use Rattle.table.specs.Places.{balance, depthGrains}
+use Rattle.table.specs.Limits.{wholeShare}
+use Rattle.table.specs.Places.{balance}
 use Rattle.table.specs.Tree.{treeOf, isClass}
 use Rattle.treelaws.proofs.Children.{class-there}
 use Rattle.order.specs.Cover.{classCovers}
@@ -23,6 +23,10 @@ class c = sym (c .before .is-class .ensures) ∙ not-false _ (c .if1 .left)
 
 node : (c : tie.Else1) → Node (c .before .before .args .table .now) (c .before .before .args .c)
 node c = node-at _ (c .before .before .pre .2) _ (c .before .before .pre .1) (class-there _ _ (class c))
+
+-- Back to the test.
+abbrev shown : tie.After-depth-grains → tie.Else1
+shown c = c .before .before .before .before
 
 is-class-requires : tie.Need-is-class-requires
 is-class-requires c κs = search needs
@@ -45,25 +49,25 @@ natural-requires-2 c κs = search needs
 add-covered : tie.Need-add-covered
 add-covered c = omega (arith, small _ _ (node (c .before .before .before)))
 
-mul-covered : tie.Need-mul-covered
-mul-covered c = omega (arith, small _ _ (node (c .before .before .before)))
+depth-grains-requires : tie.Need-depth-grains-requires
+depth-grains-requires c κs = omega (arith, small _ _ (node (c .before .before .before)))
 
 add-covered-2 : tie.Need-add-covered-2
-add-covered-2 c = omega (arith, small _ _ (node (c .before .before .before)))
+add-covered-2 c = omega (arith, small _ _ (node (shown c)))
 
 returns-2 : tie.Need-returns-2
-unfolding treeOf classCovers balance depthGrains
+unfolding treeOf classCovers balance
 returns-2 c =
-    let start = c .before .before .before .before .before in
+    let start = shown c .before .before in
     let sums = start .pre .3 in
-    let depth = c .before .before .natural .ensures in
-    let needed = ap₂ _+_ (sums .credits) (c .before .negative .ensures) in
-    let covered = ap₂ _+_ (ap₂ _+_ (sums .debts) (c .natural2 .ensures)) (ap (λ (n : ℕ). n * grainScale) depth) in
+    let depth = c .before .before .before .natural .ensures in
+    let needed = ap₂ _+_ (sums .credits) (c .before .before .negative .ensures) in
+    let covered = ap₂ _+_ (ap₂ _+_ (sums .debts) (c .before .natural2 .ensures)) (c .depth-grains .ensures) in
     joined-as
     (same-tests (ap (λ (n : ℕ). leb n wholeShare) (sums .fixed))
     (same-tests (ap₂ leb (sums .depths) depth)
     (last-test (ap₂ leb needed covered))))
-    ∙ sym (test-here _ (classCovers (start .args .table .now)) _ (class (c .before .before .before)))
+    ∙ sym (test-here _ (classCovers (start .args .table .now)) _ (class (shown c)))
 
 pub class-covers-spec : {M : Type 1} → statement M
 class-covers-spec =
@@ -76,6 +80,6 @@ class-covers-spec =
     add-needed
     natural-requires-2
     add-covered
-    mul-covered
+    depth-grains-requires
     add-covered-2
     returns-2)
