@@ -7,7 +7,7 @@ use native.Mathlib.Omega.{arith}
 use lib.IntN.{ℤ}
 use Rattle.numbers.specs.Whole.{plus, minus}
 use Rattle.numbers.proofs.Sums.{sum-bound}
-use Rattle.table.specs.Limits.{nodes, depthAt, balanceAt, lastLevel, greatestDepth, greatestRate, grainScale}
+use Rattle.table.specs.Limits.{nodes, depthAt, balanceAt, lastLevel, greatestDepth, grainScale}
 use Rattle.table.specs.Places.{place, balance, depthGrains}
 use Rattle.table.specs.Tree.{treeOf, childOf, countIf, sumUnder}
 use Rattle.table.proofs.Facts.{limits-of}
@@ -23,7 +23,7 @@ use Rattle.records.proofs.Nodes.{Node, node-at}
 pub record Small (t : List ℤ) (k : ℕ) : Type 0 where
   pub depth : plus (place t k depthAt) ≤ greatestDepth
   pub grains : depthGrains t k ≤ greatestDepth * grainScale
-  pub credit : plus (place t k balanceAt) ≤ greatestRate
+  pub credit : plus (place t k balanceAt) ≤ greatestDepth * grainScale
   pub debt : minus (place t k balanceAt) ≤ lastLevel * (greatestDepth * grainScale)
 
 pub small : (t : List ℤ) (k : ℕ) → Node t k → Small t k

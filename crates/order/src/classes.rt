@@ -21,7 +21,7 @@ fn class_covers(table: &[i64], c: usize, fixed: u64, depths: u64, credits: u64, 
         return true;
     }
     let depth = Table::natural(table, c, Table::DEPTH);
-    let needed = credits + records::negative(table, c, Table::BALANCE);
+    let needed = credits + places::negative(table, c, Table::BALANCE);
     let covered = debts + Table::natural(table, c, Table::BALANCE) + Table::depth_grains(table, c);
     (fixed <= Table::WHOLE_SHARE) & (depths <= depth) & (needed <= covered)
 }

@@ -14,8 +14,8 @@ pub fn in_order(table: &[i64]) -> bool
     if table.len() != Table::LENGTH {
         return false;
     }
-    let header = records::header_in_order(table);
-    let root = records::root_in_order(table);
+    let header = places::header_in_order(table);
+    let root = places::root_in_order(table);
     let each = records::records_in_order(table);
     if !(header & root & each) {
         return false;

@@ -48,14 +48,14 @@ fn request_in_order(table: &[i64], k: usize, i: usize) -> bool
     ensures { λ r. ⌜ r ≡ requestInOrder (now (table .entry)) k i ⌝ }
 {
     let place = Table::QUEUE + Table::REQUEST * i;
-    let size = records::place_within(
+    let size = places::place_within(
         table,
         k,
         place + Table::SIZE,
         1,
         Table::natural(table, k, Table::DEPTH),
     );
-    let number = records::place_within(table, k, place + Table::ARRIVAL, 1, Table::count(table));
+    let number = places::place_within(table, k, place + Table::ARRIVAL, 1, Table::count(table));
     let rising = rising(table, k, i);
     size & number & rising
 }

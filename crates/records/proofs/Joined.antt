@@ -6,9 +6,6 @@ use mathlib.Core.List.{List, _∷_}
 use Rattle.numbers.specs.Tests.{every}
 use Rattle.table.specs.Tree.{testIf}
 use Rattle.numbers.proofs.Tests.{true-false}
--- Of any tests.
-pub use Rattle.numbers.proofs.All.{all-grows, all-done}
-pub use Rattle.numbers.proofs.Every.{joined-as, same-tests, last-test}
 
 pub test-or : (b : Bool) (p : ℕ → Bool) (k : ℕ) → testIf b p k ≡ (not b || p k)
 unfolding testIf
@@ -19,10 +16,6 @@ test-or false p k = refl
 pub every-past : (b : Bool) (bs : List Bool) → b ≡ true → every (b ∷ bs) ≡ every bs
 unfolding every
 every-past b bs h = ap (λ (x : Bool). x && every bs) h
-
--- A test that fails adds nothing.
-pub or-past : (a b : Bool) → a ≡ false → (a || b) ≡ b
-or-past a b h = ap (λ (x : Bool). x || b) h
 
 -- A test made only where another holds, by that other.
 pub test-here : (b : Bool) (p : ℕ → Bool) (k : ℕ) → b ≡ true → testIf b p k ≡ p k

@@ -1,5 +1,3 @@
-mod Bits
 pub mod Bounds
 pub mod Joined
 pub mod Nodes
-mod Spans

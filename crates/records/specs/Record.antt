@@ -1,11 +1,10 @@
 -- A record by itself and with its parent's: the first stage of the in-order test. It makes the sums under the classes safe
 -- to compute.
-use Prim.Native.Nat.{ℕ, _+_, _*_}
+use Prim.Native.Nat.{ℕ, _*_}
 use mathlib.Core.Bool.{Bool, cond, _||_}
 use mathlib.Core.List.{List, [], _∷_}
-use lib.ListN.{getD}
 use lib.Dec.{eqb, leb}
-use lib.IntN.{ℤ, pos}
+use lib.IntN.{ℤ}
 use Rattle.numbers.specs.Whole.{plus, minus}
 use Rattle.numbers.specs.Tests.{every}
 use Rattle.numbers.specs.Below.{allBelow}
@@ -13,10 +12,6 @@ use Rattle.table.specs.Limits.{nodes, recordLength, lastClassLevel, lastLevel}
 use Rattle.table.specs.Places.{place, balance, waiting, depthGrains}
 use Rattle.table.specs.Tree.{treeOf, there, isClass, testIf}
 use Rattle.table.specs.Order.{isZero, limitsKept, spareInOrder, parentInOrder}
-
--- Whether n numbers from the first on are zero.
-unfoldable pub zeros : List ℤ → ℕ → ℕ → Bool
-zeros t first n = allBelow n (λ p. isZero (getD t (first + p) (pos 0)))
 
 -- A class has level 0 to 3 and nothing waiting.
 unfoldable pub classPlaced : List ℤ → ℕ → Bool

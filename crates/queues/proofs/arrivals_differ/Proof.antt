@@ -4,7 +4,7 @@ use mathlib.Core.Path.{_≡_, refl, ap, _∙_}
 use native.Mathlib.Omega.{arith}
 use borrow.Author.Needs.{needs}
 use Rattle.numbers.specs.Below.{allBelow}
-use Rattle.records.proofs.Joined.{all-grows, all-done}
+use Rattle.numbers.proofs.All.{all-grows, all-done}
 use Rattle.table.specs.Places.{arrival}
 use Rattle.table.specs.Order.{differsAt, arrivalsDiffer}
 use Rattle.queues.specs.Marks.{markOf}

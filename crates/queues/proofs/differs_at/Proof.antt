@@ -3,7 +3,7 @@ use Prim.Native.Nat.{ℕ, _≤_, _-_}
 use mathlib.Core.Path.{_≡_, refl, ap}
 use native.Mathlib.Omega.{arith}
 use Rattle.numbers.specs.Below.{allBelow}
-use Rattle.records.proofs.Joined.{all-grows, all-done}
+use Rattle.numbers.proofs.All.{all-grows, all-done}
 use mathlib.Core.Bool.{not}
 use lib.Dec.{eqb}
 use Rattle.table.specs.Places.{arrival}

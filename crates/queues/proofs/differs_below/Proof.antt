@@ -3,7 +3,7 @@ use Prim.Native.Nat.{_≤_, _-_}
 use mathlib.Core.Path.{_≡_, refl}
 use native.Mathlib.Omega.{arith}
 use Rattle.numbers.specs.Below.{allBelow}
-use Rattle.records.proofs.Joined.{all-grows, all-done}
+use Rattle.numbers.proofs.All.{all-grows, all-done}
 use Rattle.table.specs.Order.{differsAt}
 use Rattle.queues.proofs.differs_below.Statement.{statement}
 use Rattle.queues.proofs.differs_below.Tie as tie

@@ -4,12 +4,12 @@ use mathlib.Core.Path.{_≡_, refl, sym, _∙_}
 use native.Mathlib.Omega.{arith}
 use Rattle.numbers.specs.Tests.{every}
 use Rattle.numbers.specs.Below.{allBelow}
-use Rattle.numbers.proofs.All.{all-next}
+use Rattle.numbers.proofs.All.{all-next, all-done}
 use Rattle.table.specs.Limits.{nodes}
 use Rattle.queues.specs.Waiting.{waitingInOrder}
 use Rattle.queues.specs.Marks.{MarkedBelow}
 use Rattle.queues.proofs.Marks.{none-below}
-use Rattle.records.proofs.Joined.{joined-as, same-tests, last-test, all-done}
+use Rattle.numbers.proofs.Every.{joined-as, same-tests, last-test}
 use Rattle.queues.proofs.queues_in_order.Statement.{statement}
 use Rattle.queues.proofs.queues_in_order.Tie as tie
 

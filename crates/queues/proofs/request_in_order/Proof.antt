@@ -5,7 +5,7 @@ use lib.IntN.{ℤ}
 use Rattle.numbers.specs.Whole.{withinℤ}
 use Rattle.table.specs.Tree.{treeOf}
 use Rattle.table.specs.Order.{requestInOrder}
-use Rattle.records.proofs.Joined.{joined-as, same-tests, last-test}
+use Rattle.numbers.proofs.Every.{joined-as, same-tests, last-test}
 use borrow.Author.Needs.{needs}
 use Rattle.queues.proofs.request_in_order.Statement.{statement}
 use Rattle.queues.proofs.request_in_order.Tie as tie

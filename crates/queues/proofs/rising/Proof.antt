@@ -1,14 +1,18 @@
 -- `queues::rising` meets its contract: the oldest request has none before it.
 use Prim.Native.Nat.{_-_}
-use mathlib.Core.Path.{sym, ap₂, _∙_}
+use mathlib.Core.Path.{_≡_, sym, ap, ap₂, _∙_}
+use mathlib.Core.Bool.{Bool, false, _||_}
 use borrow.Author.Tests.{eq-eqb, ne-eqb}
 use lib.Dec.{eqb, ltb}
 use Rattle.numbers.proofs.Tests.{or-true-left}
 use Rattle.table.specs.Places.{arrival}
-use Rattle.records.proofs.Joined.{or-past}
 use borrow.Author.Needs.{needs}
 use Rattle.queues.proofs.rising.Statement.{statement}
 use Rattle.queues.proofs.rising.Tie as tie
+
+-- A test that fails adds nothing.
+or-past : (a b : Bool) → a ≡ false → (a || b) ≡ b
+or-past a b h = ap (λ (x : Bool). x || b) h
 
 returns : tie.Need-returns
 returns c = sym (or-true-left (eqb (c .before .args .i) 0) _ (eq-eqb (c .before .args .i) 0 (c .if1 .taken)))

@@ -8,7 +8,7 @@ use Rattle.table.specs.Limits.{lastLevel}
 use Rattle.table.specs.Places.{balance, depthGrains}
 use Rattle.table.specs.Tree.{treeOf}
 use Rattle.records.specs.Record.{balanceWithin}
-use Rattle.records.proofs.Joined.{joined-as, same-tests, last-test}
+use Rattle.numbers.proofs.Every.{joined-as, same-tests, last-test}
 use borrow.Author.Needs.{needs}
 use Rattle.records.proofs.balance_within.Statement.{statement}
 use Rattle.records.proofs.balance_within.Tie as tie

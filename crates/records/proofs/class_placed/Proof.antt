@@ -7,7 +7,8 @@ use Rattle.table.specs.Limits.{lastClassLevel}
 use Rattle.table.specs.Places.{waiting}
 use Rattle.table.specs.Tree.{treeOf, isClass}
 use Rattle.records.specs.Record.{classPlaced}
-use Rattle.records.proofs.Joined.{joined-as, same-tests, last-test, test-or}
+use Rattle.numbers.proofs.Every.{joined-as, same-tests, last-test}
+use Rattle.records.proofs.Joined.{test-or}
 use borrow.Author.Needs.{needs}
 use Rattle.records.proofs.class_placed.Statement.{statement}
 use Rattle.records.proofs.class_placed.Tie as tie

@@ -3,11 +3,11 @@ use mathlib.Core.Path.{_≡_, sym, _∙_}
 use mathlib.Core.Bool.{true}
 use native.Mathlib.Omega.{arith}
 use borrow.Author.Tests.{not-true, not-false}
-use Rattle.numbers.proofs.Every.{head-fails}
+use Rattle.numbers.proofs.Every.{head-fails, joined-as, same-tests, last-test}
 use Rattle.table.specs.Order.{limitsKept}
 use Rattle.records.specs.Record.{nodeInOrder}
 use Rattle.records.proofs.Bounds.{bounds}
-use Rattle.records.proofs.Joined.{joined-as, same-tests, last-test, every-past}
+use Rattle.records.proofs.Joined.{every-past}
 use borrow.Author.Needs.{needs}
 use Rattle.records.proofs.node_in_order.Statement.{statement}
 use Rattle.records.proofs.node_in_order.Tie as tie

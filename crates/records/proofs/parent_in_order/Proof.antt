@@ -9,7 +9,7 @@ use Rattle.table.specs.Limits.{levelAt}
 use Rattle.table.specs.Places.{place}
 use Rattle.table.specs.Tree.{treeOf, isClass}
 use Rattle.table.specs.Order.{parentInOrder}
-use Rattle.records.proofs.Joined.{joined-as, same-tests, last-test}
+use Rattle.numbers.proofs.Every.{joined-as, same-tests, last-test}
 use borrow.Author.Needs.{needs}
 use Rattle.records.proofs.parent_in_order.Statement.{statement}
 use Rattle.records.proofs.parent_in_order.Tie as tie

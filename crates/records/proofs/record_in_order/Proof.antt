@@ -4,7 +4,7 @@ use borrow.Author.Tests.{not-true, not-false}
 use Rattle.numbers.proofs.Tests.{cond-true, cond-false}
 use Rattle.table.specs.Tree.{treeOf, there}
 use Rattle.records.specs.Record.{recordInOrder}
-use Rattle.records.proofs.Spans.{record-zeros}
+use Rattle.places.proofs.Spans.{record-zeros}
 use borrow.Author.Needs.{needs}
 use Rattle.records.proofs.record_in_order.Statement.{statement}
 use Rattle.records.proofs.record_in_order.Tie as tie

@@ -10,7 +10,8 @@ use Rattle.table.specs.Places.{balance}
 use Rattle.table.specs.Tree.{treeOf, isClass}
 use Rattle.treelaws.proofs.Children.{class-there}
 use Rattle.order.specs.Cover.{classCovers}
-use Rattle.records.proofs.Joined.{joined-as, same-tests, last-test, test-here, test-past}
+use Rattle.numbers.proofs.Every.{joined-as, same-tests, last-test}
+use Rattle.records.proofs.Joined.{test-here, test-past}
 use Rattle.records.proofs.Nodes.{Node, node-at}
 use Rattle.order.proofs.Totals.{small}
 use borrow.Author.Needs.{needs}

@@ -9,7 +9,7 @@ use Rattle.table.specs.Rates.{fixedSum}
 use Rattle.rating.specs.declared.sums.Summand.the-variants.{FixedShares, Depths, Credits, Debts}
 use Rattle.rating.specs.Sums.{term}
 use Rattle.order.specs.Cover.{classCovers}
-use Rattle.records.proofs.Joined.{all-grows, all-done}
+use Rattle.numbers.proofs.All.{all-grows, all-done}
 use Rattle.order.proofs.Totals.{summable, sum-small}
 use Rattle.order.proofs.classes.classes_cover.Statement.{statement}
 use Rattle.order.proofs.classes.classes_cover.Tie as tie

@@ -1,11 +1,11 @@
--- `records::place_is` meets its contract, by those of `get`, `whole` and `equal`.
+-- `places::place_is` meets its contract, by those of `get`, `whole` and `equal`.
 use mathlib.Core.Path.{ap₂, _∙_}
 use borrow.Author.Needs.{needs, sfits-of}
 use mir.Syntax.{w64}
 use mir.ValLaws.{toZ-ofZ}
 use Rattle.numbers.specs.Whole.{sameℤ}
-use Rattle.records.proofs.place_is.Statement.{statement}
-use Rattle.records.proofs.place_is.Tie as tie
+use Rattle.places.proofs.place_is.Statement.{statement}
+use Rattle.places.proofs.place_is.Tie as tie
 
 get-requires : tie.Need-get-requires
 get-requires c κs = search needs

@@ -1,9 +1,9 @@
--- `records::root_in_order` meets its contract: six tests together.
+-- `places::root_in_order` meets its contract: six tests together.
 use Rattle.table.specs.Order.{rootInOrder}
-use Rattle.records.proofs.Joined.{joined-as, same-tests, last-test}
+use Rattle.numbers.proofs.Every.{joined-as, same-tests, last-test}
 use borrow.Author.Needs.{needs}
-use Rattle.records.proofs.root_in_order.Statement.{statement}
-use Rattle.records.proofs.root_in_order.Tie as tie
+use Rattle.places.proofs.root_in_order.Statement.{statement}
+use Rattle.places.proofs.root_in_order.Tie as tie
 
 place-is-requires : tie.Need-place-is-requires
 place-is-requires c κs = search needs

@@ -9,11 +9,10 @@ use lib.Bits.{bitOr, or-add-and, and-le-l, and-le-r, or-lt}
 use lib.Dec.{eqb}
 use lib.IntN.{ℤ, pos}
 use mir.Syntax.{w64}
-use mir.Val.{SFits, Fits, ofZ, toZ}
+use mir.Val.{SFits, Fits, bits, ofZ, toZ}
 use mir.ValLaws.{toZ-fits, ofZ-toZ, ofZ-fits}
 use Rattle.numbers.proofs.Tests.{same-truth, and-true, and-left, and-right}
 use Rattle.numbers.proofs.Parts.{bits-same}
-use Rattle.table.specs.Limits.{nodes}
 use Rattle.table.specs.Order.{isZero}
 
 or-zero : (x y : ℕ) → eqb (bitOr x y) 0 ≡ (eqb x 0 && eqb y 0)
@@ -36,7 +35,7 @@ pub either-zero : (a b : ℤ) → SFits w64 a → SFits w64 b → isZero (toZ w6
 either-zero a b ha hb =
     let x = ofZ w64 a in
     let y = ofZ w64 b in
-    let small : Fits w64 (bitOr x y) = record { fits = or-lt nodes x y (ofZ-fits w64 a ha .fits) (ofZ-fits w64 b hb .fits) } in
+    let small : Fits w64 (bitOr x y) = record { fits = or-lt (bits w64) x y (ofZ-fits w64 a ha .fits) (ofZ-fits w64 b hb .fits) } in
     zero-bits (toZ w64 (bitOr x y)) (toZ-fits w64 (bitOr x y) small)
     ∙ ap (λ (n : ℕ). eqb n 0) (ofZ-toZ w64 (bitOr x y) small)
     ∙ or-zero x y

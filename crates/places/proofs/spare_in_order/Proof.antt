@@ -1,4 +1,4 @@
--- `records::spare_in_order` meets its contract: both tests together.
+-- `places::spare_in_order` meets its contract: both tests together.
 use Prim.Native.Nat.{ℕ, _+_, _*_, _-_}
 use mathlib.Core.Path.{ap, _∙_}
 use native.Mathlib.Omega.{arith}
@@ -6,12 +6,12 @@ use Rattle.numbers.specs.Whole.{plus}
 use Rattle.table.specs.Limits.{headerLength, recordLength, waitingAt, queueAt, queueLength, requestLength}
 use Rattle.table.specs.Places.{place, waiting}
 use Rattle.table.specs.Order.{spareInOrder}
-use Rattle.records.specs.Record.{zeros}
-use Rattle.records.proofs.Joined.{joined-as, same-tests, last-test}
-use Rattle.records.proofs.Spans.{spare-zeros, queue-zeros}
+use Rattle.places.specs.Zeros.{zeros}
+use Rattle.numbers.proofs.Every.{joined-as, same-tests, last-test}
+use Rattle.places.proofs.Spans.{spare-zeros, queue-zeros}
 use borrow.Author.Needs.{needs}
-use Rattle.records.proofs.spare_in_order.Statement.{statement}
-use Rattle.records.proofs.spare_in_order.Tie as tie
+use Rattle.places.proofs.spare_in_order.Statement.{statement}
+use Rattle.places.proofs.spare_in_order.Tie as tie
 
 mul-first : tie.Need-mul-first
 mul-first c = search needs

@@ -15,7 +15,7 @@ use Rattle.numbers.proofs.All.{all-at, all-intro, all-cong}
 use Rattle.table.specs.Limits.{headerLength, recordLength, spareAt, spareLength, queueAt, queueLength}
 use Rattle.table.specs.Places.{place, header}
 use Rattle.table.specs.Order.{isZero}
-use Rattle.records.specs.Record.{zeros}
+use Rattle.places.specs.Zeros.{zeros}
 
 -- One number looked at from two starts.
 same-number : (t : List ℤ) (m n : ℕ) → m ≡ n → isZero (getD t m (pos 0)) ≡ isZero (getD t n (pos 0))

@@ -1,4 +1,4 @@
--- `records::header_in_order` meets its contract: both tests together.
+-- `places::header_in_order` meets its contract: both tests together.
 use mathlib.Core.Path.{ap, _∙_}
 use borrow.Author.Needs.{sfits-of}
 use mir.Syntax.{w64}
@@ -6,11 +6,11 @@ use mir.ValLaws.{toZ-ofZ}
 use Rattle.numbers.specs.Whole.{withinℤ}
 use Rattle.table.specs.Limits.{greatestCount}
 use Rattle.table.specs.Order.{headerInOrder}
-use Rattle.records.proofs.Joined.{joined-as, same-tests, last-test}
-use Rattle.records.proofs.Spans.{header-zeros}
+use Rattle.numbers.proofs.Every.{joined-as, same-tests, last-test}
+use Rattle.places.proofs.Spans.{header-zeros}
 use borrow.Author.Needs.{needs}
-use Rattle.records.proofs.header_in_order.Statement.{statement}
-use Rattle.records.proofs.header_in_order.Tie as tie
+use Rattle.places.proofs.header_in_order.Statement.{statement}
+use Rattle.places.proofs.header_in_order.Tie as tie
 
 heading-requires : tie.Need-heading-requires
 heading-requires c κs = search needs

@@ -1,4 +1,4 @@
--- `records::zeros` meets its contract. The invariant: the bits joined so far are zero just where each number so far is.
+-- `places::zeros` meets its contract. The invariant: the bits joined so far are zero just where each number so far is.
 use Prim.Native.Nat.{_+_, _≤_, _-_}
 use mathlib.Core.Path.{_≡_, refl, ap, _∙_}
 use native.Mathlib.Omega.{arith}
@@ -12,9 +12,9 @@ use Rattle.numbers.specs.Whole.{sameℤ}
 use Rattle.numbers.specs.Below.{allBelow}
 use Rattle.numbers.proofs.All.{all-grows}
 use Rattle.table.specs.Order.{isZero}
-use Rattle.records.specs.Record.{zeros}
-use Rattle.records.proofs.zeros.Statement.{statement}
-use Rattle.records.proofs.zeros.Tie as tie
+use Rattle.places.specs.Zeros.{zeros}
+use Rattle.places.proofs.zeros.Statement.{statement}
+use Rattle.places.proofs.zeros.Tie as tie
 
 abbrev Inv-loop : tie.InvT-loop
 Inv-loop table first n bits₀ p₀ bits p =

@@ -1,11 +1,11 @@
--- `records::place_within` meets its contract, by those of `get` and `within`.
+-- `places::place_within` meets its contract, by those of `get` and `within`.
 use mathlib.Core.Path.{ap, _∙_}
 use borrow.Author.Needs.{needs, sfits-of}
 use mir.Syntax.{w64}
 use mir.ValLaws.{toZ-ofZ}
 use Rattle.numbers.specs.Whole.{withinℤ}
-use Rattle.records.proofs.place_within.Statement.{statement}
-use Rattle.records.proofs.place_within.Tie as tie
+use Rattle.places.proofs.place_within.Statement.{statement}
+use Rattle.places.proofs.place_within.Tie as tie
 
 get-requires : tie.Need-get-requires
 get-requires c κs = search needs

@@ -1,9 +1,9 @@
--- `records::limits_kept` meets its contract: seven tests together.
-use Rattle.records.proofs.Joined.{joined-as, same-tests, last-test}
+-- `places::limits_kept` meets its contract: seven tests together.
+use Rattle.numbers.proofs.Every.{joined-as, same-tests, last-test}
 use Rattle.table.specs.Order.{limitsKept}
 use borrow.Author.Needs.{needs}
-use Rattle.records.proofs.limits_kept.Statement.{statement}
-use Rattle.records.proofs.limits_kept.Tie as tie
+use Rattle.places.proofs.limits_kept.Statement.{statement}
+use Rattle.places.proofs.limits_kept.Tie as tie
 
 place-within-requires : tie.Need-place-within-requires
 place-within-requires c κs = search needs

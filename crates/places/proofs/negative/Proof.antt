@@ -1,12 +1,12 @@
--- `records::negative` meets its contract, by those of `get` and `numbers::negative`.
+-- `places::negative` meets its contract, by those of `get` and `numbers::negative`.
 use mathlib.Core.Path.{ap, _∙_}
 use borrow.Author.Needs.{sfits-of}
 use mir.Syntax.{w64}
 use mir.ValLaws.{toZ-ofZ}
 use Rattle.numbers.specs.Whole.{minus}
 use borrow.Author.Needs.{needs}
-use Rattle.records.proofs.negative.Statement.{statement}
-use Rattle.records.proofs.negative.Tie as tie
+use Rattle.places.proofs.negative.Statement.{statement}
+use Rattle.places.proofs.negative.Tie as tie
 
 get-requires : tie.Need-get-requires
 get-requires c κs = search needs
