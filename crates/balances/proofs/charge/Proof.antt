@@ -21,6 +21,13 @@ Inv-loop table₀ amount s level₀ node₀ table level node =
 abbrev μ-loop : tie.MeasureT-loop
 μ-loop table₀ amount s level₀ node₀ table level node = level
 
+-- Back to the loop, from the charge in a turn and from the last one.
+abbrev at : tie.After-lower-arg Inv-loop μ-loop → tie.At-loop Inv-loop μ-loop
+at c = c .before .before .before .before
+
+abbrev at-end : tie.After-lower2 Inv-loop μ-loop → tie.At-loop Inv-loop μ-loop
+at-end c = c .before .before .before
+
 natural-requires : tie.Need-natural-requires Inv-loop μ-loop
 natural-requires c κs = search needs
 
@@ -39,7 +46,7 @@ natural-requires-2 c κs = (c .before .before .loop .inv .1 .long, c .before .be
 
 lower-requires : tie.Need-lower-requires Inv-loop μ-loop
 lower-requires c κs =
-    let at = c .before .before .before .before .loop in
+    let at = at c .loop in
     (at .inv .1 .long, at .inv .0, chargeable-here _ _ _ _ (at .inv .1) _ (at .inv .0), omega arith)
 
 sub-level : tie.Need-sub-level Inv-loop μ-loop
@@ -51,11 +58,12 @@ loop-less c = omega arith
 loop-again : tie.Need-loop-again Inv-loop μ-loop
 unfolding treeOf
 loop-again c =
-    let at = c .before .before .before .before .before .before in
+    let charged = c .before .before in
+    let at = at charged in
     let start = at .before .before .before in
-    let parent = c .before .before .before .natural2 .ensures in
+    let parent = charged .before .natural2 .ensures in
     let low = c .before .lower .ensures in
-    let more = c .before .before .before .before .before .loop-test .taken in (
+    let more = charged .before .before .before .loop-test .taken in (
       omega (arith, parent, chargeable-parent _ _ _ _ (start .pre .0) (at .loop .inv .1) _ (at .loop .inv .0)),
       subst (Chargeable _ (start .args .amount) (at .loop .level - 1)) (sym low) (chargeable-next _ _ _ _ (at .loop .inv .1) more _ (at .loop .inv .0)),
       ap₂ (λ (u : List ℤ) (k : ℕ). charge u (start .args .amount) (at .loop .level - 1) k) low parent
@@ -73,7 +81,7 @@ same-length c = search needs
 
 returns : tie.Need-returns Inv-loop μ-loop
 returns c =
-    let at = c .before .before .before .before .loop in
+    let at = at-end (c .before) .loop in
     c .before .lower2 .ensures
     ∙ sym (charge-last (at .table) _ (at .level) (at .node) (omega arith))
     ∙ at .inv .2

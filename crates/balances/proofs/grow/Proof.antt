@@ -14,6 +14,10 @@ Inv-loop table₀ k₀ table k = Turns nodes growth table₀ table k
 abbrev μ-loop : tie.MeasureT-loop
 μ-loop table₀ k₀ table k = nodes - k
 
+-- From the end of a turn back to the loop.
+abbrev at : tie.After-grow-node Inv-loop μ-loop → tie.At-loop Inv-loop μ-loop
+at c = c .before .before .before
+
 loop-holds : tie.Need-loop-holds Inv-loop μ-loop
 loop-holds c = turns-first (c .pre .long)
 
@@ -31,7 +35,7 @@ loop-less c = omega arith
 
 loop-again : tie.Need-loop-again Inv-loop μ-loop
 loop-again c =
-    let at = c .before .before .before .before .loop in
+    let at = at (c .before) .loop in
     turns-next (at .inv) (omega arith) _ (c .before .grow-node .kept .0) (c .before .grow-node .ensures)
 
 same-length : tie.Need-same-length Inv-loop μ-loop

@@ -28,8 +28,8 @@ same-length c = search needs
 returns : tie.Need-returns
 unfolding lower balance
 returns c =
-    let read = c .before .before .before .before in
     let made = c .before .before .before in
+    let read = made .before in
     c .before .put .ensures
     ∙ ap (put _ _ _)
     (toZ-ofZ w64 _ (sfits-of (made .lowered .ok))

@@ -30,10 +30,14 @@ unfolding sameAnswer sameRefusal
 both a b ha hb =
     outcome-accepted _ _ (first-past 1 (not (every (inOrder a ∷ inOrder b ∷ []))) [] (ap not (holds-with _ _ ha (holds-with _ _ hb none-left))) ∙ first-end)
 
+-- From the second test back to the first.
+abbrev passed : tie.Else2 → tie.Else1
+passed c = c .before .before
+
 first-order : (c : tie.Else1) → let s = c .before .before in inOrder (s .args .first .now) ≡ true
 first-order c = sym (c .before .in-order .ensures) ∙ not-false _ (c .if1 .left)
 
-second-order : (c : tie.Else2) → let s = c .before .before .before .before in inOrder (s .args .second .now) ≡ true
+second-order : (c : tie.Else2) → let s = passed c .before .before in inOrder (s .args .second .now) ≡ true
 second-order c = sym (c .before .in-order2 .ensures) ∙ not-false _ (c .if2 .left)
 
 in-order-requires : tie.Need-in-order-requires
@@ -51,15 +55,15 @@ unfolding toldCompared
 returns-2 c = sym (not-both _ _ (rest-fail _ _ (head-fails _ _ (sym (c .before .in-order2 .ensures) ∙ not-true _ (c .if2 .taken)))))
 
 same-tree-requires : tie.Need-same-tree-requires
-same-tree-requires c κs = (long _ (first-order (c .before .before)), long _ (second-order c))
+same-tree-requires c κs = (long _ (first-order (passed c)), long _ (second-order c))
 
 returns-3 : tie.Need-returns-3
 unfolding toldCompared
-returns-3 c = sym (both _ _ (first-order (c .before .before .before .before)) (second-order (c .before .before)) ∙ ap (λ (z : ℤ). accepted (z ∷ [])) (cond-true _ (pos 1) (pos 0) (sym (c .before .same-tree .ensures) ∙ c .if3 .taken)))
+returns-3 c = sym (both _ _ (first-order (passed (c .before .before))) (second-order (c .before .before)) ∙ ap (λ (z : ℤ). accepted (z ∷ [])) (cond-true _ (pos 1) (pos 0) (sym (c .before .same-tree .ensures) ∙ c .if3 .taken)))
 
 returns-4 : tie.Need-returns-4
 unfolding toldCompared
-returns-4 c = sym (both _ _ (first-order (c .before .before .before .before)) (second-order (c .before .before)) ∙ ap (λ (z : ℤ). accepted (z ∷ [])) (cond-false _ (pos 1) (pos 0) (sym (c .before .same-tree .ensures) ∙ c .if3 .left)))
+returns-4 c = sym (both _ _ (first-order (passed (c .before .before))) (second-order (c .before .before)) ∙ ap (λ (z : ℤ). accepted (z ∷ [])) (cond-false _ (pos 1) (pos 0) (sym (c .before .same-tree .ensures) ∙ c .if3 .left)))
 
 pub same-spec : {M : Type 1} → statement M
 same-spec =

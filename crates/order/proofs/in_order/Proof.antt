@@ -1,9 +1,11 @@
 -- `order::in_order` meets its contract: a stage that fails is enough to say no, and all together say yes.
 use mathlib.Core.Path.{_≡_, sym, _∙_}
 use mathlib.Core.Bool.{true, _&&_}
+use mathlib.Core.List.{List}
 use borrow.Author.Tests.{eq-eqb, ne-eqb, not-true, not-false}
 use lib.ListN.{length}
 use lib.Dec.{eqb}
+use lib.IntN.{ℤ}
 use Rattle.numbers.proofs.Tests.{same-truth, and-true, and-left, and-right}
 use Rattle.table.specs.Limits.{tableLength}
 use Rattle.table.specs.Tree.{treeOf, eachClass}
@@ -15,23 +17,30 @@ use borrow.Author.Needs.{needs}
 use Rattle.order.proofs.in_order.Statement.{statement}
 use Rattle.order.proofs.in_order.Tie as tie
 
+-- From the test of the records back to that of the length, and the table.
+abbrev measured : tie.After-records-in-order → tie.Else1
+measured c = c .before .before .before
+
+abbrev table : tie.After-records-in-order → List ℤ
+table c = measured c .before .args .table .now
+
 -- What is known past each test.
-long : (c : tie.Else2) → length (c .before .before .before .before .before .args .table .now) ≡ tableLength
-long c = c .before .before .before .before .if1 .left
+long : (c : tie.Else2) → length (table (c .before)) ≡ tableLength
+long c = measured (c .before) .if1 .left
 
 shaped : (c : tie.Else2) → (c .before .before .before .header-in-order .result && c .before .before .root-in-order .result && c .before .records-in-order .result) ≡ true
 shaped c = not-false _ (c .if2 .left)
 
-header : (c : tie.Else2) → headerInOrder (c .before .before .before .before .before .args .table .now) ≡ true
+header : (c : tie.Else2) → headerInOrder (table (c .before)) ≡ true
 header c = sym (c .before .before .before .header-in-order .ensures) ∙ and-left (c .before .before .before .header-in-order .result) _ (and-left _ (c .before .records-in-order .result) (shaped c))
 
-root : (c : tie.Else2) → rootInOrder (c .before .before .before .before .before .args .table .now) ≡ true
+root : (c : tie.Else2) → rootInOrder (table (c .before)) ≡ true
 root c = sym (c .before .before .root-in-order .ensures) ∙ and-right (c .before .before .before .header-in-order .result) _ (and-left _ (c .before .records-in-order .result) (shaped c))
 
-records : (c : tie.Else2) → recordsInOrder (c .before .before .before .before .before .args .table .now) ≡ true
+records : (c : tie.Else2) → recordsInOrder (table (c .before)) ≡ true
 records c = sym (c .before .records-in-order .ensures) ∙ and-right (c .before .before .before .header-in-order .result && c .before .before .root-in-order .result) _ (shaped c)
 
-covered : (c : tie.Else3) → eachClass (treeOf (c .before .before .before .before .before .before .before .args .table .now)) (classCovers (c .before .before .before .before .before .before .before .args .table .now)) ≡ true
+covered : (c : tie.Else3) → let t = table (c .before .before .before) in eachClass (treeOf t) (classCovers t) ≡ true
 covered c = sym (c .before .classes-cover .ensures) ∙ not-false _ (c .if3 .left)
 
 returns : tie.Need-returns
@@ -71,10 +80,11 @@ queues-in-order-requires c κs = (long (c .before .before .before), waiting-smal
 
 returns-4 : tie.Need-returns-4
 returns-4 c =
-    let shaped = c .before .before .before .before in
+    let past = c .before .before in
+    let shaped = past .before .before in
     let rates = c .before .rates-in-order in
     let queues = c .queues-in-order in
-    same-truth (rates .result && queues .result) (inOrder (shaped .before .before .before .before .before .args .table .now))
+    same-truth (rates .result && queues .result) (inOrder (table (shaped .before)))
     (λ h.
     from-stages _
     (record {
@@ -82,7 +92,7 @@ returns-4 c =
       header = header shaped;
       root = root shaped;
       records = records shaped;
-      classes = covered (c .before .before);
+      classes = covered past;
       rates = sym (rates .ensures) ∙ and-left (rates .result) (queues .result) h;
       queues = sym (queues .ensures) ∙ and-right (rates .result) (queues .result) h;
     }))

@@ -5,6 +5,10 @@ use borrow.Author.Needs.{needs}
 use Rattle.places.proofs.limits_kept.Statement.{statement}
 use Rattle.places.proofs.limits_kept.Tie as tie
 
+-- Back to the test of the kind.
+abbrev kind : tie.After-place-within7 → tie.After-place-within4
+kind c = c .before .before .before
+
 place-within-requires : tie.Need-place-within-requires
 place-within-requires c κs = search needs
 
@@ -30,10 +34,10 @@ returns : tie.Need-returns
 unfolding limitsKept
 returns c =
     joined-as
-    (same-tests (c .before .before .before .before .before .before .place-within .ensures)
-    (same-tests (c .before .before .before .before .before .place-within2 .ensures)
-    (same-tests (c .before .before .before .before .place-within3 .ensures)
-    (same-tests (c .before .before .before .place-within4 .ensures)
+    (same-tests (kind c .before .before .before .place-within .ensures)
+    (same-tests (kind c .before .before .place-within2 .ensures)
+    (same-tests (kind c .before .place-within3 .ensures)
+    (same-tests (kind c .place-within4 .ensures)
     (same-tests (c .before .before .place-within5 .ensures)
     (same-tests (c .before .place-within6 .ensures)
     (last-test (c .place-within7 .ensures))))))))

@@ -1,9 +1,13 @@
 -- `places::root_in_order` meets its contract: six tests together.
-use Rattle.table.specs.Order.{rootInOrder}
 use Rattle.numbers.proofs.Every.{joined-as, same-tests, last-test}
+use Rattle.table.specs.Order.{rootInOrder}
 use borrow.Author.Needs.{needs}
 use Rattle.places.proofs.root_in_order.Statement.{statement}
 use Rattle.places.proofs.root_in_order.Tie as tie
+
+-- Back to the test of the level.
+abbrev level : tie.After-place-within → tie.After-place-is3
+level c = c .before .before .before
 
 place-is-requires : tie.Need-place-is-requires
 place-is-requires c κs = search needs
@@ -27,9 +31,9 @@ returns : tie.Need-returns
 unfolding rootInOrder
 returns c =
     joined-as
-    (same-tests (c .before .before .before .before .before .place-is .ensures)
-    (same-tests (c .before .before .before .before .place-is2 .ensures)
-    (same-tests (c .before .before .before .place-is3 .ensures)
+    (same-tests (level c .before .before .place-is .ensures)
+    (same-tests (level c .before .place-is2 .ensures)
+    (same-tests (level c .place-is3 .ensures)
     (same-tests (c .before .before .place-is4 .ensures)
     (same-tests (c .before .place-is5 .ensures)
     (last-test (c .place-within .ensures)))))))

@@ -3,11 +3,11 @@ use Prim.Native.Nat.{ℕ, _+_, _*_, _-_}
 use mathlib.Core.Path.{ap, _∙_}
 use native.Mathlib.Omega.{arith}
 use Rattle.numbers.specs.Whole.{plus}
+use Rattle.numbers.proofs.Every.{joined-as, same-tests, last-test}
 use Rattle.table.specs.Limits.{headerLength, recordLength, waitingAt, queueAt, queueLength, requestLength}
 use Rattle.table.specs.Places.{place, waiting}
 use Rattle.table.specs.Order.{spareInOrder}
 use Rattle.places.specs.Zeros.{zeros}
-use Rattle.numbers.proofs.Every.{joined-as, same-tests, last-test}
 use Rattle.places.proofs.Spans.{spare-zeros, queue-zeros}
 use borrow.Author.Needs.{needs}
 use Rattle.places.proofs.spare_in_order.Statement.{statement}

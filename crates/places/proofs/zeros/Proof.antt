@@ -48,13 +48,14 @@ loop-less c = omega arith
 loop-again : tie.Need-loop-again Inv-loop μ-loop
 unfolding zeros
 loop-again c =
-    let t = c .before .before .before .before .args .table .now in
-    let first = c .before .before .before .before .args .first in
-    let p = c .before .before .before .loop .p in (
+    let at = c .before .before .before in
+    let t = at .before .args .table .now in
+    let first = at .before .args .first in
+    let p = at .loop .p in (
       omega arith,
       ap isZero (toZ-ofZ (sfits-of (c .either .ok)))
           ∙ c .either .ensures
-          ∙ all-grows p (λ p. isZero (getD t (first + p) (pos 0))) _ _ (c .before .before .before .loop .inv .1) (ap isZero (toZ-ofZ (sfits-of (c .before .either-arg .given)))),
+          ∙ all-grows p (λ p. isZero (getD t (first + p) (pos 0))) _ _ (at .loop .inv .1) (ap isZero (toZ-ofZ (sfits-of (c .before .either-arg .given)))),
     )
 
 equal-requires : tie.Need-equal-requires Inv-loop μ-loop

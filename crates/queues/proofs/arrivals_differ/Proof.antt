@@ -18,6 +18,10 @@ Inv-loop table marked₀ k n ok₀ i₀ marked ok i = (i ≤ n) × (ok ≡ allBe
 abbrev μ-loop : tie.MeasureT-loop
 μ-loop table marked₀ k n ok₀ i₀ marked ok i = n - i
 
+-- From the number read back to the loop.
+abbrev at : tie.After-arrival Inv-loop μ-loop → tie.At-loop Inv-loop μ-loop
+at c = c .before .before
+
 waiting-requires : tie.Need-waiting-requires Inv-loop μ-loop
 waiting-requires c κs = omega arith
 
@@ -30,8 +34,9 @@ arrival-requires c κs = omega (arith, c .before .before .before .pre .2 (c .bef
 
 differs-marked-requires : tie.Need-differs-marked-requires Inv-loop μ-loop
 differs-marked-requires c κs =
-    let start = c .before .before .before .before .before in
-    (start .pre .0, omega arith, start .pre .2, c .before .before .before .loop .inv .2 .below)
+    let here = at (c .before) in
+    let pre = here .before .before .pre in
+    (pre .0, omega arith, pre .2, here .loop .inv .2 .below)
 
 mark-of-requires : tie.Need-mark-of-requires Inv-loop μ-loop
 mark-of-requires c κs = search needs
@@ -47,10 +52,11 @@ loop-less c = omega arith
 
 loop-again : tie.Need-loop-again Inv-loop μ-loop
 loop-again c =
-    let start = c .before .before .before .before .before .before .before in
-    let at = c .before .before .before .before .before .loop in
-    let number = c .before .before .before .arrival .ensures in
-    let same = ap (λ (a : ℕ). allBelow (start .args .k) (differsAt (start .args .table .now) a)) number in (
+    let read = c .before .before .before in
+    let args = at read .before .before .args in
+    let at = at read .loop in
+    let number = read .arrival .ensures in
+    let same = ap (λ (a : ℕ). allBelow (args .k) (differsAt (args .table .now) a)) number in (
       omega arith,
       all-grows _ _ _ _ (at .inv .1) (c .before .differs-marked .ensures ∙ same),
       marking-next _ _ _ _ _ (c .mark-of .ensures .1) (c .mark-of .ensures .0 ∙ ap markOf number) (at .inv .2),

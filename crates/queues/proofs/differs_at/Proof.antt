@@ -34,7 +34,9 @@ loop-less : tie.Need-loop-less Inv-loop μ-loop
 loop-less c = omega arith
 
 loop-again : tie.Need-loop-again Inv-loop μ-loop
-loop-again c = (omega arith, all-grows _ _ _ _ (c .before .before .loop .inv .1) (ap (λ (n : ℕ). not (eqb (c .before .before .before .before .args .a) n)) (c .arrival .ensures)))
+loop-again c =
+    let at = c .before .before in
+    (omega arith, all-grows _ _ _ _ (at .loop .inv .1) (ap (λ (n : ℕ). not (eqb (at .before .before .args .a) n)) (c .arrival .ensures)))
 
 returns : tie.Need-returns Inv-loop μ-loop
 unfolding differsAt

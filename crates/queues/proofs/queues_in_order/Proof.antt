@@ -5,11 +5,11 @@ use native.Mathlib.Omega.{arith}
 use Rattle.numbers.specs.Tests.{every}
 use Rattle.numbers.specs.Below.{allBelow}
 use Rattle.numbers.proofs.All.{all-next, all-done}
+use Rattle.numbers.proofs.Every.{joined-as, same-tests, last-test}
 use Rattle.table.specs.Limits.{nodes}
 use Rattle.queues.specs.Waiting.{waitingInOrder}
 use Rattle.queues.specs.Marks.{MarkedBelow}
 use Rattle.queues.proofs.Marks.{none-below}
-use Rattle.numbers.proofs.Every.{joined-as, same-tests, last-test}
 use Rattle.queues.proofs.queues_in_order.Statement.{statement}
 use Rattle.queues.proofs.queues_in_order.Tie as tie
 
@@ -28,9 +28,8 @@ queue-in-order-requires c κs = omega (arith, c .before .before .pre .1 (c .befo
 
 arrivals-differ-requires : tie.Need-arrivals-differ-requires Inv-loop μ-loop
 arrivals-differ-requires c κs =
-    let start = c .before .before .before .before in
-    let at = c .before .before .before .loop in
-    (start .pre .0, omega arith, start .pre .1, at .inv .2)
+    let at = c .before .before .before in
+    (at .before .pre .0, omega arith, at .before .pre .1, at .loop .inv .2)
 
 add-k : tie.Need-add-k Inv-loop μ-loop
 add-k c = omega arith
@@ -40,12 +39,13 @@ loop-less c = omega arith
 
 loop-again : tie.Need-loop-again Inv-loop μ-loop
 unfolding every waitingInOrder
-loop-again c = (
-  omega arith,
-  joined-as (same-tests (c .before .before .before .before .loop .inv .1) (same-tests (c .before .before .queue-in-order .ensures) (last-test (c .arrivals-differ .ensures .0))))
-      ∙ sym (all-next _ _),
-  c .arrivals-differ .ensures .1,
-)
+loop-again c =
+    let queue = c .before .before in (
+      omega arith,
+      joined-as (same-tests (queue .before .before .loop .inv .1) (same-tests (queue .queue-in-order .ensures) (last-test (c .arrivals-differ .ensures .0))))
+          ∙ sym (all-next _ _),
+      c .arrivals-differ .ensures .1,
+    )
 
 returns : tie.Need-returns Inv-loop μ-loop
 returns c = all-done _ _ _ _ (c .before .loop .inv .1) (omega arith)

@@ -3,15 +3,19 @@ use Prim.Native.Nat.{ℕ}
 use mathlib.Core.Path.{_≡_, ap, _∙_}
 use lib.IntN.{ℤ}
 use Rattle.numbers.specs.Whole.{withinℤ}
+use Rattle.numbers.proofs.Every.{joined-as, same-tests, last-test}
 use Rattle.table.specs.Tree.{treeOf}
 use Rattle.table.specs.Order.{requestInOrder}
-use Rattle.numbers.proofs.Every.{joined-as, same-tests, last-test}
 use borrow.Author.Needs.{needs}
 use Rattle.queues.proofs.request_in_order.Statement.{statement}
 use Rattle.queues.proofs.request_in_order.Tie as tie
 
 same-high : (z : ℤ) {m n : ℕ} → m ≡ n → withinℤ 1 m z ≡ withinℤ 1 n z
 same-high z e = ap (λ (n : ℕ). withinℤ 1 n z) e
+
+-- Back to the test of the size.
+abbrev sized : tie.After-rising → tie.After-place-within
+sized c = c .before .before .before
 
 mul-place : tie.Need-mul-place
 mul-place c = search needs
@@ -44,7 +48,7 @@ returns : tie.Need-returns
 unfolding requestInOrder treeOf
 returns c =
     joined-as
-    (same-tests (c .before .before .before .place-within .ensures ∙ same-high _ (c .before .before .before .before .natural .ensures))
+    (same-tests (sized c .place-within .ensures ∙ same-high _ (sized c .before .natural .ensures))
     (same-tests (c .before .place-within2 .ensures ∙ same-high _ (c .before .before .count .ensures))
     (last-test (c .rising .ensures))))
 

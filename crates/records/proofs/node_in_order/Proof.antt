@@ -16,6 +16,10 @@ use Rattle.records.proofs.node_in_order.Tie as tie
 kept : (c : tie.Else1) → limitsKept (c .before .before .args .table .now) (c .before .before .args .k) ≡ true
 kept c = sym (c .before .limits-kept .ensures) ∙ not-false _ (c .if1 .left)
 
+-- Back to where the limits are known.
+abbrev past : tie.After-class-placed → tie.Else1
+past c = c .before .before .before
+
 limits-kept-requires : tie.Need-limits-kept-requires
 limits-kept-requires c κs = search needs
 
@@ -33,7 +37,7 @@ class-placed-requires : tie.Need-class-placed-requires
 class-placed-requires c κs = search needs
 
 balance-within-requires : tie.Need-balance-within-requires
-balance-within-requires c κs = omega (arith, bounds _ _ (kept (c .before .before .before)))
+balance-within-requires c κs = omega (arith, bounds _ _ (kept (past c)))
 
 returns-2 : tie.Need-returns-2
 unfolding nodeInOrder
@@ -43,7 +47,7 @@ returns-2 c =
     (same-tests (c .before .before .parent-in-order .ensures)
     (same-tests (c .before .class-placed .ensures)
     (last-test (c .balance-within .ensures)))))
-    ∙ sym (every-past _ _ (kept (c .before .before .before .before)))
+    ∙ sym (every-past _ _ (kept (past (c .before))))
 
 pub node-in-order-spec : {M : Type 1} → statement M
 node-in-order-spec =

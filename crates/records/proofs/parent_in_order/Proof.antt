@@ -5,14 +5,18 @@ use mathlib.Core.Bool.{Bool, _||_}
 use native.Mathlib.Omega.{arith}
 use lib.Dec.{eqb}
 use Rattle.numbers.specs.Whole.{plus}
+use Rattle.numbers.proofs.Every.{joined-as, same-tests, last-test}
 use Rattle.table.specs.Limits.{levelAt}
 use Rattle.table.specs.Places.{place}
 use Rattle.table.specs.Tree.{treeOf, isClass}
 use Rattle.table.specs.Order.{parentInOrder}
-use Rattle.numbers.proofs.Every.{joined-as, same-tests, last-test}
 use borrow.Author.Needs.{needs}
 use Rattle.records.proofs.parent_in_order.Statement.{statement}
 use Rattle.records.proofs.parent_in_order.Tie as tie
+
+-- Back to where the parent is read.
+abbrev read : tie.After-follows → tie.After-natural
+read c = c .before .before .before .before
 
 natural-requires : tie.Need-natural-requires
 natural-requires c κs = search needs
@@ -34,13 +38,13 @@ follows-requires c κs = search needs
 returns : tie.Need-returns
 unfolding parentInOrder treeOf
 returns c =
-    let start = c .before .before .before .before .before in
-    let t = start .args .table .now in
-    let parent = c .before .before .before .before .natural .ensures in
+    let known = read c in
+    let t = known .before .args .table .now in
+    let parent = known .natural .ensures in
     let above = c .before .natural3 .ensures ∙ ap (λ (p : ℕ). plus (place t p levelAt)) parent in
     let class = c .before .before .before .is-class .ensures ∙ ap (isClass (treeOf t)) parent in
     let level = c .follows .ensures ∙ ap₂ (λ (n m : ℕ). eqb n (suc m)) (c .before .before .natural2 .ensures) above in
-    ap (λ (b : Bool). eqb (start .args .k) 0 || b) (joined-as (same-tests class (last-test level)))
+    ap (λ (b : Bool). eqb (known .before .args .k) 0 || b) (joined-as (same-tests class (last-test level)))
 
 pub parent-in-order-spec : {M : Type 1} → statement M
 parent-in-order-spec =

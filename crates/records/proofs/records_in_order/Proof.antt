@@ -3,8 +3,8 @@ use Prim.Native.Nat.{_≤_, _-_}
 use mathlib.Core.Path.{_≡_, refl}
 use native.Mathlib.Omega.{arith}
 use Rattle.numbers.specs.Below.{allBelow}
-use Rattle.table.specs.Limits.{nodes}
 use Rattle.numbers.proofs.All.{all-grows, all-done}
+use Rattle.table.specs.Limits.{nodes}
 use Rattle.records.specs.Record.{recordInOrder, recordsInOrder}
 use Rattle.records.proofs.records_in_order.Statement.{statement}
 use Rattle.records.proofs.records_in_order.Tie as tie

@@ -7,33 +7,45 @@ use Rattle.steps.proofs.Steps.{One, one, Two, two, Three, three, four}
 use Rattle.steps.proofs.run.Statement.{statement}
 use Rattle.steps.proofs.run.Tie as tie
 
+-- From each step back to the one before it.
+abbrev first : tie.After-serve-all → tie.After-grow
+first c = c .before .before .before .before
+
+abbrev second : tie.After-cut → tie.After-serve-all
+second c = c .before .before .before .before
+
+abbrev third : tie.After-lend → tie.After-cut
+third c = c .before .before .before .before
+
+abbrev start : tie.After-serve-all → tie.Start
+start c = first c .before .before
+
 after-one : (c : tie.After-grow) → One (c .before .before .args .table .now) (c .grow .last .0)
 after-one c = one _ _ (c .before .before .pre .0) (c .grow .ensures)
 
-after-two : (c : tie.After-serve-all) → Two (c .before .before .before .before .before .before .args .table .now) (c .before .before .before .before .before .before .args .list .now) (c .serve-all .last .0) (c .serve-all .last .1 .0) (c .serve-all .result)
-after-two c =
-    let grown = c .before .before .before .before in
-    two _ _ _ _ _ _ (after-one grown) (grown .grow .ensures) (c .serve-all .ensures)
+after-two : (c : tie.After-serve-all) → Two (start c .args .table .now) (start c .args .list .now) (c .serve-all .last .0) (c .serve-all .last .1 .0) (c .serve-all .result)
+after-two c = two _ _ _ _ _ _ (after-one (first c)) (first c .grow .ensures) (c .serve-all .ensures)
 
-after-three : (c : tie.After-cut) → Three (c .before .before .before .before .before .before .before .before .before .before .args .table .now) (c .before .before .before .before .before .before .before .before .before .before .args .list .now) (c .cut .last .0) (c .before .before .before .before .serve-all .last .1 .0) (c .before .before .before .before .serve-all .result)
-after-three c = three _ _ _ _ _ _ (after-two (c .before .before .before .before)) (c .cut .ensures)
+after-three : (c : tie.After-cut) → let made = second c in Three (start made .args .table .now) (start made .args .list .now) (c .cut .last .0) (made .serve-all .last .1 .0) (made .serve-all .result)
+after-three c = three _ _ _ _ _ _ (after-two (second c)) (c .cut .ensures)
 
 grow-requires : tie.Need-grow-requires
 grow-requires c κs = order-within _ (c .before .pre .0)
 
 serve-all-requires : tie.Need-serve-all-requires
 serve-all-requires c κs =
-    let o = after-one (c .before .before .before) in
-    (o .on, omega (arith, o .sum, c .before .before .before .before .before .pre .1))
+    let made = c .before .before .before in
+    let o = after-one made in
+    (o .on, omega (arith, o .sum, made .before .before .pre .1))
 
 cut-requires : tie.Need-cut-requires
 cut-requires c κs = serving-within _ (after-two (c .before .before .before) .on)
 
 lend-requires : tie.Need-lend-requires
 lend-requires c κs =
-    let three = after-three (c .before .before .before) in
-    let served = c .before .before .before .before .before .before .before in
-    (three .on, omega (arith, three .sum, served .serve-all .kept .1 .0, served .before .before .before .before .before .before .pre .1))
+    let cut = c .before .before .before in
+    let three = after-three cut in
+    (three .on, omega (arith, three .sum, second cut .serve-all .kept .1 .0, start (second cut) .pre .1))
 
 same-length : tie.Need-same-length
 same-length c = search needs
@@ -43,7 +55,8 @@ same-length-2 c = search needs
 
 returns : tie.Need-returns
 returns c =
-    let shows = four _ _ _ _ _ _ _ _ (after-three (c .before .before .before .before .before .before)) (c .before .before .lend .ensures) in
+    let lent = c .before .before in
+    let shows = four _ _ _ _ _ _ _ _ (after-three (third lent)) (lent .lend .ensures) in
     (shows .table, (shows .list, shows .count))
 
 pub run-spec : {M : Type 1} → statement M

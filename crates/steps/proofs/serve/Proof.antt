@@ -28,43 +28,47 @@ loop-holds c = (refl, refl, going-first Serving _ _ _ _ (c .pre .0) (c .pre .2))
 ready-requires : tie.Need-ready-requires Inv-loop μ-loop
 ready-requires c κs = (serving-within _ (c .before .loop .inv .2 .on), c .before .before .pre .1)
 
+-- From a turn back to the loop, and from its end to its beginning.
+abbrev at : tie.Then1 Inv-loop μ-loop → tie.At-loop Inv-loop μ-loop
+at c = c .before .before .before
+
+abbrev turn : tie.After-list Inv-loop μ-loop → tie.Then1 Inv-loop μ-loop
+turn c = c .before .before .before .before .before
+
 -- The client is ready in a turn.
-found : (c : tie.Then1 Inv-loop μ-loop) → ready (c .before .before .before .loop .table) (c .before .before .before .before .args .k) ≡ true
+found : (c : tie.Then1 Inv-loop μ-loop) → ready (at c .loop .table) (at c .before .args .k) ≡ true
 found c = sym (c .before .ready .ensures) ∙ c .if1 .taken
 
 dispatch-requires : tie.Need-dispatch-requires Inv-loop μ-loop
 dispatch-requires c κs =
-    let at = c .before .before .before .before .before .loop in
-    let hk = c .before .before .before .before .before .before .pre .1 in
+    let here = at (c .before .before) in
+    let hk = here .before .pre .1 in
     let e = found (c .before .before) in
-    let on = at .inv .2 .on in
-    (serving-within _ on, hk, hk, ready-facts _ _ e .waits, omega (arith, at .inv .2 .room, served-falls (at .table) on _ hk e))
+    let on = here .loop .inv .2 .on in
+    (serving-within _ on, hk, hk, ready-facts _ _ e .waits, omega (arith, here .loop .inv .2 .room, served-falls (here .loop .table) on _ hk e))
 
 add-written : tie.Need-add-written Inv-loop μ-loop
-add-written c =
-    let turn = c .before .before .before .before .before .before .before .before in
-    omega (arith, turn .before, turn .loop .inv .2 .room, turn .loop .inv .1)
+add-written c = let here = at (turn c) in omega (arith, here .before, here .loop .inv .2 .room, here .loop .inv .1)
 
 loop-less : tie.Need-loop-less Inv-loop μ-loop
 loop-less c =
-    let at = c .before .before .before .before .before .before .before .before .loop in
-    let start = c .before .before .before .before .before .before .before .before .before in
-    let k = start .args .k in
+    let here = at (turn c) in
+    let k = here .before .args .k in
     omega (
       arith,
-      served-own (at .table) (at .inv .2 .on) k (start .pre .1) (found (c .before .before .before .before .before)),
+      served-own (here .loop .table) (here .loop .inv .2 .on) k (here .before .pre .1) (found (turn c)),
       ap (λ (u : List ℤ). waiting u k) (c .before .before .dispatch .ensures .0),
     )
 
 loop-again : tie.Need-loop-again Inv-loop μ-loop
 loop-again c =
-    let at = c .before .before .before .before .before .before .before .before .loop in
-    let start = c .before .before .before .before .before .before .before .before .before in
+    let start = at (turn c) .before in
+    let at = at (turn c) .loop in
     let made = c .before .before .dispatch in (
       made .kept .0 ∙ at .inv .0,
       made .kept .1 .0 ∙ at .inv .1,
       going-next Serving _ _ _ _ (at .table) (at .list) (at .written) (start .args .k) (start .args .k) (at .inv .2)
-          (serving-turn (start .args .k) (at .table) (at .inv .2 .on) (start .pre .1) (found (c .before .before .before .before .before)))
+          (serving-turn (start .args .k) (at .table) (at .inv .2 .on) (start .pre .1) (found (turn c)))
           _ _ (made .ensures .0) (made .ensures .1) (made .kept .1 .0),
     )
 

@@ -25,14 +25,18 @@ Inv-loop table₀ list₀ written₀ k₀ table list written k =
 abbrev μ-loop : tie.MeasureT-loop
 μ-loop table₀ list₀ written₀ k₀ table list written k = nodes - k
 
+-- From the call back to the loop.
+abbrev at : tie.After-serve-arg2 Inv-loop μ-loop → tie.At-loop Inv-loop μ-loop
+at c = c .before .before .before
+
 loop-holds : tie.Need-loop-holds Inv-loop μ-loop
 unfolding forBelow
 loop-holds c = (omega arith, refl, refl, shows-first _ _)
 
 serve-requires : tie.Need-serve-requires Inv-loop μ-loop
 serve-requires c κs =
-    let at = c .before .before .before .loop in
-    let start = c .before .before .before .before in
+    let start = at c .before in
+    let at = at c .loop in
     let p = passed _ _ (start .pre .0) (at .k) (at .inv .0) _ _ _ (at .inv .3) in
     (p .on, omega arith, omega (arith, p .sum, start .pre .1, at .inv .2))
 
@@ -44,8 +48,9 @@ loop-less c = omega arith
 
 loop-again : tie.Need-loop-again Inv-loop μ-loop
 loop-again c =
-    let at = c .before .before .before .before .before .before .loop in
-    let made = c .before .before .serve in
+    let served = c .before .before in
+    let at = at (served .before) .loop in
+    let made = served .serve in
     (omega arith, made .kept .0 ∙ at .inv .1, made .kept .1 .0 ∙ at .inv .2, rw (for-next (at .k) serving _) (made .ensures .shows _ _ (at .inv .3)))
 
 same-length : tie.Need-same-length Inv-loop μ-loop

@@ -18,6 +18,16 @@ Inv-clients table best₀ k₀ best k = (k ≤ nodes) × (best ≤ nobody) × (b
 abbrev μ-clients : tie.MeasureT-clients
 μ-clients table best₀ k₀ best k = nodes - k
 
+-- From the waiting count back to the loop; from the two later tests to the waiting count.
+abbrev at : tie.After-natural Inv-clients μ-clients → tie.At-clients Inv-clients μ-clients
+at c = c .before .before
+
+abbrev counted : tie.After-earlier Inv-clients μ-clients → tie.After-natural Inv-clients μ-clients
+counted c = c .before .before
+
+abbrev counted-2 : tie.After-supplier-of Inv-clients μ-clients → tie.After-natural Inv-clients μ-clients
+counted-2 c = counted (c .before .before)
+
 clients-holds : tie.Need-clients-holds Inv-clients μ-clients
 unfolding forBelow
 clients-holds c = (omega arith, omega arith, refl)
@@ -34,12 +44,12 @@ clients-less c = omega arith
 clients-again : tie.Need-clients-again Inv-clients μ-clients
 unfolding waiting
 clients-again c =
-    let at = c .before .before .before .clients in
-    let t = c .before .before .before .before .args .table .now in
+    let t = at (c .before) .before .args .table .now in
+    let at = at (c .before) .clients in
     (omega arith, at .inv .1, turned (at .k) (better t) nobody (at .best) (at .best) (at .inv .2) (sym (idle t (at .k) (at .best) (sym (c .before .natural .ensures) ∙ c .if1 .taken))))
 
 earlier-requires : tie.Need-earlier-requires Inv-clients μ-clients
-earlier-requires c κs = (c .before .before .before .before .pre .long, omega arith, omega arith)
+earlier-requires c κs = (at (c .before) .before .pre .long, omega arith, omega arith)
 
 add-k-2 : tie.Need-add-k-2 Inv-clients μ-clients
 add-k-2 c = omega arith
@@ -49,12 +59,13 @@ clients-less-2 c = omega arith
 
 clients-again-2 : tie.Need-clients-again-2 Inv-clients μ-clients
 clients-again-2 c =
-    let at = c .before .before .before .before .before .clients in
-    let t = c .before .before .before .before .before .before .args .table .now in
+    let here = at (counted (c .before)) in
+    let at = here .clients in
+    let t = here .before .args .table .now in
     (omega arith, at .inv .1, turned (at .k) (better t) nobody (at .best) (at .best) (at .inv .2) (sym (later t (at .k) (at .best) (sym (c .before .earlier .ensures) ∙ not-true _ (c .if2 .taken)))))
 
 supplier-of-requires : tie.Need-supplier-of-requires Inv-clients μ-clients
-supplier-of-requires c κs = (c .before .before .before .before .before .before .pre, omega arith)
+supplier-of-requires c κs = (at (counted (c .before)) .before .pre, omega arith)
 
 add-k-3 : tie.Need-add-k-3 Inv-clients μ-clients
 add-k-3 c = omega arith
@@ -64,8 +75,9 @@ clients-less-3 c = omega arith
 
 clients-again-3 : tie.Need-clients-again-3 Inv-clients μ-clients
 clients-again-3 c =
-    let at = c .before .before .before .before .before .before .before .clients in
-    let t = c .before .before .before .before .before .before .before .before .args .table .now in
+    let here = at (counted-2 (c .before)) in
+    let at = here .clients in
+    let t = here .before .args .table .now in
     (omega arith, at .inv .1, turned (at .k) (better t) nobody (at .best) (at .best) (at .inv .2) (sym (unsupplied t (at .k) (at .best) (omega arith))))
 
 add-k-4 : tie.Need-add-k-4 Inv-clients μ-clients
@@ -77,14 +89,17 @@ clients-less-4 c = omega arith
 clients-again-4 : tie.Need-clients-again-4 Inv-clients μ-clients
 unfolding waiting
 clients-again-4 c =
-    let at = c .before .before .before .before .before .before .before .clients in
-    let t = c .before .before .before .before .before .before .before .before .args .table .now in (
+    let held = counted-2 (c .before) in
+    let earliest = c .before .before in
+    let here = at held in
+    let at = here .clients in
+    let t = here .before .args .table .now in (
       omega arith,
       omega arith,
       turned (at .k) (better t) nobody (at .best) (at .k) (at .inv .2) (sym (
           taken t (at .k) (at .best)
-          (λ e. c .before .before .before .before .if1 .left (c .before .before .before .before .before .natural .ensures ∙ e))
-          (sym (c .before .before .before .earlier .ensures) ∙ not-false _ (c .before .before .if2 .left))
+          (λ e. earliest .before .before .if1 .left (held .natural .ensures ∙ e))
+          (sym (earliest .before .earlier .ensures) ∙ not-false _ (earliest .if2 .left))
           (omega arith))),
     )
 

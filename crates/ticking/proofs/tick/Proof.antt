@@ -20,15 +20,22 @@ use Rattle.ticking.proofs.Waiting.{few, tick-passed}
 use Rattle.ticking.proofs.tick.Statement.{statement}
 use Rattle.ticking.proofs.tick.Tie as tie
 
+-- Back to the start from the refusal's number, and to that number from the run of the steps.
+abbrev start : tie.After-tick-refusal → tie.Start
+start c = c .before .before .before
+
+abbrev past : tie.After-run → tie.Else1
+past c = c .before .before .before
+
 -- The number is that of the definition.
-number : (c : tie.After-tick-refusal) → let s = c .before .before .before in c .tick-refusal .result ≡ tickRefusal (s .args .table .now) (s .args .list .now)
+number : (c : tie.After-tick-refusal) → c .tick-refusal .result ≡ tickRefusal (start c .args .table .now) (start c .args .list .now)
 number c = c .tick-refusal .ensures .0
 
-none : (c : tie.Else1) → let s = c .before .before .before .before in tickRefusal (s .args .table .now) (s .args .list .now) ≡ 0
-none c = sym (number (c .before)) ∙ c .if1 .left
+none : (c : tie.Else1) → tickRefusal (start (c .before) .args .table .now) (start (c .before) .args .list .now) ≡ 0
+none c = omega (arith, number (c .before), c .if1 .left)
 
 -- How many were dispatched.
-counted : (c : tie.After-run) → let s = c .before .before .before .before .before .before .before in length (ticked (s .args .table .now) .entries) / entryLength ≡ c .run .result
+counted : (c : tie.After-run) → length (ticked (start (past c .before) .args .table .now) .entries) / entryLength ≡ c .run .result
 counted c = omega (arith, c .run .ensures .1 .1)
 
 tick-refusal-requires : tie.Need-tick-refusal-requires
@@ -46,12 +53,12 @@ same-length-2 c = search needs
 returns : tie.Need-returns
 unfolding tickAnswer tickTable tickList
 returns c =
-    let ne = c .before .if1 .taken in
-    let same = number (c .before .before) in (
-      c .answered .ensures ∙ outcome-refused _ _ ne ∙ ap refused same ∙ sym (outcome-refused _ _ (λ e. ne (same ∙ e))),
+    let same = number (c .before .before) in
+    let some : c .before .before .tick-refusal .result ≡ 0 → ⊥ = λ e. omega (arith, c .before .if1 .taken) in (
+      c .answered .ensures ∙ outcome-refused _ _ some ∙ ap refused same ∙ sym (outcome-refused _ _ (λ e. some (same ∙ e))),
       (
-        sym (kept-old _ _ _ (λ e. ne (same ∙ e))),
-        sym (kept-old _ _ _ (λ e. ne (same ∙ e))),
+        sym (kept-old _ _ _ (λ e. some (same ∙ e))),
+        sym (kept-old _ _ _ (λ e. some (same ∙ e))),
       ),
     )
 
@@ -60,9 +67,9 @@ run-requires c κs = let p = tick-passed _ _ (none (c .before .before)) in (p .o
 
 whole-requires : tie.Need-whole-requires
 whole-requires c κs =
-    let s = c .before .before .before .before .before .before .before .before .before in
-    let f = facts _ (tick-passed _ _ (none (c .before .before .before .before .before)) .order) in
-    omega (arith, few _ f, ticked-entries (s .args .table .now) f, c .before .before .run .ensures .1 .1)
+    let made = c .before .before in
+    let f = facts _ (tick-passed _ _ (none (past made)) .order) in
+    omega (arith, few _ f, ticked-entries (start (past made .before) .args .table .now) f, made .run .ensures .1 .1)
 
 same-length-3 : tie.Need-same-length-3
 same-length-3 c = search needs
@@ -73,12 +80,13 @@ same-length-4 c = search needs
 returns-2 : tie.Need-returns-2
 unfolding told tickAnswer tickTable tickList
 returns-2 c =
-    let zero = none (c .before .before .before .before .before .before) in (
-      ap (λ (z : ℤ). accepted (z ∷ [])) (toZ-ofZ w64 (c .whole .result) (sfits-of (c .whole .ok)) ∙ c .whole .ensures ∙ ap pos (sym (counted (c .before .before .before))))
+    let made = c .before .before .before in
+    let zero = none (past made) in (
+      ap (λ (z : ℤ). accepted (z ∷ [])) (toZ-ofZ w64 (c .whole .result) (sfits-of (c .whole .ok)) ∙ c .whole .ensures ∙ ap pos (sym (counted made)))
           ∙ sym (outcome-accepted _ _ zero),
       (
-        c .before .before .before .run .ensures .0 ∙ sym (kept-new _ _ _ zero),
-        c .before .before .before .run .ensures .1 .0 ∙ sym (kept-new _ _ _ zero),
+        made .run .ensures .0 ∙ sym (kept-new _ _ _ zero),
+        made .run .ensures .1 .0 ∙ sym (kept-new _ _ _ zero),
       ),
     )
 

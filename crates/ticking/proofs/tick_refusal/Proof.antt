@@ -15,6 +15,9 @@ use Rattle.ticking.proofs.Waiting.{few}
 use Rattle.ticking.proofs.tick_refusal.Statement.{statement}
 use Rattle.ticking.proofs.tick_refusal.Tie as tie
 
+abbrev start : tie.After-all-waiting → tie.Start
+start c = c .before .before .before
+
 order : (c : tie.Else1) → let s = c .before .before in inOrder (s .args .table .now) ≡ true
 order c = sym (c .before .in-order .ensures) ∙ not-false _ (c .if1 .left)
 
@@ -34,7 +37,7 @@ mul-if2 c = let f = few _ (facts _ (order (c .before))) in omega (arith, f, c .a
 returns-2 : tie.Need-returns-2
 unfolding tickRefusal
 returns-2 c =
-    let s = c .before .before .before .before in (
+    let s = start (c .before) in (
       sym
           (first-past 1 _ _ (ap not (order (c .before .before)))
           ∙ first-here 13 _ _ (lt-ltb (length (s .args .list .now)) (entryLength * allWaiting (s .args .table .now)) (omega (arith, c .if2 .taken, c .before .all-waiting .ensures)))),
@@ -44,7 +47,7 @@ returns-2 c =
 returns-3 : tie.Need-returns-3
 unfolding tickRefusal
 returns-3 c =
-    let s = c .before .before .before .before in (
+    let s = start (c .before) in (
       sym
           (first-past 1 _ _ (ap not (order (c .before .before)))
           ∙ first-past 13 _ _ (le-ltb (length (s .args .list .now)) (entryLength * allWaiting (s .args .table .now)) (omega (arith, c .if2 .left, c .before .all-waiting .ensures)))

@@ -19,6 +19,10 @@ Inv-loop table₀ k p₀ table p = Turns requestLength (step k) table₀ table p
 abbrev μ-loop : tie.MeasureT-loop
 μ-loop table₀ k p₀ table p = requestLength - p
 
+-- From the end of a turn back to the loop.
+abbrev at : tie.After-put Inv-loop μ-loop → tie.At-loop Inv-loop μ-loop
+at c = c .before .before .before
+
 loop-holds : tie.Need-loop-holds Inv-loop μ-loop
 loop-holds c = turns-first (c .pre .0)
 
@@ -42,7 +46,7 @@ loop-less c = omega arith
 
 loop-again : tie.Need-loop-again Inv-loop μ-loop
 loop-again c =
-    let at = c .before .before .before .before .loop in
+    let at = at (c .before) .loop in
     turns-next (at .inv) (omega arith) _ (c .before .put .kept .0) (c .before .put .ensures)
 
 same-length : tie.Need-same-length Inv-loop μ-loop

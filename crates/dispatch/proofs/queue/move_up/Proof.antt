@@ -19,6 +19,10 @@ Inv-loop table₀ k p₀ table p = Turns (queueLength - requestLength) (step k) 
 abbrev μ-loop : tie.MeasureT-loop
 μ-loop table₀ k p₀ table p = (queueLength - requestLength) - p
 
+-- From the end of a turn back to the loop.
+abbrev at : tie.After-move-one Inv-loop μ-loop → tie.At-loop Inv-loop μ-loop
+at c = c .before .before .before
+
 loop-holds : tie.Need-loop-holds Inv-loop μ-loop
 loop-holds c = turns-first (c .pre .0)
 
@@ -33,7 +37,7 @@ loop-less c = omega arith
 
 loop-again : tie.Need-loop-again Inv-loop μ-loop
 loop-again c =
-    let at = c .before .before .before .before .loop in
+    let at = at (c .before) .loop in
     turns-next (at .inv) (omega arith) _ (c .before .move-one .kept .0) (c .before .move-one .ensures)
 
 same-length : tie.Need-same-length Inv-loop μ-loop

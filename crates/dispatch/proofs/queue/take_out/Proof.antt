@@ -13,6 +13,13 @@ use borrow.Author.Needs.{needs}
 use Rattle.dispatch.proofs.queue.take_out.Statement.{statement}
 use Rattle.dispatch.proofs.queue.take_out.Tie as tie
 
+-- From one place back to the next that is needed: the requests moved up, the waiting count.
+abbrev moved : tie.After-clear-last → tie.After-move-up
+moved c = c .before .before .before
+
+abbrev counted : tie.After-move-up → tie.After-natural
+counted c = c .before .before
+
 natural-requires : tie.Need-natural-requires
 natural-requires c κs = search needs
 
@@ -24,16 +31,18 @@ clear-last-requires c κs = search needs
 
 sub-put-natural : tie.Need-sub-put-natural
 unfolding waiting
-sub-put-natural c = omega (arith, c .before .before .before .before .before .before .before .natural .ensures, c .before .before .before .before .before .before .before .before .before .pre .2)
+sub-put-natural c = let held = counted (moved (c .before .before)) in omega (arith, held .natural .ensures, held .before .before .pre .2)
 
 put-natural-requires : tie.Need-put-natural-requires
 unfolding waiting
 put-natural-requires c κs =
-    let start = c .before .before .before .before .before .before .before .before .before in (
-      c .before .before .clear-last .kept .0 ∙ c .before .before .before .before .before .move-up .kept .0 ∙ start .pre .0,
-      start .pre .1,
+    let cleared = c .before .before in
+    let held = counted (moved cleared) in
+    let pre = held .before .before .pre in (
+      cleared .clear-last .kept .0 ∙ moved cleared .move-up .kept .0 ∙ pre .0,
+      pre .1,
       omega arith,
-      omega (arith, c .before .before .before .before .before .before .before .natural .ensures, start .pre .3),
+      omega (arith, held .natural .ensures, pre .3),
     )
 
 same-length : tie.Need-same-length
@@ -42,10 +51,12 @@ same-length c = search needs
 returns : tie.Need-returns
 unfolding takenOut movedUp lastCleared waiting
 returns c =
-    let start = c .before .before .before .before .before .before .before .before .before .before .before in
-    let k = start .args .k in
-    put-then k waitingAt (c .before .put-natural .ensures) (ap (λ (n : ℕ). pos (n - 1)) (c .before .before .before .before .before .before .before .before .before .natural .ensures))
-    (c .before .before .before .before .clear-last .ensures ∙ ap (λ (u : List ℤ). lastCleared u k) (c .before .before .before .before .before .before .before .move-up .ensures))
+    let written = c .before in
+    let cleared = written .before .before .before in
+    let held = counted (moved cleared) in
+    let k = held .before .before .args .k in
+    put-then k waitingAt (written .put-natural .ensures) (ap (λ (n : ℕ). pos (n - 1)) (held .natural .ensures))
+    (cleared .clear-last .ensures ∙ ap (λ (u : List ℤ). lastCleared u k) (moved cleared .move-up .ensures))
 
 pub take-out-spec : {M : Type 1} → statement M
 take-out-spec =

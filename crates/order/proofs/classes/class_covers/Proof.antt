@@ -5,12 +5,12 @@ use mathlib.Core.Bool.{true}
 use native.Mathlib.Omega.{arith}
 use borrow.Author.Tests.{not-true, not-false}
 use lib.Dec.{leb}
+use Rattle.numbers.proofs.Every.{joined-as, same-tests, last-test}
 use Rattle.table.specs.Limits.{wholeShare}
 use Rattle.table.specs.Places.{balance}
 use Rattle.table.specs.Tree.{treeOf, isClass}
 use Rattle.treelaws.proofs.Children.{class-there}
 use Rattle.order.specs.Cover.{classCovers}
-use Rattle.numbers.proofs.Every.{joined-as, same-tests, last-test}
 use Rattle.records.proofs.Joined.{test-here, test-past}
 use Rattle.records.proofs.Nodes.{Node, node-at}
 use Rattle.order.proofs.Totals.{small}

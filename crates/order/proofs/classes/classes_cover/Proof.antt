@@ -1,15 +1,15 @@
 -- `order::classes::classes_cover` meets its contract. The invariant: every class so far covers what stands under it.
 use Prim.Native.Nat.{_≤_, _<_, _-_}
-use mathlib.Core.Path.{_≡_, refl, _∙_}
+use mathlib.Core.Path.{_≡_, refl}
 use native.Mathlib.Omega.{arith}
 use Rattle.numbers.specs.Below.{allBelow}
+use Rattle.numbers.proofs.All.{all-grows, all-done}
 use Rattle.table.specs.Limits.{nodes}
 use Rattle.table.specs.Tree.{treeOf, isClass, testIf, eachClass}
 use Rattle.table.specs.Rates.{fixedSum}
 use Rattle.rating.specs.declared.sums.Summand.the-variants.{FixedShares, Depths, Credits, Debts}
 use Rattle.rating.specs.Sums.{term}
 use Rattle.order.specs.Cover.{classCovers}
-use Rattle.numbers.proofs.All.{all-grows, all-done}
 use Rattle.order.proofs.Totals.{summable, sum-small}
 use Rattle.order.proofs.classes.classes_cover.Statement.{statement}
 use Rattle.order.proofs.classes.classes_cover.Tie as tie
@@ -19,6 +19,10 @@ Inv-loop table fixed depths credits debts ok₀ c₀ ok c = (c ≤ nodes) × (ok
 
 abbrev μ-loop : tie.MeasureT-loop
 μ-loop table fixed depths credits debts ok₀ c₀ ok c = nodes - c
+
+-- From the loop back to the sums of credits.
+abbrev credited : tie.At-loop Inv-loop μ-loop → tie.After-sums3 Inv-loop μ-loop
+credited c = c .before .before
 
 sums-requires : tie.Need-sums-requires Inv-loop μ-loop
 sums-requires c κs = (c .pre .0, summable FixedShares _ (c .pre .1))
@@ -63,18 +67,19 @@ array-read-class-covers-4 c = omega arith
 class-covers-requires : tie.Need-class-covers-requires Inv-loop μ-loop
 unfolding term fixedSum
 class-covers-requires c κs =
-    let start = c .before .before .before .before .before .before in
+    let summed = credited (c .before) in
+    let start = summed .before .before .before in
     let t = start .args .table .now in
     let k = c .before .loop .c in
     let below : k < nodes = c .loop-test .taken in
-    let credits = c .before .before .before .sums3 .ensures k below in
+    let credits = summed .sums3 .ensures k below in
     let debts = c .before .before .sums4 .ensures k below in (
       start .pre .0,
       below,
       start .pre .1,
       record {
-        fixed = c .before .before .before .before .before .sums .ensures k below;
-        depths = c .before .before .before .before .sums2 .ensures k below;
+        fixed = summed .before .before .sums .ensures k below;
+        depths = summed .before .sums2 .ensures k below;
         credits = credits;
         debts = debts;
       },

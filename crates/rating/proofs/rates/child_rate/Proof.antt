@@ -14,6 +14,10 @@ use Rattle.rating.proofs.rates.child_rate.Tie as tie
 same-weighted : {l l' s s' w w' : ℕ} → l ≡ l' → s ≡ s' → w ≡ w' → weightedRate l s w ≡ weightedRate l' s' w'
 same-weighted left share weights = cc
 
+-- From the test of the kind back to the start.
+abbrev start : tie.After-is-fixed → tie.Start
+start c = c .before .before
+
 natural-requires : tie.Need-natural-requires
 natural-requires c κs = search needs
 
@@ -27,10 +31,11 @@ fixed-rate-requires c κs = omega arith
 returns : tie.Need-returns
 unfolding treeOf
 returns c =
-    let start = c .before .before .before .before .args in
+    let known = c .before .before in
+    let args = start known .args in
     c .fixed-rate .ensures
-    ∙ ap (fixedRate (start .rate)) (c .before .before .before .natural .ensures)
-    ∙ sym (fixed-child (treeOf (start .table .now)) (start .rate) (start .k) (sym (c .before .before .is-fixed .ensures) ∙ c .before .if1 .taken))
+    ∙ ap (fixedRate (args .rate)) (known .before .natural .ensures)
+    ∙ sym (fixed-child (treeOf (args .table .now)) (args .rate) (args .k) (sym (known .is-fixed .ensures) ∙ c .before .if1 .taken))
 
 left-rate-requires : tie.Need-left-rate-requires
 left-rate-requires c κs = search needs
@@ -38,23 +43,25 @@ left-rate-requires c κs = search needs
 weighted-rate-requires : tie.Need-weighted-rate-requires
 unfolding treeOf
 weighted-rate-requires c κs =
-    let start = c .before .before .before .before in
+    let known = c .before .before in
+    let args = start known .args in
+    let pre = start known .pre in
     omega (
       arith,
-      left-le (start .args .rate) (start .args .fixed),
-      weights-there (treeOf (start .args .table .now)) (start .args .k) (omega arith) (start .pre .3) (λ e. omega arith) (start .pre .4) (sym (c .before .before .is-fixed .ensures) ∙ c .before .if1 .left),
+      left-le (args .rate) (args .fixed),
+      weights-there (treeOf (args .table .now)) (args .k) (omega arith) (pre .3) (λ e. omega arith) (pre .4) (sym (known .is-fixed .ensures) ∙ c .before .if1 .left),
     )
 
 returns-2 : tie.Need-returns-2
 unfolding treeOf
 returns-2 c =
-    let start = c .before .before .before .before .before in
-    let tree = treeOf (start .args .table .now) in
-    let rate = start .args .rate in
-    let k = start .args .k in
+    let known = c .before .before .before in
+    let args = start known .args in
+    let pre = start known .pre in
+    let tree = treeOf (args .table .now) in
     c .weighted-rate .ensures
-    ∙ same-weighted (c .before .left-rate .ensures ∙ ap (leftRate rate) (start .pre .6)) (c .before .before .before .before .natural .ensures) (start .pre .7)
-    ∙ sym (weighted-child tree (tree .parent k) rate k refl (sym (c .before .before .before .is-fixed .ensures) ∙ c .before .before .if1 .left))
+    ∙ same-weighted (c .before .left-rate .ensures ∙ ap (leftRate (args .rate)) (pre .6)) (known .before .natural .ensures) (pre .7)
+    ∙ sym (weighted-child tree (tree .parent (args .k)) (args .rate) (args .k) refl (sym (known .is-fixed .ensures) ∙ c .before .before .if1 .left))
 
 pub child-rate-spec : {M : Type 1} → statement M
 child-rate-spec =

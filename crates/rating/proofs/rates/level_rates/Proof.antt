@@ -17,6 +17,10 @@ Inv-loop table fixed weights rates₀ level k₀ rates k = (0 < k) × (k ≤ nod
 abbrev μ-loop : tie.MeasureT-loop
 μ-loop table fixed weights rates₀ level k₀ rates k = nodes - k
 
+-- Back to the loop.
+abbrev at : tie.After-node-rate-arg Inv-loop μ-loop → tie.At-loop Inv-loop μ-loop
+at c = c .before .before .before .before
+
 loop-holds : tie.Need-loop-holds Inv-loop μ-loop
 loop-holds c = (omega arith, omega arith, so-far-start _ _ _ (c .pre .0) (c .pre .2) (c .pre .3))
 
@@ -25,8 +29,8 @@ at-level-requires c κs = (c .before .before .pre .0 .long, omega arith)
 
 node-rate-requires : tie.Need-node-rate-requires Inv-loop μ-loop
 node-rate-requires c κs =
-    let start = c .before .before .before .before .before in
-    let at = c .before .before .before .before .loop in
+    let start = at c .before in
+    let at = at c .loop in
     let tree = treeOf (start .args .table .now) in
     let hit : atLevel tree (start .args .level) (at .k) ≡ true = sym (c .before .before .at-level .ensures) ∙ c .before .if1 .taken in (
       start .pre .0,

@@ -30,6 +30,10 @@ known c =
     let p = placed (c .before) in
     rw (class c) (c .before .pre .5 .at (treeOf (c .before .args .table .now) .parent (c .before .args .k)) (p .parent) (p .above) (omega arith))
 
+-- From the call back to where the class is read.
+abbrev read : tie.After-child-rate-arg3 → tie.After-natural
+read c = c .before .before .before
+
 natural-requires : tie.Need-natural-requires
 natural-requires c κs = search needs
 
@@ -53,7 +57,7 @@ element-copy-out-child-rate-3 c = below (c .before .before)
 
 child-rate-requires : tie.Need-child-rate-requires
 child-rate-requires c κs =
-    let at = c .before .before .before in
+    let at = read c in
     let f = at .before .pre in
     let p = placed (at .before) in (
       f .0 .long,
@@ -68,7 +72,7 @@ child-rate-requires c κs =
 
 returns : tie.Need-returns
 returns c =
-    let at = c .before .before .before .before in
+    let at = read (c .before) in
     let t = at .before .args .table .now in
     let k = at .before .args .k in
     c .child-rate .ensures

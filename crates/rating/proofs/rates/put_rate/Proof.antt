@@ -9,8 +9,11 @@ use borrow.Author.Needs.{needs}
 use Rattle.rating.proofs.rates.put_rate.Statement.{statement}
 use Rattle.rating.proofs.rates.put_rate.Tie as tie
 
+abbrev start : tie.Else1 → tie.Start
+start c = c .before .before .before
+
 -- The node is there.
-here : (c : tie.Else1) → there (treeOf (c .before .before .before .args .table .now)) (c .before .before .before .args .k) ≡ true
+here : (c : tie.Else1) → there (treeOf (start c .args .table .now)) (start c .args .k) ≡ true
 here c = sym (c .before .there .ensures) ∙ not-false _ (c .if1 .left)
 
 there-requires : tie.Need-there-requires
@@ -24,7 +27,7 @@ returns c = sym (with-unused _ _ _ (sym (c .before .there .ensures) ∙ not-true
 
 put-natural-requires : tie.Need-put-natural-requires
 put-natural-requires c κs =
-    let pre = c .before .before .before .before .pre in (pre .0, pre .1, omega arith, pre .2 (here (c .before)))
+    let pre = start (c .before) .pre in (pre .0, pre .1, omega arith, pre .2 (here (c .before)))
 
 same-length-2 : tie.Need-same-length-2
 same-length-2 c = search needs

@@ -1,6 +1,6 @@
 -- `rating::rates::rates` meets its contract. The invariant: the nodes above this level have their rates.
 use Prim.Native.Nat.{_≤_, _<_, _-_, suc}
-use mathlib.Core.Path.{refl, _∙_}
+use mathlib.Core.Path.{refl}
 use native.Mathlib.Omega.{arith}
 use borrow.Author.Needs.{needs}
 use Rattle.table.specs.Limits.{lastLevel}
@@ -18,6 +18,13 @@ Inv-loop table fixed weights rates₀ level₀ rates level = (0 < level) × (lev
 
 abbrev μ-loop : tie.MeasureT-loop
 μ-loop table fixed weights rates₀ level₀ rates level = suc lastLevel - level
+
+-- From the loop back to the start, and from the call to the loop.
+abbrev start : tie.At-loop Inv-loop μ-loop → tie.Start Inv-loop μ-loop
+start c = c .before .before .before .before
+
+abbrev at : tie.After-rates Inv-loop μ-loop → tie.At-loop Inv-loop μ-loop
+at c = c .before .before .before .before
 
 sums-requires : tie.Need-sums-requires Inv-loop μ-loop
 sums-requires c κs = (c .pre .long, fixed-summable (c .args .table .now) (c .pre))
@@ -38,16 +45,12 @@ loop-holds c = (omega arith, omega arith, rates-start _ _ _ (c .before .before .
 level-rates-requires : tie.Need-level-rates-requires Inv-loop μ-loop
 unfolding term fixedSum weightSum
 level-rates-requires c κs =
-    let start = c .before .before .before .before .before .before .before .before in
-    let t = start .args .table .now in
-    let at = c .before .before .before .before .loop in (
-      start .pre,
-      record {
-        fixed = λ j hj. c .before .before .before .before .before .before .before .sums .ensures j hj;
-        weights = λ j hj. c .before .before .before .before .before .before .sums2 .ensures j hj;
-      },
-      at .inv .0,
-      at .inv .2,
+    let here = at c in
+    let summed = here .before .before in (
+      start here .pre,
+      record { fixed = λ j hj. summed .before .sums .ensures j hj; weights = λ j hj. summed .sums2 .ensures j hj },
+      here .loop .inv .0,
+      here .loop .inv .2,
     )
 
 add-level : tie.Need-add-level Inv-loop μ-loop
@@ -60,7 +63,7 @@ loop-again : tie.Need-loop-again Inv-loop μ-loop
 loop-again c = (omega arith, omega arith, c .level-rates .ensures)
 
 returns : tie.Need-returns Inv-loop μ-loop
-returns c = rates-end _ _ _ (c .before .before .before .before .before .pre) (omega arith) (c .before .loop .inv .2)
+returns c = rates-end _ _ _ (start (c .before) .pre) (omega arith) (c .before .loop .inv .2)
 
 pub rates-spec : {M : Type 1} → statement M
 rates-spec =

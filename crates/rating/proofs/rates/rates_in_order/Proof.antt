@@ -50,11 +50,13 @@ loop-less c = omega arith
 
 loop-again : tie.Need-loop-again Inv-loop μ-loop
 loop-again c =
-    let t = c .before .before .before .before .args .table .now in
-    let k = c .before .before .loop .k in (
+    let at = c .before .before in
+    let rates = at .before .rates in
+    let t = at .before .before .args .table .now in
+    let k = at .loop .k in (
       omega arith,
-      all-grows k (λ j. testIf (there (treeOf t) j) (rateInOrder t) j) _ _ (c .before .before .loop .inv .1)
-          (c .has-rate .ensures ∙ has-right t k (getD (c .before .before .before .rates .result) k 0) (c .before .before .before .rates .ensures k (omega arith))),
+      all-grows k (λ j. testIf (there (treeOf t) j) (rateInOrder t) j) _ _ (at .loop .inv .1)
+          (c .has-rate .ensures ∙ has-right t k (getD (rates .result) k 0) (rates .ensures k (omega arith))),
     )
 
 returns : tie.Need-returns Inv-loop μ-loop

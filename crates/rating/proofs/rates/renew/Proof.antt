@@ -17,6 +17,13 @@ Inv-loop table₀ rates k₀ table k =
 abbrev μ-loop : tie.MeasureT-loop
 μ-loop table₀ rates k₀ table k = nodes - k
 
+-- From the loop back to the start, and from the end of a turn to the loop.
+abbrev start : tie.At-loop Inv-loop μ-loop → tie.Start Inv-loop μ-loop
+start c = c .before .before .before
+
+abbrev at : tie.After-put-rate Inv-loop μ-loop → tie.At-loop Inv-loop μ-loop
+at c = c .before .before .before
+
 rates-requires : tie.Need-rates-requires Inv-loop μ-loop
 rates-requires c κs = c .before .pre
 
@@ -31,7 +38,7 @@ array-read-put-rate c = omega arith
 
 put-rate-requires : tie.Need-put-rate-requires Inv-loop μ-loop
 put-rate-requires c κs =
-    let start = c .before .before .before .before .before in
+    let start = start (c .before .before) in
     let at = c .before .before .loop in (
       at .inv .1 ∙ start .pre .long,
       omega arith,
@@ -48,12 +55,13 @@ loop-less c = omega arith
 
 loop-again : tie.Need-loop-again Inv-loop μ-loop
 loop-again c =
-    let at = c .before .before .before .before .loop in
+    let here = at (c .before) in
+    let at = here .loop in
     let wrote = c .before .put-rate .ensures in (
       omega arith,
       rw wrote (with-length _ _ _ ∙ at .inv .1),
       rw wrote (with-tree _ _ _ ∙ at .inv .2),
-      wrote ∙ with-next _ _ _ _ (at .inv .3) (at .inv .2) (c .before .before .before .before .before .rates .ensures (at .k) (omega arith)),
+      wrote ∙ with-next _ _ _ _ (at .inv .3) (at .inv .2) (here .before .rates .ensures (at .k) (omega arith)),
     )
 
 same-length : tie.Need-same-length Inv-loop μ-loop

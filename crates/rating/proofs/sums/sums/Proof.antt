@@ -20,20 +20,25 @@ Inv-loop table which sums₀ k₀ sums k =
 abbrev μ-loop : tie.MeasureT-loop
 μ-loop table which sums₀ k₀ sums k = nodes - k
 
--- The node is there, and its parent is below 64.
-here : (c : tie.Then1 Inv-loop μ-loop) → there (treeOf (c .before .before .before .before .args .table .now)) (c .before .before .before .loop .k) ≡ true
+-- Back to the loop.
+abbrev at : tie.Then1 Inv-loop μ-loop → tie.At-loop Inv-loop μ-loop
+at c = c .before .before .before
+
+-- The node is there, and its parent is a node's number.
+here : (c : tie.Then1 Inv-loop μ-loop) → there (treeOf (at c .before .args .table .now)) (at c .loop .k) ≡ true
 here c = sym (c .before .there .ensures) ∙ c .if1 .taken
 
 parent : (c : tie.After-natural Inv-loop μ-loop) → c .natural .result < nodes
 unfolding treeOf
 parent c =
-    omega (arith, c .before .before .before .before .before .pre .1 .parent (c .before .before .before .before .loop .k) (omega arith) (here (c .before)) (λ e. omega arith))
+    let at = at (c .before) in
+    omega (arith, at .before .pre .1 .parent (at .loop .k) (omega arith) (here (c .before)) (λ e. omega arith))
 
 -- Its term is added to the sum of its parent.
-added : (c : tie.After-term Inv-loop μ-loop) → let at = c .before .before .before .before .before .loop in let start = c .before .before .before .before .before .before .args in let p = c .before .natural .result in AllUnder (at .k + 1) (treeOf (start .table .now)) (term (start .which) (start .table .now)) (set (at .sums) p (getD (at .sums) p 0 + c .term .result))
+added : (c : tie.After-term Inv-loop μ-loop) → let here = at (c .before .before) in let start = here .before .args in let p = c .before .natural .result in AllUnder (here .loop .k + 1) (treeOf (start .table .now)) (term (start .which) (start .table .now)) (set (here .loop .sums) p (getD (here .loop .sums) p 0 + c .term .result))
 unfolding treeOf
 added c =
-    let at = c .before .before .before .before .before .loop in
+    let at = at (c .before .before) .loop in
     rw (c .term .ensures)
     (all-there _ _ (at .sums) (at .k) (c .before .natural .result) (here (c .before .before)) (λ e. omega arith) (sym (c .before .natural .ensures)) (omega (arith, parent (c .before))) (at .inv .3))
 
@@ -57,8 +62,8 @@ term-requires c κs = search needs
 
 add-sums : tie.Need-add-sums Inv-loop μ-loop
 add-sums c =
-    let start = c .before .before .before .before .before .before in
-    let at = c .before .before .before .before .before .loop in
+    let start = at (c .before .before) .before in
+    let at = at (c .before .before) .loop in
     omega (
       arith,
       start .pre .1 .small (at .k) (omega arith) (here (c .before .before)) (λ e. omega arith),
