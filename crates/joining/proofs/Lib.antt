@@ -1,1 +1,2 @@
+mod Limits
 mod Sums

@@ -1,54 +1,106 @@
 // Join: a class or a client under a class.
 ghost use mathlib.Core.Path.{_≡_};
 ghost use mathlib.Core.List.{[], _∷_};
-ghost use Prim.Native.Nat.{_+_, _≤_, _<_, _^_};
-ghost use lib.Dec.{eqb, ltb};
+ghost use Prim.Native.Nat.{_≤_};
+ghost use lib.Dec.{eqb};
 ghost use lib.ListN.{length};
-ghost use Rattle.numbers.specs.Whole.{withinℤ};
 ghost use Rattle.numbers.specs.Tests.{every};
-ghost use Rattle.table.specs.Limits.{tableLength, nodes, lastNode, lastClassLevel, class, client, wholeShare, greatestDepth};
-ghost use Rattle.table.specs.Tree.{treeOf, sumUnder};
+ghost use Rattle.table.specs.Limits.{tableLength, lastNode, lastClassLevel, class};
+ghost use Rattle.table.specs.Tree.{treeOf};
 ghost use Rattle.table.specs.Answers.{told};
-ghost use Rattle.table.specs.Calls.{joined, joinRefusal, joinTable, joinAnswer};
-ghost use Rattle.rating.specs.Sums.{depths, Summable};
+ghost use Rattle.table.specs.Calls.{sharesAbove, depthsAbove, joinTable, joinAnswer};
+ghost use Rattle.treelaws.specs.Joins.{refusalOf, joinedBy};
+ghost use Rattle.joining.specs.NewNodes.{asked, joinLimits, Natural, joinOf, Judged, Placeable, Writable};
 use table::Answer;
 use table::Table;
 
-fn place_limits(node: i64, parent: i64, sort: i64) -> bool
-    ensures { λ r. ⌜ r ≡ every (withinℤ 1 lastNode node ∷ withinℤ 0 lastNode parent ∷ withinℤ class client sort ∷ []) ⌝ }
+// The joining node: join's arguments as natural numbers.
+struct NewNode {
+    node: usize,
+    parent: usize,
+    sort: u64,
+    kind: u64,
+    share: u64,
+    depth: u64,
+}
+
+fn join_limits(node: i64, parent: i64, sort: i64, kind: i64, share: i64, depth: i64) -> bool
+    ensures { λ r. ⌜ r ≡ joinLimits (asked node parent sort kind share depth) ⌝ }
 {
     let node_fits = numbers::within(node, 1, Table::LAST_NODE);
     let parent_fits = numbers::within(parent, 0, Table::LAST_NODE);
     let sort_fits = numbers::within(sort, Table::CLASS, Table::CLIENT);
-    node_fits & parent_fits & sort_fits
-}
-
-fn share_limits(kind: i64, share: i64, depth: i64) -> bool
-    ensures { λ r. ⌜ r ≡ every (withinℤ 0 1 kind ∷ withinℤ 1 wholeShare share ∷ withinℤ 1 greatestDepth depth ∷ []) ⌝ }
-{
     let kind_fits = numbers::within(kind, 0, Table::WEIGHTED);
     let share_fits = numbers::within(share, 1, Table::WHOLE_SHARE);
     let depth_fits = numbers::within(depth, 1, Table::GREATEST_DEPTH);
-    kind_fits & share_fits & depth_fits
+    node_fits & parent_fits & sort_fits & kind_fits & share_fits & depth_fits
+}
+
+fn new_node(node: i64, parent: i64, sort: i64, kind: i64, share: i64, depth: i64) -> NewNode
+    ensures { λ r. ⌜ Natural r (asked node parent sort kind share depth) ⌝ }
+{
+    NewNode {
+        node: numbers::natural(node) as usize,
+        parent: numbers::natural(parent) as usize,
+        sort: numbers::natural(sort),
+        kind: numbers::natural(kind),
+        share: numbers::natural(share),
+        depth: numbers::natural(depth),
+    }
 }
 
 // Whether a class would join under level 3.
-fn level_too_low(table: &[i64], parent: usize, sort: u64) -> bool
-    requires { ⌜ (length (now table) ≡ tableLength) × (parent < nodes) ⌝ }
-    ensures { λ r. ⌜ r ≡ every (eqb sort class ∷ eqb (treeOf (now (table .entry)) .level parent) lastClassLevel ∷ []) ⌝ }
+fn level_too_low(table: &[i64], new: NewNode) -> bool
+    requires { ⌜ (length (now table) ≡ tableLength) × (new .parent ≤ lastNode) ⌝ }
+    ensures { λ r. ⌜ r ≡ every (eqb (new .sort) class ∷ eqb (treeOf (now (table .entry)) .level (new .parent)) lastClassLevel ∷ []) ⌝ }
 {
-    let joins_class = sort == Table::CLASS;
-    let at_end = Table::natural(table, parent, Table::LEVEL) == Table::LAST_CLASS_LEVEL;
+    let joins_class = new.sort == Table::CLASS;
+    let at_end = Table::natural(table, new.parent, Table::LEVEL) == Table::LAST_CLASS_LEVEL;
     joins_class & at_end
 }
 
-// Whether the depths under class c would be above its own with one more.
-fn depths_above(table: &[i64], c: usize, depth: u64) -> bool
-    requires { ⌜ (length (now table) ≡ tableLength) × (c < nodes) × (Summable depths (now table)) × (depth ≤ greatestDepth) × (sumUnder (treeOf (now table)) c (treeOf (now table) .depth) ≤ greatestDepth) ⌝ }
-    ensures { λ r. ⌜ r ≡ ltb (treeOf (now (table .entry)) .depth c) (sumUnder (treeOf (now (table .entry))) c (treeOf (now (table .entry)) .depth) + depth) ⌝ }
+// Whether the fixed shares under the parent would be above 10,000.
+fn shares_above(table: &[i64], new: NewNode) -> bool
+    requires { ⌜ Placeable (now table) new ⌝ }
+    ensures { λ r. ⌜ r ≡ sharesAbove (joinedBy (now (table .entry)) (joinOf new)) (new .parent) ⌝ }
 {
-    Table::natural(table, c, Table::DEPTH)
-        < rating::sums::sum_under(table, rating::sums::DEPTHS, c) + depth
+    rating::sums::shares_above(table, new.parent, 0, new.kind, new.share)
+}
+
+// Whether the depths under the parent would be above its own.
+fn depths_above(table: &[i64], new: NewNode) -> bool
+    requires { ⌜ Placeable (now table) new ⌝ }
+    ensures { λ r. ⌜ r ≡ depthsAbove (joinedBy (now (table .entry)) (joinOf new)) (new .parent) ⌝ }
+{
+    Table::natural(table, new.parent, Table::DEPTH)
+        < rating::sums::sum_under(table, rating::sums::DEPTHS, new.parent) + new.depth
+}
+
+// The number of the first cause in the tree that turns the node back, or 0.
+fn tree_refusal(table: &[i64], new: NewNode) -> u64
+    requires { ⌜ Judged (now table) new ⌝ }
+    ensures first { λ r. ⌜ r ≡ refusalOf (now (table .entry)) (joinOf new) ⌝ }
+    ensures small { λ r. ⌜ r ≤ 8 ⌝ }
+{
+    if !rating::tree::there(table, new.parent) {
+        return 3;
+    }
+    if rating::tree::there(table, new.node) {
+        return 4;
+    }
+    if rating::tree::is_client(table, new.parent) {
+        return 5;
+    }
+    if level_too_low(table, new) {
+        return 6;
+    }
+    if shares_above(table, new) {
+        return 7;
+    }
+    if depths_above(table, new) {
+        return 8;
+    }
+    0
 }
 
 // The number of the first cause that turns join back, or 0.
@@ -61,58 +113,31 @@ fn join_refusal(
     share: i64,
     depth: i64,
 ) -> u64
-    ensures first { λ r. ⌜ r ≡ joinRefusal (now (table .entry)) node parent sort kind share depth ⌝ }
+    ensures first { λ r. ⌜ r ≡ refusalOf (now (table .entry)) (asked node parent sort kind share depth) ⌝ }
     ensures small { λ r. ⌜ r ≤ 8 ⌝ }
 {
     if !order::in_order(table) {
         return 1;
     }
-    if !(place_limits(node, parent, sort) & share_limits(kind, share, depth)) {
+    if !join_limits(node, parent, sort, kind, share, depth) {
         return 2;
     }
-    let k = numbers::natural(node) as usize;
-    let c = numbers::natural(parent) as usize;
-    if !rating::tree::there(table, c) {
-        return 3;
-    }
-    if rating::tree::there(table, k) {
-        return 4;
-    }
-    if rating::tree::is_client(table, c) {
-        return 5;
-    }
-    if level_too_low(table, c, numbers::natural(sort)) {
-        return 6;
-    }
-    if rating::sums::shares_above(table, c, 0, numbers::natural(kind), numbers::natural(share)) {
-        return 7;
-    }
-    if depths_above(table, c, numbers::natural(depth)) {
-        return 8;
-    }
-    0
+    tree_refusal(table, new_node(node, parent, sort, kind, share, depth))
 }
 
 // The record of a joining node, with balance 0.
-fn write_node(
-    table: &mut [i64],
-    k: usize,
-    parent: usize,
-    sort: i64,
-    kind: i64,
-    share: i64,
-    depth: i64,
-)
-    requires { ⌜ (length (now table) ≡ tableLength) × (k < nodes) × (parent < nodes) × (treeOf (now table) .level parent < 2 ^ 32) ⌝ }
-    ensures { λ _. ⌜ now (table .exit) ≡ joined (now (table .entry)) k parent sort kind share depth ⌝ }
+fn write_node(table: &mut [i64], new: NewNode)
+    requires { ⌜ Writable (now table) new ⌝ }
+    ensures { λ _. ⌜ now (table .exit) ≡ joinedBy (now (table .entry)) (joinOf new) ⌝ }
 {
-    let level = Table::natural(table, parent, Table::LEVEL) + 1;
-    Table::put(table, k, Table::SORT, sort);
-    Table::put_natural(table, k, Table::PARENT, parent as u64);
-    Table::put_natural(table, k, Table::LEVEL, level);
-    Table::put(table, k, Table::KIND, kind);
-    Table::put(table, k, Table::SHARE, share);
-    Table::put(table, k, Table::DEPTH, depth);
+    let level = Table::natural(table, new.parent, Table::LEVEL) + 1;
+    Table::put_natural(table, new.node, Table::BALANCE, 0);
+    Table::put_natural(table, new.node, Table::SORT, new.sort);
+    Table::put_natural(table, new.node, Table::PARENT, new.parent as u64);
+    Table::put_natural(table, new.node, Table::LEVEL, level);
+    Table::put_natural(table, new.node, Table::KIND, new.kind);
+    Table::put_natural(table, new.node, Table::SHARE, new.share);
+    Table::put_natural(table, new.node, Table::DEPTH, new.depth);
 }
 
 // Join. Document 01, "Calls".
@@ -132,15 +157,7 @@ pub fn join(
     if number != 0 {
         return table::answered(number, 0);
     }
-    write_node(
-        table,
-        numbers::natural(node) as usize,
-        numbers::natural(parent) as usize,
-        sort,
-        kind,
-        share,
-        depth,
-    );
+    write_node(table, new_node(node, parent, sort, kind, share, depth));
     rating::rates::renew(table);
     Answer::Accepted(0)
 }

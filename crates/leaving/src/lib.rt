@@ -1,16 +1,18 @@
 // Leave: a node goes, and its record is zero.
 ghost use mathlib.Core.Path.{_≡_};
 ghost use mathlib.Core.List.{[], _∷_};
-ghost use mathlib.Core.Bool.{not, _||_};
+ghost use mathlib.Core.Bool.{true, not, _||_};
 ghost use Prim.Native.Nat.{_≤_, _<_};
 ghost use lib.Dec.{ltb};
 ghost use lib.ListN.{length};
 ghost use lib.IntN.{pos};
 ghost use lib.Signed.{ltZ};
+ghost use Rattle.numbers.specs.Whole.{withinℤ};
 ghost use Rattle.numbers.specs.Tests.{every};
-ghost use Rattle.table.specs.Limits.{tableLength, nodes};
+ghost use Rattle.table.specs.Limits.{tableLength, nodes, lastNode};
 ghost use Rattle.table.specs.Places.{balance, waiting};
 ghost use Rattle.table.specs.Tree.{treeOf, isClass, childless};
+ghost use Rattle.table.specs.Order.{inOrder};
 ghost use Rattle.table.specs.Answers.{told};
 ghost use Rattle.table.specs.Calls.{cleared, leaveRefusal, leaveTable, leaveAnswer};
 use table::Answer;
@@ -36,18 +38,12 @@ fn in_debt(table: &[i64], k: usize) -> bool
     class & below
 }
 
-// The number of the first cause that turns leave back, or 0.
-fn leave_refusal(table: &[i64], node: i64) -> u64
-    ensures first { λ r. ⌜ r ≡ leaveRefusal (now (table .entry)) node ⌝ }
+// The number of the first cause in the tree that turns leave of node k back, or 0.
+fn tree_refusal(table: &[i64], k: usize) -> u64
+    requires { ⌜ (inOrder (now table) ≡ true) × (withinℤ 0 lastNode (pos k) ≡ true) ⌝ }
+    ensures first { λ r. ⌜ r ≡ leaveRefusal (now (table .entry)) (pos k) ⌝ }
     ensures small { λ r. ⌜ r ≤ 10 ⌝ }
 {
-    if !order::in_order(table) {
-        return 1;
-    }
-    if !numbers::within(node, 0, Table::LAST_NODE) {
-        return 2;
-    }
-    let k = numbers::natural(node) as usize;
     if !rating::tree::there(table, k) {
         return 3;
     }
@@ -61,6 +57,20 @@ fn leave_refusal(table: &[i64], node: i64) -> u64
         return 10;
     }
     0
+}
+
+// The number of the first cause that turns leave back, or 0.
+fn leave_refusal(table: &[i64], node: i64) -> u64
+    ensures first { λ r. ⌜ r ≡ leaveRefusal (now (table .entry)) node ⌝ }
+    ensures small { λ r. ⌜ r ≤ 10 ⌝ }
+{
+    if !order::in_order(table) {
+        return 1;
+    }
+    if !numbers::within(node, 0, Table::LAST_NODE) {
+        return 2;
+    }
+    tree_refusal(table, numbers::natural(node) as usize)
 }
 
 // Zeroes a node's record.

@@ -1,16 +1,15 @@
 // Request: one more waiting request at a client.
 ghost use mathlib.Core.Path.{_≡_};
-ghost use mathlib.Core.List.{[], _∷_};
+ghost use mathlib.Core.Bool.{true};
 ghost use Prim.Native.Nat.{_+_, _<_, _≤_, _^_};
 ghost use lib.ListN.{length};
 ghost use lib.IntN.{pos};
-ghost use lib.Signed.{leZ};
-ghost use Rattle.numbers.specs.Whole.{withinℤ};
-ghost use Rattle.numbers.specs.Tests.{every};
-ghost use Rattle.table.specs.Limits.{tableLength, nodes, lastNode, mostWaiting, tagAt, sizeAt, arrivalAt};
+ghost use Rattle.table.specs.Limits.{tableLength, nodes, mostWaiting, tagAt, sizeAt, arrivalAt};
 ghost use Rattle.table.specs.Places.{put, queuePlace, count, waiting};
+ghost use Rattle.table.specs.Order.{inOrder};
 ghost use Rattle.table.specs.Answers.{told};
 ghost use Rattle.table.specs.Calls.{requested, requestRefusal, requestTable, requestAnswer};
+ghost use Rattle.requesting.specs.Limits.{requestLimits};
 use table::Answer;
 use table::Table;
 
@@ -37,13 +36,36 @@ fn write_request(table: &mut [i64], k: usize, tag: i64, size: i64)
     Table::put_count(table, number);
 }
 
-// Whether the arguments are in their limits. A size too large is another cause.
 fn request_limits(client: i64, size: i64) -> bool
-    ensures { λ r. ⌜ r ≡ every (withinℤ 0 lastNode client ∷ leZ (pos 1) size ∷ []) ⌝ }
+    ensures { λ r. ⌜ r ≡ requestLimits client size ⌝ }
 {
     let client_fits = numbers::within(client, 0, Table::LAST_NODE);
     let size_fits = numbers::at_most(1, size);
     client_fits & size_fits
+}
+
+// The number of the first cause in the tree that turns a request at node k back, or 0. Tags are not judged.
+fn tree_refusal(table: &[i64], k: usize, size: u64) -> u64
+    requires { ⌜ (inOrder (now table) ≡ true) × (requestLimits (pos k) (pos size) ≡ true) ⌝ }
+    ensures first { λ r. ⌜ r ≡ requestRefusal (now (table .entry)) (pos k) (pos 0) (pos size) ⌝ }
+    ensures small { λ r. ⌜ r ≤ 12 ⌝ }
+{
+    if !rating::tree::there(table, k) {
+        return 3;
+    }
+    if rating::tree::is_class(table, k) {
+        return 5;
+    }
+    if Table::natural(table, k, Table::DEPTH) < size {
+        return 8;
+    }
+    if Table::natural(table, k, Table::WAITING) == Table::MOST_WAITING {
+        return 11;
+    }
+    if Table::count(table) == Table::GREATEST_COUNT {
+        return 12;
+    }
+    0
 }
 
 // The number of the first cause that turns a request back, or 0.
@@ -57,23 +79,11 @@ fn request_refusal(table: &[i64], client: i64, tag: i64, size: i64) -> u64
     if !request_limits(client, size) {
         return 2;
     }
-    let k = numbers::natural(client) as usize;
-    if !rating::tree::there(table, k) {
-        return 3;
-    }
-    if rating::tree::is_class(table, k) {
-        return 5;
-    }
-    if Table::natural(table, k, Table::DEPTH) < numbers::natural(size) {
-        return 8;
-    }
-    if Table::natural(table, k, Table::WAITING) == Table::MOST_WAITING {
-        return 11;
-    }
-    if Table::count(table) == Table::GREATEST_COUNT {
-        return 12;
-    }
-    0
+    tree_refusal(
+        table,
+        numbers::natural(client) as usize,
+        numbers::natural(size),
+    )
 }
 
 // Request. Document 01, "Calls".

@@ -1,58 +1,59 @@
--- The fixed shares under a class as change share would leave them, from the sums as they are: cause 7.
+-- The fixed shares under a node's class as change share would leave them, from the sums as they are: cause 7.
 use Prim.Native.Nat.{ℕ, _+_, _-_, _≤_, _<_}
 use mathlib.Core.Path.{_≡_, refl, ap, _∙_}
-use mathlib.Core.Bool.{Bool, true, cond}
+use mathlib.Core.Bool.{true, not, cond}
 use mathlib.Core.List.{List}
 use native.Mathlib.Omega.{arith}
-use lib.ListN.{length}
 use lib.Dec.{eqb, ltb}
-use lib.IntN.{ℤ}
+use lib.IntN.{ℤ, pos}
 use Rattle.numbers.specs.Whole.{plus}
+use Rattle.numbers.proofs.Parts.{zarith}
+use Rattle.table.specs.Limits.{nodes, root, unused, fixed, wholeShare}
 use Rattle.table.specs.Tree.{treeOf, there, childOf}
 use Rattle.table.specs.Rates.{fixedShare, fixedSum}
 use Rattle.table.specs.Calls.{reshared, sharesAbove}
-use Rattle.numbers.proofs.Parts.{within-parts}
-use Rattle.table.specs.Places.{place}
 use Rattle.table.proofs.Facts.{InOrder}
-use Rattle.treelaws.proofs.Children.{child-of, child-le-sum}
 use Rattle.table.proofs.Edits.{reshared-edit, reshared-node}
+use Rattle.treelaws.proofs.Children.{child-of, child-le-sum}
 use Rattle.calllaws.proofs.OneNode.{shares-changed}
 use Rattle.rating.proofs.Under.{counted}
 use Rattle.rating.proofs.Rated.{fixed-of}
 
--- Change share: the sum has the new share in the place of the old.
-module _ (t : List ℤ) (k : ℕ) (kind share : ℤ) (long : length t ≡ 2568) (hk : k < 64) (below : k ≡ 0 → ⊥) (here : there (treeOf t) k ≡ true) where
-  pub own-child : childOf (treeOf t) (treeOf t .parent k) k ≡ true
+module _ (t : List ℤ) (k : ℕ) (f : InOrder t) (low : k < nodes) (here : there (treeOf t) k ≡ true) (below : k ≡ root → ⊥) where
+  own-child : childOf (treeOf t) (treeOf t .parent k) k ≡ true
   own-child = child-of _ _ k (record { there = here; below = below; parent = refl })
 
-  still-child : childOf (treeOf (reshared t k kind share)) (treeOf t .parent k) k ≡ true
-  unfolding there
-  still-child =
-      let node = reshared-node t k kind share long hk in
-      child-of _ _ k (record { there = ap (λ (s : ℕ). mathlib.Core.Bool.not (eqb s 0)) (node .sort) ∙ here; below = below; parent = node .parent })
+  -- The node's fixed share is a part of the sum, which is at most 10,000.
+  pub own-share : fixedShare (treeOf t) k ≤ fixedSum (treeOf t) (treeOf t .parent k)
+  unfolding fixedSum
+  own-share = child-le-sum (treeOf t) (treeOf t .parent k) (fixedShare (treeOf t)) k low own-child
 
-  pub share-above : sharesAbove (reshared t k kind share) (treeOf t .parent k) ≡ ltb 10000 (fixedSum (treeOf t) (treeOf t .parent k) + cond (eqb (plus kind) 0) (plus share) 0 - fixedShare (treeOf t) k)
-  unfolding sharesAbove
-  share-above =
-      let node = reshared-node t k kind share long hk in
-      let sum : fixedSum (treeOf (reshared t k kind share)) (treeOf t .parent k) ≡ fixedSum (treeOf t) (treeOf t .parent k) + cond (eqb (plus kind) 0) (plus share) 0 - fixedShare (treeOf t) k =
-      omega (
-        arith,
-        shares-changed t _ k _ hk (reshared-edit t k kind share long hk) (treeOf t .parent k),
-        counted (childOf (treeOf t) (treeOf t .parent k) k) (fixedShare (treeOf t)) k own-child,
-        counted (childOf (treeOf (reshared t k kind share)) (treeOf t .parent k) k) (fixedShare (treeOf (reshared t k kind share))) k still-child,
-        fixed-of (treeOf (reshared t k kind share)) k (plus kind) (plus share) (node .kind) (node .share),
-      )
-      in
-      ap (ltb 10000) sum
+  pub class-shares : fixedSum (treeOf t) (treeOf t .parent k) ≤ wholeShare
+  unfolding treeOf
+  class-shares =
+      let parent = f .limits k low here .parent in
+      f .class (treeOf t .parent k) (omega (arith, zarith)) (f .child k low here below .class) .shares
 
--- A node's fixed share is a part of the sum under its class.
-pub own-share : (t : List ℤ) (k : ℕ) → length t ≡ 2568 → k < 64 → (k ≡ 0 → ⊥) → there (treeOf t) k ≡ true → fixedShare (treeOf t) k ≤ fixedSum (treeOf t) (treeOf t .parent k)
-unfolding fixedSum
-own-share t k long hk below here = child-le-sum (treeOf t) (treeOf t .parent k) (fixedShare (treeOf t)) k hk (child-of _ _ k (record { there = here; below = below; parent = refl }))
+  -- The sum has the new share in the place of the old.
+  module _ (kind share : ℕ) where
+    still-child : childOf (treeOf (reshared t k (pos kind) (pos share))) (treeOf t .parent k) k ≡ true
+    unfolding there
+    still-child =
+        let node = reshared-node t k (pos kind) (pos share) (f .long) low in
+        child-of _ _ k (record { there = ap (λ (s : ℕ). not (eqb s unused)) (node .sort) ∙ here; below = below; parent = node .parent })
 
--- Under the class of a node of a table in order the fixed shares sum to at most 10,000.
-pub parent-class : {t : List ℤ} {k : ℕ} → InOrder t → k < 64 → there (treeOf t) k ≡ true → (k ≡ 0 → ⊥) → fixedSum (treeOf t) (treeOf t .parent k) ≤ 10000
-unfolding treeOf
-parent-class {t} {k} f hk here below =
-    f .class (treeOf t .parent k) (omega (arith, within-parts 0 63 (place t k 1) (f .limits k hk here .parent))) (f .child k hk here below .class) .shares
+    pub shares-with : sharesAbove (reshared t k (pos kind) (pos share)) (treeOf t .parent k) ≡ ltb wholeShare (fixedSum (treeOf t) (treeOf t .parent k) + cond (eqb kind fixed) share 0 - fixedShare (treeOf t) k)
+    unfolding sharesAbove plus
+    shares-with =
+        let new = treeOf (reshared t k (pos kind) (pos share)) in
+        let node = reshared-node t k (pos kind) (pos share) (f .long) low in
+        let sum : fixedSum new (treeOf t .parent k) ≡ fixedSum (treeOf t) (treeOf t .parent k) + cond (eqb kind fixed) share 0 - fixedShare (treeOf t) k =
+        omega (
+          arith,
+          shares-changed t _ k _ low (reshared-edit t k (pos kind) (pos share) (f .long) low) (treeOf t .parent k),
+          counted (childOf (treeOf t) (treeOf t .parent k) k) (fixedShare (treeOf t)) k own-child,
+          counted (childOf new (treeOf t .parent k) k) (fixedShare new) k still-child,
+          fixed-of new k kind share (node .kind) (node .share),
+        )
+        in
+        ap (ltb wholeShare) sum

@@ -1,23 +1,53 @@
 // Change share and change rate.
 ghost use mathlib.Core.Path.{_≡_};
-ghost use mathlib.Core.List.{[], _∷_};
+ghost use mathlib.Core.Bool.{true};
 ghost use Prim.Native.Nat.{_≤_, _<_};
+ghost use lib.IntN.{pos};
 ghost use lib.ListN.{length};
-ghost use Rattle.numbers.specs.Whole.{withinℤ};
-ghost use Rattle.numbers.specs.Tests.{every};
-ghost use Rattle.table.specs.Limits.{tableLength, nodes, lastNode, wholeShare};
+ghost use Rattle.table.specs.Limits.{tableLength, nodes, root, wholeShare};
+ghost use Rattle.table.specs.Tree.{treeOf, there};
+ghost use Rattle.table.specs.Order.{inOrder};
 ghost use Rattle.table.specs.Answers.{told};
-ghost use Rattle.table.specs.Calls.{reshared, changeShareRefusal, changeShareTable, changeShareAnswer, changeRateRefusal, changeRateTable, changeRateAnswer};
+ghost use Rattle.table.specs.Calls.{sharesAbove, reshared, changeShareRefusal, changeShareTable, changeShareAnswer, changeRateRefusal, changeRateTable, changeRateAnswer};
+ghost use Rattle.sharing.specs.Limits.{shareLimits};
 use table::Answer;
 use table::Table;
 
 fn change_share_limits(node: i64, kind: i64, share: i64) -> bool
-    ensures { λ r. ⌜ r ≡ every (withinℤ 0 lastNode node ∷ withinℤ 0 1 kind ∷ withinℤ 1 wholeShare share ∷ []) ⌝ }
+    ensures { λ r. ⌜ r ≡ shareLimits node kind share ⌝ }
 {
     let node_fits = numbers::within(node, 0, Table::LAST_NODE);
     let kind_fits = numbers::within(kind, 0, Table::WEIGHTED);
     let share_fits = numbers::within(share, 1, Table::WHOLE_SHARE);
     node_fits & kind_fits & share_fits
+}
+
+// Whether the fixed shares beside node k would be above 10,000.
+fn shares_above(table: &[i64], k: usize, kind: u64, share: u64) -> bool
+    requires { ⌜ (inOrder (now table) ≡ true) × (k < nodes) × (there (treeOf (now table)) k ≡ true) × (k ≡ root → ⊥) × (share ≤ wholeShare) ⌝ }
+    ensures { λ r. ⌜ r ≡ sharesAbove (reshared (now (table .entry)) k (pos kind) (pos share)) (treeOf (now (table .entry)) .parent k) ⌝ }
+{
+    let c = Table::natural(table, k, Table::PARENT) as usize;
+    let old = rating::sums::fixed_share(table, k);
+    rating::sums::shares_above(table, c, old, kind, share)
+}
+
+// The number of the first cause in the tree that turns change share of node k back, or 0.
+fn tree_refusal(table: &[i64], k: usize, kind: u64, share: u64) -> u64
+    requires { ⌜ (inOrder (now table) ≡ true) × (shareLimits (pos k) (pos kind) (pos share) ≡ true) ⌝ }
+    ensures first { λ r. ⌜ r ≡ changeShareRefusal (now (table .entry)) (pos k) (pos kind) (pos share) ⌝ }
+    ensures small { λ r. ⌜ r ≤ 7 ⌝ }
+{
+    if !rating::tree::there(table, k) {
+        return 3;
+    }
+    if k == 0 {
+        return 5;
+    }
+    if shares_above(table, k, kind, share) {
+        return 7;
+    }
+    0
 }
 
 // The number of the first cause that turns change share back, or 0.
@@ -31,25 +61,12 @@ fn change_share_refusal(table: &[i64], node: i64, kind: i64, share: i64) -> u64
     if !change_share_limits(node, kind, share) {
         return 2;
     }
-    let k = numbers::natural(node) as usize;
-    if !rating::tree::there(table, k) {
-        return 3;
-    }
-    if k == 0 {
-        return 5;
-    }
-    let c = Table::natural(table, k, Table::PARENT) as usize;
-    let old = rating::sums::fixed_share(table, k);
-    if rating::sums::shares_above(
+    tree_refusal(
         table,
-        c,
-        old,
+        numbers::natural(node) as usize,
         numbers::natural(kind),
         numbers::natural(share),
-    ) {
-        return 7;
-    }
-    0
+    )
 }
 
 // A node's kind and share.
@@ -94,9 +111,9 @@ pub fn change_rate(table: &mut [i64], rate: i64) -> Answer
     ensures answer { λ r. ⌜ told r ≡ changeRateAnswer (now (table .entry)) rate ⌝ }
     ensures table { λ _. ⌜ now (table .exit) ≡ changeRateTable (now (table .entry)) rate ⌝ }
 {
-    let number = change_rate_refusal(table, rate);
-    if number != 0 {
-        return table::answered(number, 0);
+    let cause = change_rate_refusal(table, rate);
+    if cause != 0 {
+        return table::answered(cause, 0);
     }
     Table::put(table, 0, Table::RATE, rate);
     rating::rates::renew(table);

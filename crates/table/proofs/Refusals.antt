@@ -1,13 +1,21 @@
 -- The first cause that is there: a call is accepted exactly when no cause is there, and then it leaves the new contents
 -- and its values; refused, it leaves the contents as they came and the number only.
-use Prim.Native.Nat.{ℕ, zero, suc}
+use Prim.Native.Nat.{ℕ, zero, suc, _≤_, _<_}
 use mathlib.Core.Path.{_≡_, refl, sym, ap, _∙_}
-use mathlib.Core.Bool.{Bool, true, false}
+use mathlib.Core.Bool.{Bool, true, false, not, _&&_, and-true}
 use mathlib.Core.List.{List, [], _∷_}
 use native.Mathlib.Decide.{ℕ-discrete}
-use borrow.Author.Tests.{eq-eqb, ne-eqb}
-use lib.Dec.{eqb}
-use lib.IntN.{ℤ}
+use native.Mathlib.Omega.{arith}
+use borrow.Author.Tests.{lt-ltb, le-ltb, eq-eqb, ne-eqb, not-false}
+use lib.Dec.{eqb, ltb}
+use lib.IntN.{ℤ, pos}
+use lib.Signed.{leZ}
+use mir.Syntax.{w64}
+use mir.Val.{SFits, toZ, ofZ}
+use mir.Facts.{toZ-ofZ}
+use Rattle.numbers.specs.Whole.{plus, minus, withinℤ}
+use Rattle.numbers.specs.Tests.{every}
+use Rattle.numbers.proofs.Parts.{zarith, one-is-zero, pos-plus, pos-of-within}
 use Rattle.numbers.proofs.Tests.{by-test, cond-true, cond-false}
 use Rattle.table.specs.Refusals.{Cause, cause, first, accepted, refused, outcome, numberTold, kept}
 
@@ -67,3 +75,77 @@ pub number-outcome : (n : ℕ) (values : List ℤ) → numberTold (outcome n val
 unfolding numberTold
 number-outcome n values =
     elim (ℕ-discrete n 0) [ yes e ↦ ap numberTold (outcome-accepted n values e) ∙ sym e | no ne ↦ ap numberTold (outcome-refused n values ne) ]
+
+-- Code goes through a list of causes by tests of its own. A Boolean r is what code has of a cause's test b, a number k what it
+-- has of a number i that is compared. `search causes` finds the way through them from what is known at a return.
+pub data Finds : List Cause → ℕ → Type 0 where
+  here : {n : ℕ} {r b : Bool} {cs : List Cause} → r ≡ b → r ≡ true → Finds (cause n b ∷ cs) n
+  here-not : {n : ℕ} {r b : Bool} {cs : List Cause} → r ≡ b → not r ≡ true → Finds (cause n (not b) ∷ cs) n
+  here-below : (i j : ℕ) {k n : ℕ} {cs : List Cause} → k ≡ i → k < j → Finds (cause n (ltb i j) ∷ cs) n
+  here-equal : (i j : ℕ) {k n : ℕ} {cs : List Cause} → k ≡ i → k ≡ j → Finds (cause n (eqb i j) ∷ cs) n
+  here-is : (i j : ℕ) {n : ℕ} {cs : List Cause} → i ≡ j → Finds (cause n (eqb i j) ∷ cs) n
+  past : {m n : ℕ} {r b : Bool} {cs : List Cause} → r ≡ b → r ≡ false → Finds cs m → Finds (cause n b ∷ cs) m
+  past-not : {m n : ℕ} {r b : Bool} {cs : List Cause} → r ≡ b → not r ≡ false → Finds cs m → Finds (cause n (not b) ∷ cs) m
+  past-below : (i j : ℕ) {k m n : ℕ} {cs : List Cause} → k ≡ i → j ≤ k → Finds cs m → Finds (cause n (ltb i j) ∷ cs) m
+  past-equal : (i j : ℕ) {k m n : ℕ} {cs : List Cause} → k ≡ i → (k ≡ j → ⊥) → Finds cs m → Finds (cause n (eqb i j) ∷ cs) m
+  past-is : (i j : ℕ) {m n : ℕ} {cs : List Cause} → (i ≡ j → ⊥) → Finds cs m → Finds (cause n (eqb i j) ∷ cs) m
+  past-known : {m n : ℕ} {b : Bool} {cs : List Cause} → b ≡ true → Finds cs m → Finds (cause n (not b) ∷ cs) m
+  none : Finds [] 0
+
+pub ruleset causes =
+    (here, here-not, here-below, here-equal, here-is, past, past-not, past-below, past-equal, past-is, past-known, none)
+
+pub found : (cs : List Cause) (m : ℕ) → Finds cs m → m ≡ first cs
+found cs m (here e h) = sym (first-here _ _ _ (sym e ∙ h))
+found cs m (here-not e h) = sym (first-here _ _ _ (ap not (sym e) ∙ h))
+found cs m (here-below i j e h) = sym (first-here _ _ _ (lt-ltb i j (omega arith)))
+found cs m (here-equal i j e h) = sym (first-here _ _ _ (eq-eqb i j (sym e ∙ h)))
+found cs m (here-is i j h) = sym (first-here _ _ _ (eq-eqb i j h))
+found cs m (past e h f) = found _ _ f ∙ sym (first-past _ _ _ (sym e ∙ h))
+found cs m (past-not e h f) = found _ _ f ∙ sym (first-past _ _ _ (ap not (sym e) ∙ h))
+found cs m (past-below i j e h f) = found _ _ f ∙ sym (first-past _ _ _ (le-ltb i j (omega arith)))
+found cs m (past-equal i j e h f) = found _ _ f ∙ sym (first-past _ _ _ (ne-eqb i j (λ q. h (e ∙ q))))
+found cs m (past-is i j h f) = found _ _ f ∙ sym (first-past _ _ _ (ne-eqb i j h))
+found cs m (past-known h f) = found _ _ f ∙ sym (first-past _ _ _ (ap not h))
+found cs m none = sym first-end
+
+-- What such a test says of the cause.
+pub holds : {r b : Bool} → r ≡ b → not r ≡ false → b ≡ true
+holds {r} e h = sym e ∙ not-false r h
+
+pub fails : {r b : Bool} → r ≡ b → r ≡ false → b ≡ false
+fails e h = sym e ∙ h
+
+-- Limits of arguments, tested by code and joined from the left by `&`: after the test a, those of the list give r. `search limits`
+-- goes through them.
+pub data Tested : Bool → List Bool → Bool → Type 0 where
+  within : (low high : ℕ) (z : ℤ) {a b r : Bool} {bs : List Bool} → b ≡ withinℤ low high (toZ w64 (ofZ w64 z)) → SFits w64 z → Tested (a && b) bs r → Tested a (withinℤ low high z ∷ bs) r
+  least : (low : ℕ) (z : ℤ) {a b r : Bool} {bs : List Bool} → b ≡ leZ (pos low) (toZ w64 (ofZ w64 z)) → SFits w64 z → Tested (a && b) bs r → Tested a (leZ (pos low) z ∷ bs) r
+  last : {a : Bool} → Tested a [] a
+
+pub ruleset limits = (within, least, last)
+
+next-test : (a b c : Bool) (bs : List Bool) → b ≡ c → (a && b && every bs) ≡ (a && every (c ∷ bs))
+unfolding every
+next-test true b c bs e = ap (λ (x : Bool). x && every bs) e
+next-test false b c bs e = refl
+
+tested-after : (a : Bool) (bs : List Bool) (r : Bool) → Tested a bs r → r ≡ (a && every bs)
+unfolding every
+tested-after a bs r (within low high z {b = b} {bs = rest} e f t) = tested-after _ _ _ t ∙ next-test a b _ rest (e ∙ ap (withinℤ low high) (toZ-ofZ f))
+tested-after a bs r (least low z {b = b} {bs = rest} e f t) = tested-after _ _ _ t ∙ next-test a b _ rest (e ∙ ap (leZ (pos low)) (toZ-ofZ f))
+tested-after a bs r last = sym (and-true a)
+
+pub tested : (bs : List Bool) (r : Bool) → Tested true bs r → r ≡ every bs
+tested bs r t = tested-after true bs r t
+
+-- An argument that was passed on as it came: its natural part, which is the argument itself where it is within limits.
+pub natural-of : {n : ℕ} {z : ℤ} → n ≡ plus (toZ w64 (ofZ w64 z)) → SFits w64 z → n ≡ plus z
+natural-of e f = e ∙ ap plus (toZ-ofZ f)
+
+pub number-of : (low high : ℕ) {n : ℕ} {z : ℤ} → n ≡ plus (toZ w64 (ofZ w64 z)) → SFits w64 z → withinℤ low high z ≡ true → pos n ≡ z
+number-of low high {z = z} e f h = ap pos (natural-of e f) ∙ pos-of-within low high z h
+
+pub least-of : (low : ℕ) {n : ℕ} {z : ℤ} → n ≡ plus (toZ w64 (ofZ w64 z)) → SFits w64 z → leZ (pos low) z ≡ true → pos n ≡ z
+unfolding plus minus
+least-of low {z = z} e f h = ap pos (natural-of e f) ∙ pos-plus z (omega (arith, zarith, one-is-zero z))

@@ -1,71 +1,66 @@
--- `joining::write_node` meets its contract: six writes.
+-- `joining::write_node` meets its contract: writing balance 0 changes nothing, since it is 0 already; then six places.
+use Prim.Native.Nat.{ℕ, suc}
+use mathlib.Core.Path.{_≡_, refl, sym, ap, _∙_}
+use mathlib.Core.List.{List}
 use native.Mathlib.Omega.{arith}
 use native.Mathlib.Numerals.{add-one}
-use Prim.Native.Nat.{suc}
-use mathlib.Core.Path.{refl, ap, _∙_}
-use lib.IntN.{pos}
-use Rattle.table.proofs.Places.{put-then}
-use mir.Facts.{toZ-ofZ}
+use borrow.Author.Needs.{needs}
+use lib.IntN.{ℤ, pos}
+use Rattle.numbers.specs.Whole.{plus}
+use Rattle.table.specs.Limits.{sortAt, parentAt, levelAt, kindAt, shareAt, depthAt, balanceAt}
+use Rattle.table.specs.Places.{place, put}
 use Rattle.table.specs.Tree.{treeOf}
 use Rattle.table.specs.Calls.{joined}
-use borrow.Author.Needs.{needs}
+use Rattle.table.proofs.Places.{put-then, put-same}
+use Rattle.treelaws.specs.Joins.{joinedBy}
+use Rattle.joining.specs.NewNodes.{joinOf}
 use Rattle.joining.proofs.write_node.Statement.{statement}
 use Rattle.joining.proofs.write_node.Tie as tie
 
-natural-requires : tie.Need-natural-requires
-natural-requires c κs = search needs
+-- What stands there already is written.
+unwritten : (k p : ℕ) {s u : List ℤ} {v : ℤ} → s ≡ put u k p v → place u k p ≡ v → s ≡ u
+unwritten k p {u = u} e h = e ∙ ap (put u k p) (sym h) ∙ put-same u k p
 
 add-level : tie.Need-add-level
 unfolding treeOf
-add-level c = omega (arith, c .natural .ensures, c .before .before .pre .3)
+add-level c = omega arith
 
-put-requires : tie.Need-put-requires
-put-requires c κs = search needs
-
-put-natural-requires : tie.Need-put-natural-requires
-put-natural-requires c κs = search needs
-
-put-natural-requires-2 : tie.Need-put-natural-requires-2
+put-natural-requires-4 : tie.Need-put-natural-requires-4
 unfolding treeOf
-put-natural-requires-2 c κs =
-    let start = c .before .before .before .before .before .before .before .before .before in
-    (search needs, start .pre .1, omega arith, omega (arith, c .before .before .before .before .before .before .before .natural .ensures, start .pre .3))
-
-put-requires-2 : tie.Need-put-requires-2
-put-requires-2 c κs = search needs
-
-put-requires-3 : tie.Need-put-requires-3
-put-requires-3 c κs = search needs
-
-put-requires-4 : tie.Need-put-requires-4
-put-requires-4 c κs = search needs
-
-same-length : tie.Need-same-length
-same-length c = search needs
+put-natural-requires-4 c κs = omega arith
 
 returns : tie.Need-returns
-unfolding joined treeOf
+unfolding joinedBy joined joinOf treeOf plus
 returns c =
-    let start = c .before .before .before .before .before .before .before .before .before .before .before .before .before .before .before .before .before .before .before .before in
-    let k = start .args .k in
-    put-then k 5 (c .before .put4 .ensures) (toZ-ofZ (start .fits .depth))
-    (put-then k 4 (c .before .before .before .before .put3 .ensures) (toZ-ofZ (start .fits .share))
-    (put-then k 3 (c .before .before .before .before .before .before .before .put2 .ensures) (toZ-ofZ (start .fits .kind))
-    (put-then k 2 (c .before .before .before .before .before .before .before .before .before .before .put-natural2 .ensures) (ap pos (add-one _ ∙ ap suc (c .before .before .before .before .before .before .before .before .before .before .before .before .before .before .before .before .before .before .natural .ensures)))
-    (put-then k 1 (c .before .before .before .before .before .before .before .before .before .before .before .before .before .put-natural .ensures) refl
-    (put-then k 0 (c .before .before .before .before .before .before .before .before .before .before .before .before .before .before .before .before .put .ensures) (toZ-ofZ (start .fits .sort)) refl)))))
+    let depth = c .before in
+    let share = depth .before .before .before in
+    let kind = share .before .before .before in
+    let level = kind .before .before .before in
+    let parent = level .before .before .before in
+    let sort = parent .before .before .before in
+    let balance = sort .before .before .before in
+    let own = balance .before .before in
+    let k = own .before .before .args .new .node in
+    put-then k depthAt (depth .put-natural7 .ensures) refl
+    (put-then k shareAt (share .put-natural6 .ensures) refl
+    (put-then k kindAt (kind .put-natural5 .ensures) refl
+    (put-then k levelAt (level .put-natural4 .ensures) (ap pos (add-one _ ∙ ap suc (own .natural .ensures)))
+    (put-then k parentAt (parent .put-natural3 .ensures) refl
+    (put-then k sortAt (sort .put-natural2 .ensures) refl
+    (unwritten k balanceAt (balance .put-natural .ensures) (own .before .before .pre .balance)))))))
 
 pub write-node-spec : {M : Type 1} → statement M
 write-node-spec =
     tie.close
     (tie.spec
-    natural-requires
+    (λ c κs. search needs)
     add-level
-    put-requires
-    put-natural-requires
-    put-natural-requires-2
-    put-requires-2
-    put-requires-3
-    put-requires-4
-    same-length
+    (λ c κs. search needs)
+    (λ c κs. search needs)
+    (λ c κs. search needs)
+    put-natural-requires-4
+    (λ c κs. search needs)
+    (λ c κs. search needs)
+    (λ c κs. search needs)
+    (λ c. search needs)
     returns)

@@ -3,6 +3,7 @@ use Prim.Native.Nat.{ℕ, _-_}
 use mathlib.Core.List.{List}
 use native.Mathlib.Omega.{arith}
 use lib.IntN.{ℤ, pos}
+use Rattle.table.specs.Limits.{recordLength}
 use Rattle.table.specs.Places.{put}
 use Rattle.table.specs.Calls.{cleared}
 use Rattle.table.proofs.Turns.{Turns, turns-first, turns-next, turns-all}
@@ -13,10 +14,10 @@ abbrev step : ℕ → ℕ → List ℤ → List ℤ
 step k p u = put u k p (pos 0)
 
 abbrev Inv-loop : tie.InvT-loop
-Inv-loop table₀ k p₀ table p = Turns 40 (step k) table₀ table p
+Inv-loop table₀ k p₀ table p = Turns recordLength (step k) table₀ table p
 
 abbrev μ-loop : tie.MeasureT-loop
-μ-loop table₀ k p₀ table p = 40 - p
+μ-loop table₀ k p₀ table p = recordLength - p
 
 loop-holds : tie.Need-loop-holds Inv-loop μ-loop
 loop-holds c = turns-first (c .pre .0)
@@ -32,8 +33,9 @@ loop-less c = omega arith
 
 loop-again : tie.Need-loop-again Inv-loop μ-loop
 loop-again c =
-    let at = c .before .before .before .before .loop in
-    turns-next (at .inv) (omega arith) _ (c .before .put .kept .0) (c .before .put .ensures)
+    let written = c .before in
+    let at = written .before .before .before .loop in
+    turns-next (at .inv) (omega arith) _ (written .put .kept .0) (written .put .ensures)
 
 same-length : tie.Need-same-length Inv-loop μ-loop
 same-length c = omega arith

@@ -1,24 +1,14 @@
 -- `leaving::in_debt` meets its contract: both tests together.
 use mathlib.Core.Path.{_∙_, ap}
-use mir.Facts.{toZ-ofZ}
-use borrow.Author.Needs.{sfits-of}
+use borrow.Author.Needs.{needs, sfits-of}
 use lib.Dec.{ltb}
+use mir.Facts.{toZ-ofZ}
 use Rattle.numbers.specs.Whole.{minus}
-use Rattle.table.specs.Places.{balance}
 use Rattle.numbers.proofs.Every.{joined-as, same-tests, last-test}
+use Rattle.table.specs.Places.{balance}
 use Rattle.leaving.proofs.Debt.{below-zero}
-use borrow.Author.Needs.{needs}
 use Rattle.leaving.proofs.in_debt.Statement.{statement}
 use Rattle.leaving.proofs.in_debt.Tie as tie
-
-is-class-requires : tie.Need-is-class-requires
-is-class-requires c κs = search needs
-
-get-requires : tie.Need-get-requires
-get-requires c κs = search needs
-
-negative-requires : tie.Need-negative-requires
-negative-requires c κs = search needs
 
 returns : tie.Need-returns
 unfolding balance
@@ -31,4 +21,5 @@ returns c =
     ∙ below-zero (balance (start .args .table .now) (start .args .k)))))
 
 pub in-debt-spec : {M : Type 1} → statement M
-in-debt-spec = tie.close (tie.spec is-class-requires get-requires negative-requires returns)
+in-debt-spec =
+    tie.close (tie.spec (λ c κs. search needs) (λ c κs. search needs) (λ c κs. tt) returns)

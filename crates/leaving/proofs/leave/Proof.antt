@@ -1,6 +1,6 @@
 -- `leaving::leave` meets its contract: refused, nothing is written; accepted, the writes are made and
 -- every rate is renewed, from a table whose rates can be reckoned since the renewed one is in order.
-use Prim.Native.Nat.{ℕ, _<_}
+use Prim.Native.Nat.{ℕ}
 use mathlib.Core.Path.{_≡_, sym, ap, _∙_, subst}
 use mathlib.Core.Bool.{true}
 use mathlib.Core.List.{List}
@@ -15,13 +15,10 @@ use Rattle.table.specs.Refusals.{outcome}
 use Rattle.table.specs.Order.{inOrder}
 use Rattle.table.specs.Rates.{renewed}
 use Rattle.table.specs.Calls.{done, leaveRefusal, leaveTable, leaveAnswer, cleared}
-use Rattle.table.proofs.Refusals.{kept-new, kept-old, outcome-accepted}
+use Rattle.table.proofs.Refusals.{kept-new, kept-old, outcome-accepted, natural-of}
 use Rattle.table.proofs.Passed.{leave-passed, long}
 use Rattle.calllaws.proofs.Leave.{leave-keeps}
-use Rattle.rating.specs.Rated.{Rated}
 use Rattle.rating.proofs.Rated.{rated-before}
-use lib.ListN.{length}
-use Rattle.table.proofs.Edits.{cleared-edit}
 use Rattle.leaving.proofs.leave.Statement.{statement}
 use Rattle.leaving.proofs.leave.Tie as tie
 
@@ -32,25 +29,22 @@ number c = let s = c .before .before in rw (toZ-ofZ w64 (s .args .node) (s .fits
 accepted : (c : tie.Else1) → let s = c .before .before .before in leaveRefusal (s .args .table .now) (s .args .node) ≡ 0
 accepted c = sym (number (c .before)) ∙ c .if1 .left
 
-node : (c : tie.After-natural) → let s = c .before .before .before .before .before in c .natural .result ≡ plus (s .args .node)
-node c = let s = c .before .before .before .before .before in rw (toZ-ofZ w64 (s .args .node) (s .fits .node)) at (c .natural .ensures)
+abbrev accepts : tie.After-natural → tie.Else1
+accepts c = c .before .before
+
+abbrev start : tie.Else1 → tie.Start
+start c = c .before .before .before
+
+node : (c : tie.After-natural) → c .natural .result ≡ plus (start (accepts c) .args .node)
+node c = natural-of (c .natural .ensures) (start (accepts c) .fits .node)
 
 -- What is written.
-written : (c : tie.After-clear-node) → let s = c .before .before .before .before .before .before in c .clear-node .last .0 ≡ cleared (s .args .table .now) (plus (s .args .node))
-written c = let s = c .before .before .before .before .before .before in rw (node (c .before)) at (c .clear-node .ensures)
+written : (c : tie.After-clear-node) → let s = start (accepts (c .before)) in c .clear-node .last .0 ≡ cleared (s .args .table .now) (plus (s .args .node))
+written c = rw (node (c .before)) at (c .clear-node .ensures)
 
-in-order : (c : tie.Else1) → let s = c .before .before .before in inOrder (renewed (cleared (s .args .table .now) (plus (s .args .node)))) ≡ true
+in-order : (c : tie.Else1) → let s = start c in inOrder (renewed (cleared (s .args .table .now) (plus (s .args .node)))) ≡ true
 unfolding leaveTable
-in-order c = let s = c .before .before .before in subst (λ (u : List ℤ). inOrder u ≡ true) (kept-new _ _ _ (accepted c)) (leave-keeps (s .args .table .now) (s .args .node) (accepted c))
-
-leave-refusal-requires : tie.Need-leave-refusal-requires
-leave-refusal-requires c κs = search needs
-
-answered-requires : tie.Need-answered-requires
-answered-requires c κs = search needs
-
-same-length : tie.Need-same-length
-same-length c = search needs
+in-order c = subst (λ (u : List ℤ). inOrder u ≡ true) (kept-new _ _ _ (accepted c)) (leave-keeps _ _ (accepted c))
 
 returns : tie.Need-returns
 unfolding leaveAnswer leaveTable
@@ -59,41 +53,33 @@ returns c = (
   sym (kept-old _ _ _ (λ e. c .before .if1 .taken (number (c .before .before) ∙ e))),
 )
 
-natural-requires : tie.Need-natural-requires
-natural-requires c κs = search needs
-
-passed : (c : tie.Else1) → let s = c .before .before .before in (length (s .args .table .now) ≡ 2568) × (plus (s .args .node) < 64)
-passed c = let p = leave-passed _ _ (accepted c) in (long _ (p .order), p .node)
-
 clear-node-requires : tie.Need-clear-node-requires
-clear-node-requires c κs = let p = passed (c .before .before) in (p .0, omega (arith, node c))
+clear-node-requires c κs = let p = leave-passed _ _ (accepted (accepts c)) in (long _ (p .order), omega (arith, node c, p .node))
 
 renew-requires : tie.Need-renew-requires
 renew-requires c κs =
-    let s = c .before .before .before .before .before .before .before .before in
-    subst Rated (sym (written (c .before .before))) (rated-before _ (cleared-edit (s .args .table .now) (plus (s .args .node)) (passed (c .before .before .before .before .before) .0) (passed (c .before .before .before .before .before) .1) .long) (in-order (c .before .before .before .before .before)))
-
-same-length-2 : tie.Need-same-length-2
-same-length-2 c = search needs
+    let w = c .before .before in
+    let zero = accepted (accepts (w .before)) in
+    rated-before _ (w .clear-node .kept .0 ∙ long _ (leave-passed _ _ zero .order)) (rw (written w) (in-order (accepts (w .before))))
 
 returns-2 : tie.Need-returns-2
 unfolding told leaveAnswer leaveTable
 returns-2 c =
-    let zero = accepted (c .before .before .before .before .before .before .before) in (
-      sym (outcome-accepted _ _ zero),
-      c .before .renew .ensures ∙ ap renewed (written (c .before .before .before .before)) ∙ sym (kept-new _ _ _ zero),
-    )
+    let renewal = c .before in
+    let w = renewal .before .before .before in
+    let zero = accepted (accepts (w .before)) in
+    (sym (outcome-accepted _ _ zero), renewal .renew .ensures ∙ ap renewed (written w) ∙ sym (kept-new _ _ _ zero))
 
 pub leave-spec : {M : Type 1} → statement M
 leave-spec =
     tie.close
     (tie.spec
-    leave-refusal-requires
-    answered-requires
-    same-length
+    (λ c κs. tt)
+    (λ c κs. search needs)
+    (λ c. search needs)
     returns
-    natural-requires
+    (λ c κs. tt)
     clear-node-requires
     renew-requires
-    same-length-2
+    (λ c. search needs)
     returns-2)

@@ -9,6 +9,8 @@ use borrow.Author.Needs.{needs}
 use lib.IntN.{ℤ}
 use mir.Syntax.{w64}
 use mir.ValLaws.{toZ-ofZ}
+use Rattle.table.specs.Limits.{root, rateAt}
+use Rattle.table.specs.Places.{put}
 use Rattle.table.specs.Answers.{told}
 use Rattle.table.specs.Refusals.{outcome}
 use Rattle.table.specs.Order.{inOrder}
@@ -17,10 +19,7 @@ use Rattle.table.specs.Calls.{done, changeRateRefusal, changeRateTable, changeR
 use Rattle.table.proofs.Refusals.{kept-new, kept-old, outcome-accepted}
 use Rattle.table.proofs.Passed.{change-rate-passed, long}
 use Rattle.calllaws.proofs.ChangeRate.{change-rate-keeps}
-use Rattle.rating.specs.Rated.{Rated}
 use Rattle.rating.proofs.Rated.{rated-before}
-use Rattle.table.specs.Places.{put}
-use Rattle.table.proofs.Places.{length-put}
 use Rattle.sharing.proofs.change_rate.Statement.{statement}
 use Rattle.sharing.proofs.change_rate.Tie as tie
 
@@ -31,22 +30,16 @@ number c = let s = c .before .before in rw (toZ-ofZ w64 (s .args .rate) (s .fits
 accepted : (c : tie.Else1) → let s = c .before .before .before in changeRateRefusal (s .args .table .now) (s .args .rate) ≡ 0
 accepted c = sym (number (c .before)) ∙ c .if1 .left
 
+abbrev accepts : tie.After-put → tie.Else1
+accepts c = c .before .before
+
 -- What is written.
-written : (c : tie.After-put) → let s = c .before .before .before .before .before in c .put .last .0 ≡ put (s .args .table .now) 0 6 (s .args .rate)
-written c = let s = c .before .before .before .before .before in rw (toZ-ofZ w64 (s .args .rate) (s .fits .rate)) at (c .put .ensures)
+written : (c : tie.After-put) → let s = accepts c .before .before .before in c .put .last .0 ≡ put (s .args .table .now) root rateAt (s .args .rate)
+written c = let s = accepts c .before .before .before in rw (toZ-ofZ w64 (s .args .rate) (s .fits .rate)) at (c .put .ensures)
 
-in-order : (c : tie.Else1) → let s = c .before .before .before in inOrder (renewed (put (s .args .table .now) 0 6 (s .args .rate))) ≡ true
+in-order : (c : tie.Else1) → let s = c .before .before .before in inOrder (renewed (put (s .args .table .now) root rateAt (s .args .rate))) ≡ true
 unfolding changeRateTable
-in-order c = let s = c .before .before .before in subst (λ (u : List ℤ). inOrder u ≡ true) (kept-new _ _ _ (accepted c)) (change-rate-keeps (s .args .table .now) (s .args .rate) (accepted c))
-
-change-rate-refusal-requires : tie.Need-change-rate-refusal-requires
-change-rate-refusal-requires c κs = search needs
-
-answered-requires : tie.Need-answered-requires
-answered-requires c κs = search needs
-
-same-length : tie.Need-same-length
-same-length c = search needs
+in-order c = subst (λ (u : List ℤ). inOrder u ≡ true) (kept-new _ _ _ (accepted c)) (change-rate-keeps _ _ (accepted c))
 
 returns : tie.Need-returns
 unfolding changeRateAnswer changeRateTable
@@ -60,29 +53,27 @@ put-requires c κs = (long _ (change-rate-passed _ _ (accepted (c .before)) .ord
 
 renew-requires : tie.Need-renew-requires
 renew-requires c κs =
-    let s = c .before .before .before .before .before .before .before in
-    subst Rated (sym (written (c .before .before))) (rated-before _ (length-put (s .args .table .now) 0 6 (s .args .rate) ∙ long _ (change-rate-passed _ _ (accepted (c .before .before .before .before)) .order)) (in-order (c .before .before .before .before)))
-
-same-length-2 : tie.Need-same-length-2
-same-length-2 c = search needs
+    let w = c .before .before in
+    let zero = accepted (accepts w) in
+    rated-before _ (w .put .kept .0 ∙ long _ (change-rate-passed _ _ zero .order)) (rw (written w) (in-order (accepts w)))
 
 returns-2 : tie.Need-returns-2
 unfolding told changeRateAnswer changeRateTable
 returns-2 c =
-    let zero = accepted (c .before .before .before .before .before .before) in (
-      sym (outcome-accepted _ _ zero),
-      c .before .renew .ensures ∙ ap renewed (written (c .before .before .before .before)) ∙ sym (kept-new _ _ _ zero),
-    )
+    let renewal = c .before in
+    let w = renewal .before .before .before in
+    let zero = accepted (accepts w) in
+    (sym (outcome-accepted _ _ zero), renewal .renew .ensures ∙ ap renewed (written w) ∙ sym (kept-new _ _ _ zero))
 
 pub change-rate-spec : {M : Type 1} → statement M
 change-rate-spec =
     tie.close
     (tie.spec
-    change-rate-refusal-requires
-    answered-requires
-    same-length
+    (λ c κs. tt)
+    (λ c κs. search needs)
+    (λ c. search needs)
     returns
     put-requires
     renew-requires
-    same-length-2
+    (λ c. search needs)
     returns-2)

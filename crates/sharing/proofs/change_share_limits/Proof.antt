@@ -1,29 +1,10 @@
 -- `sharing::change_share_limits` meets its contract: the tests together.
-use mathlib.Core.Path.{ap, _∙_}
-use mir.Facts.{toZ-ofZ}
-use Rattle.numbers.specs.Whole.{withinℤ}
-use Rattle.numbers.proofs.Every.{joined-as, same-tests, last-test}
-use borrow.Author.Needs.{needs}
+use Rattle.table.proofs.Refusals.{limits, tested}
+use Rattle.sharing.specs.Limits.{shareLimits}
 use Rattle.sharing.proofs.change_share_limits.Statement.{statement}
 use Rattle.sharing.proofs.change_share_limits.Tie as tie
 
-within-requires : tie.Need-within-requires
-within-requires c κs = search needs
-
-within-requires-2 : tie.Need-within-requires-2
-within-requires-2 c κs = search needs
-
-within-requires-3 : tie.Need-within-requires-3
-within-requires-3 c κs = search needs
-
-returns : tie.Need-returns
-returns c =
-    let start = c .before .before .before in
-    joined-as
-    (same-tests (c .before .before .within .ensures ∙ ap (withinℤ 0 63) (toZ-ofZ (start .fits .node)))
-    (same-tests (c .before .within2 .ensures ∙ ap (withinℤ 0 1) (toZ-ofZ (start .fits .kind)))
-    (last-test (c .within3 .ensures ∙ ap (withinℤ 1 10000) (toZ-ofZ (start .fits .share))))))
-
 pub change-share-limits-spec : {M : Type 1} → statement M
+unfolding shareLimits
 change-share-limits-spec =
-    tie.close (tie.spec within-requires within-requires-2 within-requires-3 returns)
+    tie.close (tie.spec (λ c κs. tt) (λ c κs. tt) (λ c κs. tt) (λ c. tested _ _ (search limits)))

@@ -1,0 +1,85 @@
+-- Arguments within their limits are the natural numbers that they are read as.
+use mathlib.Core.Path.{_≡_, ap, _∙_}
+use mathlib.Core.Bool.{true}
+use mathlib.Core.List.{List}
+use native.Mathlib.Omega.{arith}
+use borrow.Author.Tests.{not-false}
+use lib.IntN.{ℤ, pos}
+use Rattle.numbers.specs.Whole.{withinℤ}
+use Rattle.numbers.proofs.Every.{head-holds, rest-hold}
+use Rattle.numbers.proofs.Parts.{zarith, pos-of-within}
+use Rattle.table.specs.Limits.{lastNode, balanceAt, class, client, fixed, weighted, wholeShare, greatestDepth}
+use Rattle.table.specs.Order.{inOrder}
+use Rattle.table.specs.Tree.{treeOf}
+use Rattle.table.specs.Calls.{joinRefusal}
+use Rattle.table.proofs.Facts.{facts}
+use Rattle.table.proofs.Refusals.{none-first}
+use Rattle.table.proofs.Passed.{long, join-passed}
+use Rattle.treelaws.specs.Joins.{Join, refusalOf}
+use Rattle.joining.specs.declared.NewNode.{NewNode}
+use Rattle.joining.specs.NewNodes.{joinLimits, Natural, joinOf, Limited, Judged, Writable}
+
+-- Each limit by itself.
+record Within (j : Join) : Type 0 where
+  node : withinℤ 1 lastNode (j .node) ≡ true
+  parent : withinℤ 0 lastNode (j .parent) ≡ true
+  sort : withinℤ class client (j .sort) ≡ true
+  kind : withinℤ fixed weighted (j .kind) ≡ true
+  share : withinℤ 1 wholeShare (j .share) ≡ true
+  depth : withinℤ 1 greatestDepth (j .depth) ≡ true
+
+within : (j : Join) → joinLimits j ≡ true → Within j
+unfolding joinLimits
+within j l1 =
+    let l2 = rest-hold _ _ l1 in
+    let l3 = rest-hold _ _ l2 in
+    let l4 = rest-hold _ _ l3 in
+    let l5 = rest-hold _ _ l4 in
+    record {
+      node = head-holds _ _ l1;
+      parent = head-holds _ _ l2;
+      sort = head-holds _ _ l3;
+      kind = head-holds _ _ l4;
+      share = head-holds _ _ l5;
+      depth = head-holds _ _ (rest-hold _ _ l5);
+    }
+
+limited : (n : NewNode) (j : Join) → Natural n j → joinLimits j ≡ true → Limited n
+limited n j same h = let w = within j h in omega (arith, zarith)
+
+pub as-asked : (n : NewNode) (j : Join) → Natural n j → joinLimits j ≡ true → joinOf n ≡ j
+unfolding joinOf
+as-asked n j same h =
+    let w = within j h in
+    rw (
+      ap pos (same .node) ∙ pos-of-within _ _ (j .node) (w .node),
+      ap pos (same .parent) ∙ pos-of-within _ _ (j .parent) (w .parent),
+      ap pos (same .sort) ∙ pos-of-within _ _ (j .sort) (w .sort),
+      ap pos (same .kind) ∙ pos-of-within _ _ (j .kind) (w .kind),
+      ap pos (same .share) ∙ pos-of-within _ _ (j .share) (w .share),
+      ap pos (same .depth) ∙ pos-of-within _ _ (j .depth) (w .depth),
+    )
+
+pub judged : (t : List ℤ) (n : NewNode) (j : Join) → Natural n j → inOrder t ≡ true → joinLimits j ≡ true → Judged t n
+judged t n j same o h =
+    record { order = o; long = long t o; within = ap joinLimits (as-asked n j same h) ∙ h; limits = limited n j same h }
+
+-- An accepted join asks for a node whose record can be written.
+pub accepted-limits : (t : List ℤ) (j : Join) → refusalOf t j ≡ 0 → joinLimits j ≡ true
+unfolding refusalOf joinRefusal joinLimits
+accepted-limits t j h =
+    let p1 = none-first 1 _ _ (omega arith) h in
+    not-false _ (none-first 2 _ _ (omega arith) (p1 .1) .0)
+
+pub writable : (t : List ℤ) (n : NewNode) (j : Join) → Natural n j → refusalOf t j ≡ 0 → Writable t n
+unfolding refusalOf treeOf
+writable t n j same h =
+    let p = join-passed t _ _ _ _ _ _ h in
+    let f = facts t (p .order) in
+    let level = f .limits _ (p .parent) (p .there) .level in
+    record {
+      long = f .long;
+      limits = limited n j same (accepted-limits t j h);
+      level = rw (same .parent) (omega (arith, zarith));
+      balance = rw (same .node) (f .empty _ (p .node) (p .unused) balanceAt (omega arith));
+    }

@@ -1,0 +1,41 @@
+-- `sharing::shares_above` meets its contract: the sum as it is, with the new share in the place of the old.
+use mathlib.Core.Path.{_≡_, sym, ap, _∙_}
+use native.Mathlib.Omega.{arith}
+use borrow.Author.Needs.{needs}
+use Rattle.table.specs.Tree.{treeOf}
+use Rattle.table.specs.Rates.{fixedSum}
+use Rattle.table.proofs.Facts.{facts}
+use Rattle.table.proofs.Passed.{long}
+use Rattle.rating.specs.Sums.{fixedShares}
+use Rattle.rating.proofs.Summable.{in-order-summable}
+use Rattle.sharing.proofs.Sums.{own-share, class-shares, shares-with}
+use Rattle.sharing.proofs.shares_above.Statement.{statement}
+use Rattle.sharing.proofs.shares_above.Tie as tie
+
+-- The class above the node.
+above : (c : tie.After-natural) → let s = c .before in c .natural .result ≡ treeOf (s .args .table .now) .parent (s .args .k)
+unfolding treeOf
+above c = c .natural .ensures
+
+shares-above-requires : tie.Need-shares-above-requires
+shares-above-requires c κs =
+    let s = c .before .before in
+    let t = s .args .table .now in
+    let f = facts t (s .pre .0) in
+    let parent = above (c .before) in (
+      f .long,
+      in-order-summable fixedShares t f,
+      omega (arith, c .fixed-share .ensures, own-share t (s .args .k) f (s .pre .1) (s .pre .2) (s .pre .3), ap (fixedSum (treeOf t)) parent),
+      s .pre .4,
+      rw parent (class-shares t (s .args .k) f (s .pre .1) (s .pre .2) (s .pre .3)),
+    )
+
+returns : tie.Need-returns
+returns c =
+    let s = c .before .before .before in
+    (rw (above (c .before .before), c .before .fixed-share .ensures) at (c .shares-above .ensures))
+    ∙ sym (shares-with _ _ (facts _ (s .pre .0)) (s .pre .1) (s .pre .2) (s .pre .3) (s .args .kind) (s .args .share))
+
+pub shares-above-spec : {M : Type 1} → statement M
+shares-above-spec =
+    tie.close (tie.spec (λ c κs. search (needs, long)) (λ c κs. search (needs, long)) shares-above-requires returns)

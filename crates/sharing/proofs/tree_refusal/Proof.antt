@@ -1,0 +1,47 @@
+-- `sharing::tree_refusal` meets its contract: each test is what its cause says. `search` goes through the causes by the tests
+-- that the code made on the way.
+use Prim.Native.Nat.{ℕ, _≤_, _<_}
+use mathlib.Core.Path.{_≡_}
+use mathlib.Core.Bool.{true}
+use native.Mathlib.Omega.{arith}
+use lib.IntN.{pos}
+use Rattle.numbers.specs.Whole.{plus}
+use Rattle.numbers.proofs.Every.{head-holds, rest-hold}
+use Rattle.numbers.proofs.Parts.{within-parts}
+use Rattle.table.specs.Limits.{nodes, wholeShare}
+use Rattle.table.specs.Calls.{changeShareRefusal}
+use Rattle.table.proofs.Refusals.{causes, found, holds}
+use Rattle.table.proofs.Passed.{long, below}
+use Rattle.sharing.specs.Limits.{shareLimits}
+use Rattle.sharing.proofs.tree_refusal.Statement.{statement}
+use Rattle.sharing.proofs.tree_refusal.Tie as tie
+
+-- What the limits say of node and share.
+low : (k kind share : ℕ) → shareLimits (pos k) (pos kind) (pos share) ≡ true → k < nodes
+unfolding shareLimits plus
+low k kind share h = below 0 (pos k) (head-holds _ _ h)
+
+small : (k kind share : ℕ) → shareLimits (pos k) (pos kind) (pos share) ≡ true → share ≤ wholeShare
+unfolding shareLimits plus
+small k kind share h = within-parts 1 wholeShare (pos share) (head-holds _ _ (rest-hold _ _ (rest-hold _ _ h))) .2
+
+there-requires : tie.Need-there-requires
+there-requires c κs = (long _ (c .pre .0), low _ _ _ (c .pre .1))
+
+shares-above-requires : tie.Need-shares-above-requires
+shares-above-requires c κs =
+    let first = c .before in
+    let pre = first .before .before .pre in
+    (pre .0, low _ _ _ (pre .1), holds (first .before .there .ensures) (first .if1 .left), c .if2 .left, small _ _ _ (pre .1))
+
+pub tree-refusal-spec : {M : Type 1} → statement M
+unfolding changeShareRefusal shareLimits plus
+tree-refusal-spec =
+    tie.close
+    (tie.spec
+    there-requires
+    (λ c. (found _ _ (search causes), omega arith))
+    (λ c. (found _ _ (search causes), omega arith))
+    shares-above-requires
+    (λ c. (found _ _ (search causes), omega arith))
+    (λ c. (found _ _ (search causes depth 6), omega arith)))
