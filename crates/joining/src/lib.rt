@@ -73,7 +73,7 @@ fn depths_above(table: &[i64], new: NewNode) -> bool
     ensures { λ r. ⌜ r ≡ depthsAbove (joinedBy (now (table .entry)) (joinOf new)) (new .parent) ⌝ }
 {
     Table::natural(table, new.parent, Table::DEPTH)
-        < rating::sums::sum_under(table, rating::sums::DEPTHS, new.parent) + new.depth
+        < rating::sums::sum_under(table, rating::sums::Summand::Depths, new.parent) + new.depth
 }
 
 // The number of the first cause in the tree that turns the node back, or 0.

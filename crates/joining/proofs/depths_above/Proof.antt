@@ -5,7 +5,8 @@ use native.Mathlib.Omega.{arith}
 use lib.Dec.{ltb}
 use Rattle.table.specs.Tree.{treeOf}
 use Rattle.table.proofs.Facts.{facts}
-use Rattle.rating.specs.Sums.{term, depths}
+use Rattle.rating.specs.Sums.{term}
+use Rattle.rating.specs.declared.sums.Summand.the-variants.{Depths}
 use Rattle.rating.proofs.Summable.{in-order-summable}
 use Rattle.joining.proofs.Sums.{small-sum, depths-with}
 use Rattle.joining.proofs.depths_above.Statement.{statement}
@@ -15,7 +16,7 @@ natural-requires : tie.Need-natural-requires
 natural-requires c κs = let j = c .pre .judged in (j .long, omega arith, omega arith)
 
 sum-under-requires : tie.Need-sum-under-requires
-sum-under-requires c κs = let j = c .before .pre .judged in (j .long, in-order-summable depths _ (facts _ (j .order)))
+sum-under-requires c κs = let j = c .before .pre .judged in (j .long, in-order-summable Depths _ (facts _ (j .order)))
 
 add-result : tie.Need-add-result
 unfolding term

@@ -6,7 +6,7 @@ use Rattle.table.specs.Tree.{treeOf}
 use Rattle.table.specs.Rates.{fixedSum}
 use Rattle.table.proofs.Facts.{facts}
 use Rattle.table.proofs.Passed.{long}
-use Rattle.rating.specs.Sums.{fixedShares}
+use Rattle.rating.specs.declared.sums.Summand.the-variants.{FixedShares}
 use Rattle.rating.proofs.Summable.{in-order-summable}
 use Rattle.sharing.proofs.Sums.{own-share, class-shares, shares-with}
 use Rattle.sharing.proofs.shares_above.Statement.{statement}
@@ -24,7 +24,7 @@ shares-above-requires c κs =
     let f = facts t (s .pre .0) in
     let parent = above (c .before) in (
       f .long,
-      in-order-summable fixedShares t f,
+      in-order-summable FixedShares t f,
       omega (arith, c .fixed-share .ensures, own-share t (s .args .k) f (s .pre .1) (s .pre .2) (s .pre .3), ap (fixedSum (treeOf t)) parent),
       s .pre .4,
       rw parent (class-shares t (s .args .k) f (s .pre .1) (s .pre .2) (s .pre .3)),
