@@ -6,3 +6,5 @@ pub mod Passed
 pub mod Edits
 pub mod Zeros
 pub mod Open
+pub mod Rates
+pub mod Buckets
