@@ -1,14 +1,18 @@
--- The marked edges of document 01 as scenarios, each under the words of its edge. What the words leave open, as the depth
--- of a node or the tag of a request, is chosen so that nothing else is met.
-use mathlib.Core.List.{List, [], _∷_}
+-- The marked edges of document 01, each a scenario under the words of its edge. What the words leave open, as the depth of a
+-- node or the tag of a request, is chosen so that nothing else is met.
+use mathlib.Core.List.{[], _∷_}
 use lib.IntN.{pos, negℤ}
-use Rattle.table.specs.Limits.{root, class, client, fixed, weighted}
+use Rattle.table.specs.Limits.{root, class, client, fixed, weighted, wholeShare}
 use Rattle.table.specs.Refusals.{refused}
-use Rattle.edges.specs.Scenario.{Scenario, disk, join, request, look, tick, dispatch, _gives_, _lists_, _refuses_, setBalance, number, seen}
+use Rattle.scenarios.specs.Scenario.{Scenario, disk, join, request, look, tick, dispatch, _gives_, _lists_, _refuses_, setBalance, number, seen}
 
+-- The edges by name, in document 01's order.
+pub data Edge : Type 0 where
+  paper thirds nothingLeft nothingLeftOfThirds aboveWhole alone oneAsks bothAsk debt sizes depths ninth listLengths : Edge
+
+unfoldable pub scenario : Edge → Scenario
 -- "Disk 1000; class 1 fixed 5000: rate 500. Under it fixed 4000: 200; weights 4 and 6: 120 and 180."
-unfoldable pub paper : Scenario
-paper =
+scenario paper =
     disk 1000 40 gives number 0
     ∷ join 1 root class fixed 5000 40 gives number 0
     ∷ join 2 1 client fixed 4000 10 gives number 0
@@ -19,10 +23,8 @@ paper =
     ∷ look 3 gives seen 120 (pos 0) 0
     ∷ look 4 gives seen 180 (pos 0) 0
     ∷ []
-
 -- "Three weights 1 under 1000: 333 each."
-unfoldable pub thirds : Scenario
-thirds =
+scenario thirds =
     disk 1000 40 gives number 0
     ∷ join 1 root client weighted 1 10 gives number 0
     ∷ join 2 root client weighted 1 10 gives number 0
@@ -31,20 +33,15 @@ thirds =
     ∷ look 2 gives seen 333 (pos 0) 0
     ∷ look 3 gives seen 333 (pos 0) 0
     ∷ []
-
--- "A weighted child beside fixed 10,000: 0". "Fixed 10,001 in all: 7."
-unfoldable pub nothingLeft : Scenario
-nothingLeft =
+-- "A weighted child beside fixed 10,000: 0".
+scenario nothingLeft =
     disk 1000 40 gives number 0
-    ∷ join 1 root client fixed 10000 10 gives number 0
+    ∷ join 1 root client fixed wholeShare 10 gives number 0
     ∷ join 2 root client weighted 1 10 gives number 0
     ∷ look 2 gives seen 0 (pos 0) 0
-    ∷ join 3 root client fixed 1 10 gives refused 7
     ∷ []
-
 -- ".. also where that is 3333, 3333 and 3334 of 1000, which get 333 each."
-unfoldable pub nothingLeftOfThirds : Scenario
-nothingLeftOfThirds =
+scenario nothingLeftOfThirds =
     disk 1000 40 gives number 0
     ∷ join 1 root client fixed 3333 10 gives number 0
     ∷ join 2 root client fixed 3333 10 gives number 0
@@ -55,10 +52,14 @@ nothingLeftOfThirds =
     ∷ look 3 gives seen 333 (pos 0) 0
     ∷ look 4 gives seen 0 (pos 0) 0
     ∷ []
-
+-- "Fixed 10,001 in all: 7."
+scenario aboveWhole =
+    disk 1000 40 gives number 0
+    ∷ join 1 root client fixed wholeShare 10 gives number 0
+    ∷ join 2 root client fixed 1 10 gives refused 7
+    ∷ []
 -- "Disk 1000, root depth 40, client 5 alone, weight 4, depth 16; size 3 goes at the third tick, supplier 5, both balances 0."
-unfoldable pub alone : Scenario
-alone =
+scenario alone =
     disk 1000 40 gives number 0
     ∷ join 5 root client weighted 4 16 gives number 0
     ∷ request 5 50 3 gives number 1
@@ -68,11 +69,9 @@ alone =
     ∷ look 5 gives seen 1000 (pos 0) 0
     ∷ look root gives seen 1000 (pos 0) 0
     ∷ []
-
 -- "Disk 1000, root depth 40, clients 5 and 6, weight 1, depth 16, only 5 asks, size 1: first tick, supplier 0; 5 keeps 500,
 -- root 0."
-unfoldable pub oneAsks : Scenario
-oneAsks =
+scenario oneAsks =
     disk 1000 40 gives number 0
     ∷ join 5 root client weighted 1 16 gives number 0
     ∷ join 6 root client weighted 1 16 gives number 0
@@ -81,10 +80,8 @@ oneAsks =
     ∷ look 5 gives seen 500 (pos 500) 0
     ∷ look root gives seen 1000 (pos 0) 0
     ∷ []
-
 -- "The same, 6 asked before 5, both size 1: 6 at the first tick from 0, 5 at the second from itself."
-unfoldable pub bothAsk : Scenario
-bothAsk =
+scenario bothAsk =
     disk 1000 40 gives number 0
     ∷ join 5 root client weighted 1 16 gives number 0
     ∷ join 6 root client weighted 1 16 gives number 0
@@ -93,11 +90,9 @@ bothAsk =
     ∷ tick 8 lists (dispatch 6 60 1 root ∷ [])
     ∷ tick 8 lists (dispatch 5 50 1 5 ∷ [])
     ∷ []
-
 -- "Disk 1000, root balance 0 and depth 2, two clients of depth 1 and rate 500 with balances 500 and 1000, each asking 1:
 -- after the tick root −1000, clients 0 and 500."
-unfoldable pub debt : Scenario
-debt =
+scenario debt =
     disk 1000 2 gives number 0
     ∷ join 1 root client weighted 1 1 gives number 0
     ∷ join 2 root client weighted 1 1 gives number 0
@@ -113,10 +108,8 @@ debt =
     ∷ look 1 gives seen 500 (pos 0) 0
     ∷ look 2 gives seen 500 (pos 500) 0
     ∷ []
-
 -- "Size 16 at depth 16 waits; 17 gets 8; 0 gets 2."
-unfoldable pub sizes : Scenario
-sizes =
+scenario sizes =
     disk 1000 40 gives number 0
     ∷ join 5 root client weighted 4 16 gives number 0
     ∷ request 5 50 16 gives number 1
@@ -124,19 +117,15 @@ sizes =
     ∷ request 5 50 17 gives refused 8
     ∷ request 5 50 0 gives refused 2
     ∷ []
-
 -- "Depths 16 and 24 under 40 join; 16 and 25 get 8."
-unfoldable pub depths : Scenario
-depths =
+scenario depths =
     disk 1000 40 gives number 0
     ∷ join 5 root client weighted 1 16 gives number 0
     ∷ join 6 root client weighted 1 25 gives refused 8
     ∷ join 6 root client weighted 1 24 gives number 0
     ∷ []
-
 -- "Ninth waiting: 11."
-unfoldable pub ninth : Scenario
-ninth =
+scenario ninth =
     disk 1000 40 gives number 0
     ∷ join 5 root client weighted 1 16 gives number 0
     ∷ request 5 50 1 gives number 1
@@ -149,10 +138,8 @@ ninth =
     ∷ request 5 50 1 gives number 8
     ∷ request 5 50 1 gives refused 11
     ∷ []
-
 -- "Two waiting: list of 8 passes, 7 gets 13; none waiting: an empty list passes."
-unfoldable pub listLengths : Scenario
-listLengths =
+scenario listLengths =
     disk 1000 40 gives number 0
     ∷ join 5 root client weighted 1 16 gives number 0
     ∷ tick 0 lists []
@@ -160,21 +147,4 @@ listLengths =
     ∷ request 5 51 16 gives number 2
     ∷ tick 7 refuses 13
     ∷ tick 8 lists []
-    ∷ []
-
--- The joint table.
-unfoldable pub edges : List Scenario
-edges =
-    paper
-    ∷ thirds
-    ∷ nothingLeft
-    ∷ nothingLeftOfThirds
-    ∷ alone
-    ∷ oneAsks
-    ∷ bothAsk
-    ∷ debt
-    ∷ sizes
-    ∷ depths
-    ∷ ninth
-    ∷ listLengths
     ∷ []

@@ -8,10 +8,11 @@ use lib.IntN.{ℤ, pos}
 use Rattle.table.specs.Places.{rate, balance, waiting, depthGrains}
 use Rattle.table.specs.Rates.{renewed}
 use Rattle.table.specs.Order.{limitsKept, spareInOrder, classInOrder, rateInOrder, childBalance, childBalances, balanceInOrder, arrivalsDiffer, inOrder}
-use Rattle.table.specs.Calls.{sharesAbove, depthsAbove, joinRefusal, joinTable, joinAnswer, requestRefusal, requestTable, requestAnswer, lookRefusal, lookAnswer}
+use Rattle.table.specs.Calls.{sharesAbove, depthsAbove, joinRefusal, joinTable, joinAnswer, leaveRefusal, leaveTable, leaveAnswer, changeShareRefusal, changeShareTable, changeShareAnswer, changeRateRefusal, changeRateTable, changeRateAnswer, requestRefusal, requestTable, requestAnswer, lookRefusal, lookAnswer, sameTree, sameRefusal, sameAnswer}
 use Rattle.table.specs.Tick.{State, grown, servedAll, cut, allWaiting, stepTwo, stepThree, ticked, tickRefusal, tickTable, tickList, tickAnswer}
-use Rattle.edges.specs.Scenario.{disk, join, request, look, Step, _gives_, _lists_, _refuses_, setBalance, lentTo, answer, called, ticksAs, holds, after}
-use Rattle.edges.proofs.Near.{place-is, put-is, tree-is, unused-is, lent-is}
+use Rattle.scenarios.specs.Scenario.{openℤ, joinℤ, leaveℤ, changeShareℤ, changeRateℤ, requestℤ, lookℤ, same, Step, _gives_, _answers_leaving_, keep, fits, spoils, lentTo, answer, called, changed, after, keptAfter}
+use Rattle.scenarios.proofs.Judge.{holds}
+use Rattle.scenarios.proofs.Near.{place-is, put-is, tree-is, unused-is, lent-is}
 
 -- A short form of x: a value that is equal to it.
 pub record Short {A : Type 0} (x : A) : Type 0 where
@@ -74,6 +75,22 @@ unfoldable pub shortJoinRefusal : (t : List ℤ) (node parent sort kind share de
 unfolding joinRefusal sharesAbove depthsAbove
 shortJoinRefusal t node parent sort kind share depth = by (λ y e. simp (is shortInOrder, tree-is) at e)
 
+unfoldable pub shortLeaveRefusal : (t : List ℤ) (node : ℤ) → Short (leaveRefusal t node)
+unfolding leaveRefusal
+shortLeaveRefusal t node = by (λ y e. simp (is shortInOrder, tree-is) at e)
+
+unfoldable pub shortChangeShareRefusal : (t : List ℤ) (node kind share : ℤ) → Short (changeShareRefusal t node kind share)
+unfolding changeShareRefusal sharesAbove
+shortChangeShareRefusal t node kind share = by (λ y e. simp (is shortInOrder, tree-is) at e)
+
+unfoldable pub shortChangeRateRefusal : (t : List ℤ) (rate : ℤ) → Short (changeRateRefusal t rate)
+unfolding changeRateRefusal
+shortChangeRateRefusal t rate = by (λ y e. simp (is shortInOrder) at e)
+
+unfoldable pub shortSameRefusal : (a b : List ℤ) → Short (sameRefusal a b)
+unfolding sameRefusal
+shortSameRefusal a b = by (λ y e. simp (is shortInOrder) at e)
+
 unfoldable pub shortRequestRefusal : (t : List ℤ) (node tag size : ℤ) → Short (requestRefusal t node tag size)
 unfolding requestRefusal
 shortRequestRefusal t node tag size = by (λ y e. simp (is shortInOrder) at e)
@@ -119,18 +136,23 @@ unfoldable pub shortTicked : (t : List ℤ) → Short (ticked t)
 unfolding ticked
 shortTicked t = with (shortStepThree t) (λ st h. by (λ y e. simp (h, is shortAllWaiting, lent-is) at e))
 
--- A step, and a test of the table after it. The refusal, and what a tick does, are computed once for both.
-unfoldable pub shortStep : (step : Step) (rest : List ℤ → Bool) (t : List ℤ) → Short (holds step t && rest (after step t))
-unfolding holds after answer called ticksAs joinTable joinAnswer requestTable requestAnswer lookAnswer tickTable tickList tickAnswer renewed
-shortStep (disk r d gives o) rest t = record { value = _; same = refl }
-shortStep (join node parent sort kind share depth gives o) rest t =
-    with (shortJoinRefusal t (pos node) (pos parent) (pos sort) (pos kind) (pos share) (pos depth))
-    (λ n h. by (λ y e. simp (h, tree-is) at e))
-shortStep (request client tag size gives o) rest t =
-    with (shortRequestRefusal t (pos client) (pos tag) (pos size)) (λ n h. by (λ y e. simp h at e))
-shortStep (look node gives o) rest t = with (shortLookRefusal t (pos node)) (λ n h. by (λ y e. simp h at e))
-shortStep (c lists dispatches) rest t =
+-- A step, and a test of the tables after it. The refusal, and what a tick does, are computed once for both.
+unfoldable pub shortStep : (step : Step) (rest : (kept t : List ℤ) → Bool) (kept t : List ℤ) → Short (holds step kept t && rest (keptAfter step kept t) (after step t))
+unfolding holds after keptAfter answer called changed joinTable joinAnswer leaveTable leaveAnswer changeShareTable changeShareAnswer changeRateTable changeRateAnswer requestTable requestAnswer lookAnswer sameTree sameAnswer tickTable tickList tickAnswer renewed
+shortStep (openℤ rate depth gives o) rest kept t = record { value = _; same = refl }
+shortStep (joinℤ node parent sort kind share depth gives o) rest kept t =
+    with (shortJoinRefusal t node parent sort kind share depth) (λ n h. by (λ y e. simp (h, tree-is) at e))
+shortStep (leaveℤ node gives o) rest kept t = with (shortLeaveRefusal t node) (λ n h. by (λ y e. simp (h, tree-is) at e))
+shortStep (changeShareℤ node kind share gives o) rest kept t =
+    with (shortChangeShareRefusal t node kind share) (λ n h. by (λ y e. simp (h, tree-is) at e))
+shortStep (changeRateℤ rate gives o) rest kept t =
+    with (shortChangeRateRefusal t rate) (λ n h. by (λ y e. simp (h, tree-is) at e))
+shortStep (requestℤ client tag size gives o) rest kept t =
+    with (shortRequestRefusal t client tag size) (λ n h. by (λ y e. simp h at e))
+shortStep (lookℤ node gives o) rest kept t = with (shortLookRefusal t node) (λ n h. by (λ y e. simp h at e))
+shortStep (same gives o) rest kept t = with (shortSameRefusal kept t) (λ n h. by (λ y e. simp (h, place-is) at e))
+shortStep (c answers o leaving list) rest kept t =
     with (shortTickRefusal t (lentTo c)) (λ n h. with (shortTicked t) (λ st k. by (λ y e. simp (h, k) at e)))
-shortStep (c refuses refusal) rest t =
-    with (shortTickRefusal t (lentTo c)) (λ n h. with (shortTicked t) (λ st k. by (λ y e. simp (h, k) at e)))
-shortStep (setBalance node amount) rest t = by (λ y e. simp (is shortInOrder) at e)
+shortStep keep rest kept t = record { value = _; same = refl }
+shortStep (fits change) rest kept t = by (λ y e. simp (is shortInOrder) at e)
+shortStep (spoils change) rest kept t = by (λ y e. simp (is shortInOrder) at e)

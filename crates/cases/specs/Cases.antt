@@ -1,0 +1,140 @@
+-- What document 01 says in words of rates, buckets, the dispatch list and a table in order, as scenarios.
+use Prim.Native.Nat.{suc, _+_, _-_}
+use mathlib.Core.List.{[], _∷_}
+use lib.IntN.{pos, negℤ}
+use Rattle.table.specs.Limits.{root, class, client, fixed, weighted, wholeShare, greatestCount, sortAt, parentAt, levelAt, kindAt, shareAt, depthAt, rateAt, balanceAt, spareAt, spareLength, tagAt, sizeAt, arrivalAt}
+use Rattle.table.specs.Places.{queuePlace}
+use Rattle.table.specs.Refusals.{refused}
+use Rattle.scenarios.specs.Scenario.{Scenario, disk, join, leave, request, look, tick, atPlace, atHeader, _gives_, _answers_leaving_, _lists_, fits, spoils, setBalance, number, seen}
+
+pub data Case : Type 0 where
+  roundedDown emptyBuckets restOfList headerPlaces nodesInOrder sumsInOrder requestsInOrder : Case
+
+unfoldable pub scenario : Case → Scenario
+-- "rounded down", what the fixed shares leave too: of 1000, fixed 3333 gets 333, and 666 are left for one weight; of these
+-- the weights 3 and 4 get 285 and 380.
+scenario roundedDown =
+    disk 1000 40 gives number 0
+    ∷ join 1 root client fixed 3333 10 gives number 0
+    ∷ join 2 root client weighted 3 10 gives number 0
+    ∷ look 1 gives seen 333 (pos 0) 0
+    ∷ look 2 gives seen 666 (pos 0) 0
+    ∷ join 3 root client weighted 4 10 gives number 0
+    ∷ look 2 gives seen 285 (pos 0) 0
+    ∷ look 3 gives seen 380 (pos 0) 0
+    ∷ []
+-- "Open .. makes the root with balance 0. Join .. starts at balance 0", also where a node leaves and comes back.
+scenario emptyBuckets =
+    disk 900 40 gives number 0
+    ∷ look root gives seen 900 (pos 0) 0
+    ∷ join 1 root client weighted 1 16 gives number 0
+    ∷ look 1 gives seen 900 (pos 0) 0
+    ∷ tick 0 lists []
+    ∷ look 1 gives seen 900 (pos 900) 0
+    ∷ leave 1 gives number 0
+    ∷ join 1 root client fixed 5000 16 gives number 0
+    ∷ look 1 gives seen 450 (pos 0) 0
+    ∷ []
+-- "The list gets four numbers each: client, tag, size, supplier. The answer is how many were dispatched; the list beyond
+-- them stays untouched."
+scenario restOfList =
+    disk 1000 40 gives number 0
+    ∷ join 5 root client weighted 1 16 gives number 0
+    ∷ request 5 50 1 gives number 1
+    ∷ tick 6 answers number 1 leaving (pos 5 ∷ pos 50 ∷ pos 1 ∷ pos 5 ∷ pos 7 ∷ pos 7 ∷ [])
+    ∷ []
+-- "places 1 to 7 are zero", and the count is 0 to 9,000,000,000,000,000,000.
+scenario headerPlaces =
+    disk 1000 40 gives number 0
+    ∷ spoils (atHeader 1 (pos 1))
+    ∷ look root gives refused 1
+    ∷ fits (atHeader 1 (pos 0))
+    ∷ spoils (atHeader 7 (negℤ (pos 1)))
+    ∷ look root gives refused 1
+    ∷ fits (atHeader 7 (pos 0))
+    ∷ spoils (atHeader 0 (negℤ (pos 1)))
+    ∷ spoils (atHeader 0 (pos (suc greatestCount)))
+    ∷ fits (atHeader 0 (pos greatestCount))
+    ∷ []
+-- "Node 0 is the root: a class, its own parent, fixed, share 10,000"; "every other node's parent is a class one level above
+-- it; classes have levels 0 to 3"; the limits of a node's places.
+scenario nodesInOrder =
+    disk 1000 40 gives number 0
+    ∷ join 1 root class fixed 5000 20 gives number 0
+    ∷ join 2 1 class weighted 1 20 gives number 0
+    ∷ join 3 2 class weighted 1 20 gives number 0
+    ∷ join 4 3 client weighted 1 20 gives number 0
+    ∷ spoils (atPlace root sortAt (pos client))
+    ∷ fits (atPlace root sortAt (pos class))
+    ∷ spoils (atPlace root parentAt (pos 1))
+    ∷ fits (atPlace root parentAt (pos root))
+    ∷ spoils (atPlace root kindAt (pos weighted))
+    ∷ fits (atPlace root kindAt (pos fixed))
+    ∷ spoils (atPlace root shareAt (pos (wholeShare - 1)))
+    ∷ fits (atPlace root shareAt (pos wholeShare))
+    ∷ spoils (atPlace 2 parentAt (pos 4))
+    ∷ fits (atPlace 2 parentAt (pos 1))
+    ∷ spoils (atPlace 4 levelAt (pos 3))
+    ∷ fits (atPlace 4 levelAt (pos 4))
+    ∷ spoils (atPlace 4 sortAt (pos class))
+    ∷ spoils (atPlace 4 sortAt (pos 3))
+    ∷ fits (atPlace 4 sortAt (pos client))
+    ∷ spoils (atPlace 4 kindAt (pos 2))
+    ∷ fits (atPlace 4 kindAt (pos weighted))
+    ∷ spoils (atPlace 4 shareAt (pos (suc wholeShare)))
+    ∷ fits (atPlace 4 shareAt (pos wholeShare))
+    ∷ spoils (atPlace 4 depthAt (pos 0))
+    ∷ fits (atPlace 4 depthAt (pos 1))
+    ∷ []
+-- "fixed shares under one class sum to at most 10,000, and children's depths to at most its depth; rates obey the next
+-- section; no balance exceeds depth × 1000; a client's balance is at least 0; a class's balance is at least the sum of its
+-- children's balances less its own depth × 1000".
+scenario sumsInOrder =
+    disk 1000 40 gives number 0
+    ∷ join 1 root class fixed 5000 20 gives number 0
+    ∷ join 2 1 client weighted 1 10 gives number 0
+    ∷ join 3 root client weighted 1 10 gives number 0
+    ∷ spoils (atPlace 3 kindAt (pos fixed))
+    ∷ spoils (atPlace 3 shareAt (pos 5001))
+    ∷ fits (atPlace 3 shareAt (pos 5000))
+    ∷ spoils (atPlace 3 depthAt (pos 21))
+    ∷ fits (atPlace 3 depthAt (pos 20))
+    ∷ spoils (atPlace 3 rateAt (pos 499))
+    ∷ fits (atPlace 3 rateAt (pos 500))
+    ∷ spoils (atPlace 3 balanceAt (pos 20001))
+    ∷ spoils (atPlace 3 balanceAt (negℤ (pos 1)))
+    ∷ setBalance 3 (pos 20000)
+    ∷ setBalance 2 (pos 10000)
+    ∷ setBalance 1 (negℤ (pos 10000))
+    ∷ spoils (atPlace 1 balanceAt (negℤ (pos 10001)))
+    ∷ []
+-- "all unused records and places are zero"; "classes have nothing waiting"; "each waiting size is 1 to its client's depth;
+-- arrival numbers are 1 to the header's count, rising within a client and different everywhere. A tag is any number."
+scenario requestsInOrder =
+    disk 1000 40 gives number 0
+    ∷ join 1 root client weighted 1 10 gives number 0
+    ∷ join 2 root client weighted 1 10 gives number 0
+    ∷ request 1 10 3 gives number 1
+    ∷ request 1 11 3 gives number 2
+    ∷ request 2 20 3 gives number 3
+    ∷ spoils (atPlace 3 balanceAt (pos 1))
+    ∷ fits (atPlace 3 balanceAt (pos 0))
+    ∷ spoils (atPlace 1 spareAt (pos 1))
+    ∷ fits (atPlace 1 spareAt (pos 0))
+    ∷ spoils (atPlace 1 (spareAt + spareLength - 1) (pos 1))
+    ∷ fits (atPlace 1 (spareAt + spareLength - 1) (pos 0))
+    ∷ spoils (atPlace 1 (queuePlace 2 + tagAt) (pos 1))
+    ∷ fits (atPlace 1 (queuePlace 2 + tagAt) (pos 0))
+    ∷ spoils (atPlace 2 sortAt (pos class))
+    ∷ fits (atPlace 2 sortAt (pos client))
+    ∷ spoils (atPlace 2 (queuePlace 0 + sizeAt) (pos 0))
+    ∷ spoils (atPlace 2 (queuePlace 0 + sizeAt) (pos 11))
+    ∷ fits (atPlace 2 (queuePlace 0 + sizeAt) (pos 10))
+    ∷ spoils (atPlace 2 (queuePlace 0 + arrivalAt) (pos 0))
+    ∷ spoils (atPlace 2 (queuePlace 0 + arrivalAt) (pos 4))
+    ∷ spoils (atPlace 2 (queuePlace 0 + arrivalAt) (pos 2))
+    ∷ fits (atPlace 2 (queuePlace 0 + arrivalAt) (pos 3))
+    ∷ spoils (atPlace 1 (queuePlace 1 + arrivalAt) (pos 1))
+    ∷ fits (atPlace 1 (queuePlace 1 + arrivalAt) (pos 2))
+    ∷ fits (atPlace 1 (queuePlace 1 + tagAt) (negℤ (pos 7)))
+    ∷ []

@@ -1,0 +1,4 @@
+pub mod Judge
+pub mod Near
+pub mod Short
+pub mod Run

@@ -1,0 +1,55 @@
+-- A scenario passes where the short forms of its steps, computed in turn on the real table of 2,568 numbers, say so.
+use Prim.Native.Nat.{ℕ, zero, suc}
+use mathlib.Core.Path.{_≡_, refl, ap, _∙_}
+use mathlib.Core.Bool.{Bool, true, false, _&&_}
+use mathlib.Core.List.{List, [], _∷_}
+use lib.ListN.{getD}
+use lib.Dec.{T}
+use lib.IntN.{ℤ}
+use Rattle.numbers.specs.Whole.{plus, sameℤ, withinℤ}
+use Rattle.numbers.specs.Tests.{every}
+use Rattle.numbers.specs.Below.{sumBelow, sumℤBelow, allBelow, forBelow}
+use Rattle.numbers.proofs.Every.{head-holds, rest-hold}
+use Rattle.table.specs.Places.{place, put, header, putHeader, count, tag, size, arrival}
+use Rattle.table.specs.Tree.{treeOf, there, isClass, isClient, isFixed, childOf, childless, countIf, testIf, sumUnder, eachNode, eachClass, eachClient}
+use Rattle.table.specs.Rates.{fixedShare, weight, fixedSum, weightSum, fixedRate, leftRate, weightedRate, childRate, rateAtLevel, rateIn, writeRates}
+use Rattle.table.specs.Order.{isZero, headerInOrder, rootInOrder, parentInOrder, requestInOrder, queueInOrder, differsAt}
+use Rattle.table.specs.Refusals.{first, outcome, kept}
+use Rattle.table.specs.Calls.{blank, opened, openRefusal, openTable, openAnswer, joined, cleared, reshared, requested}
+use Rattle.table.specs.Tick.{grains, enough, supplierFrom, supplier, lower, charge, takenOut, dispatched, ready, served, supplied, better, listed}
+use Rattle.scenarios.specs.Scenario.{Scenario, lentTo, entries, keptAfter, after, sevens, Passes}
+use Rattle.scenarios.proofs.Judge.{sameList, sameOutcome, holds, run, run-hold}
+use Rattle.scenarios.proofs.Near.{zeros, few, recordOn, placeNear, putNear, treeNear, unusedAt, unusedNear, nextNear, lentNear}
+use Rattle.scenarios.proofs.Short.{by, with, each, shortLimits, shortSpare, shortClass, shortRate, shortChild, shortBalance, shortArrivals, shortInOrder, shortJoinRefusal, shortLeaveRefusal, shortChangeShareRefusal, shortChangeRateRefusal, shortRequestRefusal, shortLookRefusal, shortSameRefusal, shortWaiting, shortAllWaiting, shortTickRefusal, shortGrown, shortServed, shortCut, shortStepTwo, shortStepThree, shortTicked, shortStep}
+
+-- A scenario run by the short forms of its steps. The line under the signature names what antt unfolds to compute it.
+unfoldable pub shortRun : Scenario → (kept t : List ℤ) → Bool
+unfolding plus sameℤ withinℤ every sumBelow sumℤBelow allBelow forBelow place put header putHeader count tag size arrival treeOf there isClass isClient isFixed childOf childless countIf testIf sumUnder eachNode eachClass eachClient fixedShare weight fixedSum weightSum fixedRate leftRate weightedRate childRate rateAtLevel rateIn writeRates isZero headerInOrder rootInOrder parentInOrder requestInOrder queueInOrder differsAt first outcome kept blank opened openRefusal openTable openAnswer joined cleared reshared requested grains enough supplierFrom supplier lower charge takenOut dispatched ready served supplied better listed lentTo entries sameList sameOutcome zeros few recordOn placeNear putNear treeNear unusedAt unusedNear nextNear lentNear by with each shortLimits shortSpare shortClass shortRate shortChild shortBalance shortArrivals shortInOrder shortJoinRefusal shortLeaveRefusal shortChangeShareRefusal shortChangeRateRefusal shortRequestRefusal shortLookRefusal shortSameRefusal shortWaiting shortAllWaiting shortTickRefusal shortGrown shortServed shortCut shortStepTwo shortStepThree shortTicked shortStep
+shortRun [] = λ kept t. true
+shortRun (step ∷ steps) = λ kept t. shortStep step (shortRun steps) kept t .value
+
+run-is : (steps : Scenario) (kept t : List ℤ) → run steps kept t ≡ shortRun steps kept t
+unfolding run shortRun
+run-is [] kept t = refl
+run-is (step ∷ steps) kept t =
+    ap (λ (b : Bool). holds step kept t && b) (run-is steps (keptAfter step kept t) (after step t))
+    ∙ shortStep step (shortRun steps) kept t .same
+
+-- The test of a scenario.
+unfoldable pub passes : Scenario → Bool
+unfolding shortRun sevens
+passes steps = shortRun steps sevens sevens
+
+pub passed : (steps : Scenario) → passes steps ≡ true → Passes steps
+unfolding Passes passes
+passed steps h = run-hold steps sevens sevens (run-is steps sevens sevens ∙ h)
+
+-- Tests computed together, and each of them.
+pub truth : (b : Bool) → T b → b ≡ true
+truth true h = refl
+truth false h = absurd h
+
+pub every-at : (bs : List Bool) → every bs ≡ true → (k : ℕ) → getD bs k true ≡ true
+every-at [] h k = refl
+every-at (b ∷ bs) h zero = head-holds b bs h
+every-at (b ∷ bs) h (suc k) = every-at bs (rest-hold b bs h) k
