@@ -6,7 +6,7 @@ use lib.Dec.{T}
 use Rattle.numbers.specs.Tests.{every}
 use Rattle.scenarios.specs.Scenario.{Passes}
 use Rattle.scenarios.proofs.Run.{passes, passed, truth, every-at}
-use Rattle.cases.specs.Cases.{Case, roundedDown, emptyBuckets, restOfList, headerPlaces, nodesInOrder, sumsInOrder, requestsInOrder, scenario}
+use Rattle.cases.specs.Cases.{Case, roundedDown, emptyBuckets, restOfList, cutToDepth, firstSupplier, headerPlaces, nodesInOrder, sumsInOrder, requestsInOrder, scenario}
 
 -- Whether each case passes.
 joint : List Bool
@@ -15,6 +15,8 @@ joint =
     (roundedDown
     ∷ emptyBuckets
     ∷ restOfList
+    ∷ cutToDepth
+    ∷ firstSupplier
     ∷ headerPlaces
     ∷ nodesInOrder
     ∷ sumsInOrder
@@ -30,11 +32,13 @@ unfolding joint
 each h roundedDown = every-at joint h 0
 each h emptyBuckets = every-at joint h 1
 each h restOfList = every-at joint h 2
-each h headerPlaces = every-at joint h 3
-each h nodesInOrder = every-at joint h 4
-each h sumsInOrder = every-at joint h 5
-each h requestsInOrder = every-at joint h 6
+each h cutToDepth = every-at joint h 3
+each h firstSupplier = every-at joint h 4
+each h headerPlaces = every-at joint h 5
+each h nodesInOrder = every-at joint h 6
+each h sumsInOrder = every-at joint h 7
+each h requestsInOrder = every-at joint h 8
 
--- They do.
+-- All of them do.
 pub cases-hold : (c : Case) → Passes (scenario c)
 cases-hold c = passed (scenario c) (each (truth (every joint) computed) c)

@@ -1,14 +1,15 @@
--- What document 01 says in words of rates, buckets, the dispatch list and a table in order, as scenarios.
+-- What document 01 says in words of rates, buckets, the tick and a table in order, as scenarios.
 use Prim.Native.Nat.{suc, _+_, _-_}
 use mathlib.Core.List.{[], _∷_}
 use lib.IntN.{pos, negℤ}
-use Rattle.table.specs.Limits.{root, class, client, fixed, weighted, wholeShare, greatestCount, sortAt, parentAt, levelAt, kindAt, shareAt, depthAt, rateAt, balanceAt, spareAt, spareLength, tagAt, sizeAt, arrivalAt}
+use Rattle.table.specs.Limits.{root, class, client, fixed, weighted, wholeShare, greatestRate, greatestCount, sortAt, parentAt, levelAt, kindAt, shareAt, depthAt, rateAt, balanceAt, waitingAt, spareAt, spareLength, tagAt, sizeAt, arrivalAt}
 use Rattle.table.specs.Places.{queuePlace}
 use Rattle.table.specs.Refusals.{refused}
-use Rattle.scenarios.specs.Scenario.{Scenario, disk, join, leave, request, look, tick, atPlace, atHeader, _gives_, _answers_leaving_, _lists_, fits, spoils, setBalance, number, seen}
+use Rattle.scenarios.specs.Scenario.{Scenario, disk, join, leave, request, look, tick, dispatch, atPlace, atHeader, _gives_, _answers_leaving_, _lists_, fits, spoils, setBalance, number, seen}
 
+-- The cases by name.
 pub data Case : Type 0 where
-  roundedDown emptyBuckets restOfList headerPlaces nodesInOrder sumsInOrder requestsInOrder : Case
+  roundedDown emptyBuckets restOfList cutToDepth firstSupplier headerPlaces nodesInOrder sumsInOrder requestsInOrder : Case
 
 unfoldable pub scenario : Case → Scenario
 -- "rounded down", what the fixed shares leave too: of 1000, fixed 3333 gets 333, and 666 are left for one weight; of these
@@ -43,6 +44,35 @@ scenario restOfList =
     ∷ request 5 50 1 gives number 1
     ∷ tick 6 answers number 1 leaving (pos 5 ∷ pos 50 ∷ pos 1 ∷ pos 5 ∷ pos 7 ∷ pos 7 ∷ [])
     ∷ []
+-- "Every balance above depth × 1000 is cut to that", after what waits at a client is dispatched from its own balance.
+scenario cutToDepth =
+    disk 1000 40 gives number 0
+    ∷ join 1 root client weighted 1 1 gives number 0
+    ∷ tick 0 lists []
+    ∷ tick 0 lists []
+    ∷ look 1 gives seen 1000 (pos 1000) 0
+    ∷ look root gives seen 1000 (pos 2000) 0
+    ∷ request 1 10 1 gives number 1
+    ∷ request 1 11 1 gives number 2
+    ∷ tick 8 lists (dispatch 1 10 1 1 ∷ dispatch 1 11 1 1 ∷ [])
+    ∷ look 1 gives seen 1000 (pos 0) 0
+    ∷ look root gives seen 1000 (pos 1000) 0
+    ∷ []
+-- "The supplier is the first node with enough balance on the way from the client up to the root"; a dispatch charges it "and
+-- every node above it, the root included, and .. none below it". At the third tick client 2 has 750, class 1 has 1500.
+scenario firstSupplier =
+    disk 1000 40 gives number 0
+    ∷ join 1 root class fixed 5000 20 gives number 0
+    ∷ join 2 1 client weighted 1 10 gives number 0
+    ∷ join 3 1 client weighted 1 10 gives number 0
+    ∷ tick 0 lists []
+    ∷ tick 0 lists []
+    ∷ request 2 20 1 gives number 1
+    ∷ tick 4 lists (dispatch 2 20 1 1 ∷ [])
+    ∷ look 2 gives seen 250 (pos 750) 0
+    ∷ look 1 gives seen 500 (pos 500) 0
+    ∷ look root gives seen 1000 (pos 2000) 0
+    ∷ []
 -- "places 1 to 7 are zero", and the count is 0 to 9,000,000,000,000,000,000.
 scenario headerPlaces =
     disk 1000 40 gives number 0
@@ -56,23 +86,27 @@ scenario headerPlaces =
     ∷ spoils (atHeader 0 (pos (suc greatestCount)))
     ∷ fits (atHeader 0 (pos greatestCount))
     ∷ []
--- "Node 0 is the root: a class, its own parent, fixed, share 10,000"; "every other node's parent is a class one level above
--- it; classes have levels 0 to 3"; the limits of a node's places.
+-- "Node 0 is the root: a class, its own parent, fixed, share 10,000, rate 1 to 1,000,000,000"; "every other node's parent is a
+-- class one level above it; classes have levels 0 to 3"; the limits of a node's places.
 scenario nodesInOrder =
     disk 1000 40 gives number 0
+    ∷ spoils (atPlace root sortAt (pos client))
+    ∷ fits (atPlace root sortAt (pos class))
+    ∷ spoils (atPlace root rateAt (pos 0))
+    ∷ spoils (atPlace root rateAt (pos (suc greatestRate)))
+    ∷ fits (atPlace root rateAt (pos 1000))
     ∷ join 1 root class fixed 5000 20 gives number 0
     ∷ join 2 1 class weighted 1 20 gives number 0
     ∷ join 3 2 class weighted 1 20 gives number 0
     ∷ join 4 3 client weighted 1 20 gives number 0
-    ∷ spoils (atPlace root sortAt (pos client))
-    ∷ fits (atPlace root sortAt (pos class))
+    ∷ join 5 root client weighted 1 20 gives number 0
     ∷ spoils (atPlace root parentAt (pos 1))
     ∷ fits (atPlace root parentAt (pos root))
     ∷ spoils (atPlace root kindAt (pos weighted))
     ∷ fits (atPlace root kindAt (pos fixed))
     ∷ spoils (atPlace root shareAt (pos (wholeShare - 1)))
     ∷ fits (atPlace root shareAt (pos wholeShare))
-    ∷ spoils (atPlace 2 parentAt (pos 4))
+    ∷ spoils (atPlace 2 parentAt (pos 5))
     ∷ fits (atPlace 2 parentAt (pos 1))
     ∷ spoils (atPlace 4 levelAt (pos 3))
     ∷ fits (atPlace 4 levelAt (pos 4))
@@ -85,6 +119,8 @@ scenario nodesInOrder =
     ∷ fits (atPlace 4 shareAt (pos wholeShare))
     ∷ spoils (atPlace 4 depthAt (pos 0))
     ∷ fits (atPlace 4 depthAt (pos 1))
+    ∷ spoils (atPlace 4 waitingAt (negℤ (pos 1)))
+    ∷ fits (atPlace 4 waitingAt (pos 0))
     ∷ []
 -- "fixed shares under one class sum to at most 10,000, and children's depths to at most its depth; rates obey the next
 -- section; no balance exceeds depth × 1000; a client's balance is at least 0; a class's balance is at least the sum of its

@@ -1,1 +1,1 @@
-// What document 01 says in words of rates, buckets, the dispatch list and a table in order, proved together in proofs/. No functions.
+// What document 01 says in words of rates, buckets, the tick and a table in order, proved together in proofs/. No functions.

@@ -6,12 +6,12 @@ use lib.Dec.{T}
 use Rattle.numbers.specs.Tests.{every}
 use Rattle.scenarios.specs.Scenario.{Passes}
 use Rattle.scenarios.proofs.Run.{passes, passed, truth, every-at}
-use Rattle.causes.specs.Causes.{Cause, notInOrder, tableLengths, opens, joinLimits, joins, leaves, changesShare, changesRate, requests, looks, compares, ticks, scenario}
+use Rattle.causes.specs.Causes.{TurnedBack, notInOrder, tableLengths, opens, joinLimits, joins, leaves, changesShare, changesRate, requests, looks, compares, ticks, scenario}
 
--- Whether the causes of each call pass.
+-- Whether each scenario passes.
 joint : List Bool
 joint =
-    map (λ (c : Cause). passes (scenario c))
+    map (λ (c : TurnedBack). passes (scenario c))
     (notInOrder
     ∷ tableLengths
     ∷ opens
@@ -30,7 +30,7 @@ computed : T (every joint)
 unfolding every joint passes scenario
 computed = tt
 
-each : every joint ≡ true → (c : Cause) → passes (scenario c) ≡ true
+each : every joint ≡ true → (c : TurnedBack) → passes (scenario c) ≡ true
 unfolding joint
 each h notInOrder = every-at joint h 0
 each h tableLengths = every-at joint h 1
@@ -45,6 +45,6 @@ each h looks = every-at joint h 9
 each h compares = every-at joint h 10
 each h ticks = every-at joint h 11
 
--- They do.
-pub causes-hold : (c : Cause) → Passes (scenario c)
+-- All of them do.
+pub causes-hold : (c : TurnedBack) → Passes (scenario c)
 causes-hold c = passed (scenario c) (each (truth (every joint) computed) c)

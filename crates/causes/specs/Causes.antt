@@ -7,10 +7,11 @@ use Rattle.table.specs.Limits.{nodes, lastNode, root, unused, class, client, fi
 use Rattle.table.specs.Refusals.{refused}
 use Rattle.scenarios.specs.Scenario.{Scenario, openℤ, joinℤ, leaveℤ, changeShareℤ, changeRateℤ, requestℤ, lookℤ, same, disk, join, leave, changeShare, changeRate, request, look, tick, atHeader, oneLess, oneMore, _gives_, _lists_, _refuses_, keep, fits, spoils, setBalance, number, seen}
 
-pub data Cause : Type 0 where
-  notInOrder tableLengths opens joinLimits joins leaves changesShare changesRate requests looks compares ticks : Cause
+-- The scenarios by name: of the table at every call, then of each call.
+pub data TurnedBack : Type 0 where
+  notInOrder tableLengths opens joinLimits joins leaves changesShare changesRate requests looks compares ticks : TurnedBack
 
-unfoldable pub scenario : Cause → Scenario
+unfoldable pub scenario : TurnedBack → Scenario
 -- A table not in order is 1 at every call but open, also where an argument is outside its limits.
 scenario notInOrder =
     join 1 root client weighted 1 1 gives refused 1
@@ -96,7 +97,8 @@ scenario joins =
     ∷ join 6 3 client weighted 1 11 gives refused 8
     ∷ join 6 3 client weighted 1 10 gives number 0
     ∷ []
--- Leave: 5, 2 before 5, 2 before 3, 3, 5 before 9, 9 by children, 9 by waiting, 9 before 10, 10, and none.
+-- Leave: 5, 2 before 5, 2 before 3, 3, 5 before 9, 9 by children, 9 by waiting, 9 before 10, 10, and none: the rates are
+-- renewed.
 scenario leaves =
     disk 1000 40 gives number 0
     ∷ leave root gives refused 5
@@ -104,6 +106,7 @@ scenario leaves =
     ∷ join 1 root class fixed 5000 20 gives number 0
     ∷ join 2 1 client weighted 1 10 gives number 0
     ∷ join 3 root class weighted 1 10 gives number 0
+    ∷ join 4 root client weighted 1 10 gives number 0
     ∷ request 2 20 1 gives number 1
     ∷ leave nodes gives refused 2
     ∷ leave 9 gives refused 3
@@ -115,8 +118,10 @@ scenario leaves =
     ∷ setBalance 3 (negℤ (pos 1))
     ∷ leave 3 gives refused 10
     ∷ setBalance 3 (pos 0)
+    ∷ look 4 gives seen 250 (pos 0) 0
     ∷ leave 3 gives number 0
     ∷ look 3 gives refused 3
+    ∷ look 4 gives seen 500 (pos 0) 0
     ∷ []
 -- Change share: 2, 2 before 3, 2 before 5, 3, 5, 7, and none: 500 are left, and weights 3 and 1 get 375 and 125.
 scenario changesShare =

@@ -98,7 +98,7 @@ hold-run : (steps : Scenario) (kept t : List ℤ) → Hold steps kept t → run 
 unfolding Hold run
 hold-run [] kept t h = refl
 hold-run (step ∷ steps) kept t h =
-    and-true _ _ (says-holds step kept t (h .0)) (hold-run steps (keptAfter step kept t) (after step t) (h .1))
+    and-true _ _ (says-holds step kept t search) (hold-run steps (keptAfter step kept t) (after step t) search)
 
 pub run-hold : (steps : Scenario) (kept t : List ℤ) → run steps kept t ≡ true → Hold steps kept t
 unfolding Hold run
@@ -106,4 +106,6 @@ run-hold [] kept t h = tt
 run-hold (step ∷ steps) kept t h =
     let first : Bool = holds step kept t in
     let rest : Bool = run steps (keptAfter step kept t) (after step t) in
-    (holds-says step kept t (and-left first rest h), run-hold steps _ _ (and-right first rest h))
+    let now = holds-says step kept t (and-left first rest h) in
+    let then = run-hold steps (keptAfter step kept t) (after step t) (and-right first rest h) in
+    (search, search)

@@ -1,6 +1,6 @@
 -- Tables with few nodes: from node 8 on every record is zero. There a far place is 0 without a walk down the list, and a
 -- loop over the nodes may stop at 8. Each near form looks first whether the table has few nodes, so it equals the
--- definition on every table. This is what makes the edges cheap to compute.
+-- definition on every table. This is what makes scenarios cheap to compute.
 use Prim.Native.Nat.{ℕ, zero, suc, _+_, _*_, _-_, _≤_}
 use mathlib.Core.Path.{_≡_, refl, sym, ap, _∙_, subst}
 use mathlib.Core.Bool.{Bool, true, false, not, cond, _&&_, _||_, and-true as and-with-true}
@@ -18,19 +18,27 @@ use Rattle.numbers.proofs.Tests.{and-left, and-right, or-false-left, or-false-r
 use Rattle.numbers.proofs.Parts.{same-eq, eq-same}
 use Rattle.numbers.proofs.All.{below-cases, all-suc, all-intro}
 use Rattle.numbers.proofs.Steps.{for-suc}
+use Rattle.table.specs.Limits.{headerLength, recordLength, nodes, sortAt, parentAt, levelAt, kindAt, shareAt, depthAt, waitingAt}
 use Rattle.table.specs.Places.{place, put, waiting}
 use Rattle.table.specs.Tree.{Tree, treeOf, there, testIf}
 use Rattle.table.specs.Order.{isZero, unusedInOrder}
-use Rattle.table.specs.Tick.{State, dispatched, supplier, supplied, better, next, lent}
+use Rattle.table.specs.Tick.{State, nobody, dispatched, supplier, supplied, better, next, lent}
 use Rattle.table.proofs.Places.{put-same}
 
--- Whether all numbers of a list are zero; whether a table has few nodes. Node 8 starts at 8 + 40 x 8.
+-- The first far node, and where its record starts.
+abbrev pub fewNodes : ℕ
+fewNodes = 8
+
+abbrev pub nearLength : ℕ
+nearLength = headerLength + recordLength * fewNodes
+
+-- Whether all numbers of a list are zero; whether a table has few nodes.
 unfoldable pub zeros : List ℤ → Bool
 zeros [] = true
 zeros (z ∷ t) = isZero z && zeros t
 
 unfoldable pub few : List ℤ → Bool
-few t = zeros (drop 328 t)
+few t = zeros (drop nearLength t)
 
 zeros-at : (t : List ℤ) → zeros t ≡ true → (i : ℕ) → getD t i (pos 0) ≡ pos 0
 unfolding zeros isZero
@@ -38,12 +46,12 @@ zeros-at [] h i = refl
 zeros-at (z ∷ t) h zero = same-eq z (pos 0) (and-left (isZero z) (zeros t) h)
 zeros-at (z ∷ t) h (suc i) = zeros-at t (and-right (isZero z) (zeros t) h) i
 
-far-place : (t : List ℤ) (k p : ℕ) → few t ≡ true → 8 ≤ k → place t k p ≡ pos 0
+far-place : (t : List ℤ) (k p : ℕ) → few t ≡ true → fewNodes ≤ k → place t k p ≡ pos 0
 unfolding few place
 far-place t k p h far =
-    let e : 8 + 40 * k + p ≡ 328 + (40 * (k - 8) + p) = omega arith in
+    let e : headerLength + recordLength * k + p ≡ nearLength + (recordLength * (k - fewNodes) + p) = omega arith in
     subst (λ (i : ℕ). getD t i (pos 0) ≡ pos 0) (sym e)
-    (sym (getD-drop 328 t (40 * (k - 8) + p) (pos 0)) ∙ zeros-at (drop 328 t) h (40 * (k - 8) + p))
+    (sym (getD-drop nearLength t (recordLength * (k - fewNodes) + p) (pos 0)) ∙ zeros-at (drop nearLength t) h (recordLength * (k - fewNodes) + p))
 
 -- A value may be replaced where a test fails, by one that is equal to it there.
 unless : {A : Type 0} (b : Bool) (x y : A) → (b ≡ false → x ≡ y) → x ≡ cond b x y
@@ -52,33 +60,33 @@ unless false x y f = f refl
 
 -- The list from node k's record on: antt computes it once and reads every place of the node from it.
 unfoldable pub recordOn : List ℤ → ℕ → List ℤ
-recordOn t k = drop (8 + 40 * k) t
+recordOn t k = drop (headerLength + recordLength * k) t
 
 -- A place.
 unfoldable pub placeNear : List ℤ → ℕ → ℕ → ℤ
-placeNear t k p = cond (ltb k 8 || not (few t)) (getD (recordOn t k) p (pos 0)) (pos 0)
+placeNear t k p = cond (ltb k fewNodes || not (few t)) (getD (recordOn t k) p (pos 0)) (pos 0)
 
 pub place-is : (t : List ℤ) (k p : ℕ) → place t k p ≡ placeNear t k p
 unfolding placeNear recordOn place
 place-is t k p =
-    unless (ltb k 8 || not (few t)) (place t k p) (pos 0)
+    unless (ltb k fewNodes || not (few t)) (place t k p) (pos 0)
     (λ h.
-    far-place t k p (not-false (few t) (or-false-right (ltb k 8) (not (few t)) h)) (ltb-false k 8 (or-false-left (ltb k 8) (not (few t)) h)))
-    ∙ ap (λ (z : ℤ). cond (ltb k 8 || not (few t)) z (pos 0)) (sym (getD-drop (8 + 40 * k) t p (pos 0)))
+    far-place t k p (not-false (few t) (or-false-right (ltb k fewNodes) (not (few t)) h)) (ltb-false k fewNodes (or-false-left (ltb k fewNodes) (not (few t)) h)))
+    ∙ ap (λ (z : ℤ). cond (ltb k fewNodes || not (few t)) z (pos 0)) (sym (getD-drop (headerLength + recordLength * k) t p (pos 0)))
 
 -- A table with a number put at a place.
 unfoldable pub putNear : List ℤ → ℕ → ℕ → ℤ → List ℤ
-putNear t k p v = cond (ltb k 8 || not (few t && isZero v)) (put t k p v) t
+putNear t k p v = cond (ltb k fewNodes || not (few t && isZero v)) (put t k p v) t
 
 pub put-is : (t : List ℤ) (k p : ℕ) (v : ℤ) → put t k p v ≡ putNear t k p v
 unfolding putNear isZero
 put-is t k p v =
-    unless (ltb k 8 || not (few t && isZero v)) (put t k p v) t
+    unless (ltb k fewNodes || not (few t && isZero v)) (put t k p v) t
     (λ h.
-    zero-put (not-false (few t && isZero v) (or-false-right (ltb k 8) (not (few t && isZero v)) h))
-    (ltb-false k 8 (or-false-left (ltb k 8) (not (few t && isZero v)) h)))
+    zero-put (not-false (few t && isZero v) (or-false-right (ltb k fewNodes) (not (few t && isZero v)) h))
+    (ltb-false k fewNodes (or-false-left (ltb k fewNodes) (not (few t && isZero v)) h)))
   where
-    zero-put : (few t && isZero v) ≡ true → 8 ≤ k → put t k p v ≡ t
+    zero-put : (few t && isZero v) ≡ true → fewNodes ≤ k → put t k p v ≡ t
     zero-put h far =
         ap (λ (z : ℤ). put t k p z)
         (same-eq v (pos 0) (and-right (few t) (isZero v) h) ∙ sym (far-place t k p (and-left (few t) (isZero v) h) far))
@@ -88,12 +96,12 @@ put-is t k p v =
 unfoldable pub treeNear : List ℤ → Tree
 treeNear t =
     record {
-      sort = λ k. plus (placeNear t k 0);
-      parent = λ k. plus (placeNear t k 1);
-      level = λ k. plus (placeNear t k 2);
-      kind = λ k. plus (placeNear t k 3);
-      share = λ k. plus (placeNear t k 4);
-      depth = λ k. plus (placeNear t k 5);
+      sort = λ k. plus (placeNear t k sortAt);
+      parent = λ k. plus (placeNear t k parentAt);
+      level = λ k. plus (placeNear t k levelAt);
+      kind = λ k. plus (placeNear t k kindAt);
+      share = λ k. plus (placeNear t k shareAt);
+      depth = λ k. plus (placeNear t k depthAt);
     }
 
 pub tree-is : (t : List ℤ) → treeOf t ≡ treeNear t
@@ -101,12 +109,12 @@ unfolding treeOf treeNear
 tree-is t =
     λ i.
     record {
-      sort = λ k. plus (place-is t k 0 i);
-      parent = λ k. plus (place-is t k 1 i);
-      level = λ k. plus (place-is t k 2 i);
-      kind = λ k. plus (place-is t k 3 i);
-      share = λ k. plus (place-is t k 4 i);
-      depth = λ k. plus (place-is t k 5 i);
+      sort = λ k. plus (place-is t k sortAt i);
+      parent = λ k. plus (place-is t k parentAt i);
+      level = λ k. plus (place-is t k levelAt i);
+      kind = λ k. plus (place-is t k kindAt i);
+      share = λ k. plus (place-is t k shareAt i);
+      depth = λ k. plus (place-is t k depthAt i);
     }
 
 -- A test that holds from c on need not look there, and steps that change nothing from c on need not be taken there.
@@ -130,50 +138,50 @@ for-from c f a h (suc n) l =
 
 -- Whether node k is there or its record is zero; whether that is so of every node.
 unfoldable pub unusedAt : List ℤ → ℕ → Bool
-unusedAt t k = testIf (not (there (treeNear t) k)) (λ k. allBelow 40 (λ p. isZero (placeNear t k p))) k
+unusedAt t k = testIf (not (there (treeNear t) k)) (λ k. allBelow recordLength (λ p. isZero (placeNear t k p))) k
 
-far-unused : (t : List ℤ) (k : ℕ) → few t ≡ true → 8 ≤ k → unusedAt t k ≡ true
+far-unused : (t : List ℤ) (k : ℕ) → few t ≡ true → fewNodes ≤ k → unusedAt t k ≡ true
 unfolding unusedAt isZero testIf
 far-unused t k h far =
-    holds (not (there (treeNear t) k)) (λ k. allBelow 40 (λ p. isZero (placeNear t k p)))
-    (all-intro 40 _ (λ p l. eq-same (placeNear t k p) (pos 0) (sym (place-is t k p) ∙ far-place t k p h far)))
+    holds (not (there (treeNear t) k)) (λ k. allBelow recordLength (λ p. isZero (placeNear t k p)))
+    (all-intro recordLength _ (λ p l. eq-same (placeNear t k p) (pos 0) (sym (place-is t k p) ∙ far-place t k p h far)))
   where
     holds : (b : Bool) (q : ℕ → Bool) → q k ≡ true → testIf b q k ≡ true
     holds true q h = h
     holds false q h = refl
 
 unfoldable pub unusedNear : List ℤ → Bool
-unusedNear t = cond (not (few t)) (unusedInOrder t) (allBelow 8 (unusedAt t))
+unusedNear t = cond (not (few t)) (unusedInOrder t) (allBelow fewNodes (unusedAt t))
 
 pub unused-is : (t : List ℤ) → unusedInOrder t ≡ unusedNear t
 unfolding unusedNear unusedInOrder unusedAt
 unused-is t =
-    unless (not (few t)) (unusedInOrder t) (allBelow 8 (unusedAt t))
-    (λ h. simp (tree-is, place-is) (all-from 8 (unusedAt t) (λ k far. far-unused t k (not-false (few t) h) far) 64 (omega arith)))
+    unless (not (few t)) (unusedInOrder t) (allBelow fewNodes (unusedAt t))
+    (λ h. simp (tree-is, place-is) (all-from fewNodes (unusedAt t) (λ k far. far-unused t k (not-false (few t) h) far) nodes (omega arith)))
 
 -- The next client to be dispatched, and step 4.
-far-better : (t : List ℤ) (k best : ℕ) → few t ≡ true → 8 ≤ k → better t k best ≡ best
+far-better : (t : List ℤ) (k best : ℕ) → few t ≡ true → fewNodes ≤ k → better t k best ≡ best
 unfolding better supplied waiting plus every
-far-better t k best h far = rw (far-place t k 8 h far)
+far-better t k best h far = rw (far-place t k waitingAt h far)
 
 unfoldable pub nextNear : List ℤ → ℕ
-nextNear t = cond (not (few t)) (next t) (forBelow 8 (better t) 64)
+nextNear t = cond (not (few t)) (next t) (forBelow fewNodes (better t) nobody)
 
 next-is : (t : List ℤ) → next t ≡ nextNear t
 unfolding nextNear next
 next-is t =
-    unless (not (few t)) (next t) (forBelow 8 (better t) 64)
-    (λ h. for-from 8 (better t) 64 (λ k far. far-better t k (forBelow 8 (better t) 64) (not-false (few t) h) far) 64 (omega arith))
+    unless (not (few t)) (next t) (forBelow fewNodes (better t) nobody)
+    (λ h. for-from fewNodes (better t) nobody (λ k far. far-better t k (forBelow fewNodes (better t) nobody) (not-false (few t) h) far) nodes (omega arith))
 
 unfoldable pub lentNear : ℕ → State → State
 lentNear zero st = st
-lentNear (suc n) st = elim (eqb (nextNear (st .table)) 64) [ true ↦ st | false ↦ lentNear n (dispatched st (nextNear (st .table)) (supplier (st .table) (nextNear (st .table)))) ]
+lentNear (suc n) st = elim (eqb (nextNear (st .table)) nobody) [ true ↦ st | false ↦ lentNear n (dispatched st (nextNear (st .table)) (supplier (st .table) (nextNear (st .table)))) ]
 
 pub lent-is : (n : ℕ) (st : State) → lent n st ≡ lentNear n st
 unfolding lent lentNear
 lent-is zero st = refl
 lent-is (suc n) st =
-    ap (λ (m : ℕ). elim (eqb m 64) as (λ _. State) [ true ↦ st | false ↦ lent n (dispatched st m (supplier (st .table) m)) ])
+    ap (λ (m : ℕ). elim (eqb m nobody) as (λ _. State) [ true ↦ st | false ↦ lent n (dispatched st m (supplier (st .table) m)) ])
     (next-is (st .table))
-    ∙ ap (λ (s : State). elim (eqb (nextNear (st .table)) 64) as (λ _. State) [ true ↦ st | false ↦ s ])
+    ∙ ap (λ (s : State). elim (eqb (nextNear (st .table)) nobody) as (λ _. State) [ true ↦ st | false ↦ s ])
     (lent-is n (dispatched st (nextNear (st .table)) (supplier (st .table) (nextNear (st .table)))))
