@@ -31,20 +31,6 @@ pub first-end : first [] ≡ 0
 unfolding first
 first-end = refl
 
--- A list of causes gone through from its front: the causes behind the first n, whether the next of them is there, and that the
--- first n are not.
-abbrev pub behind : ℕ → List Cause → List Cause
-behind zero causes = causes
-behind (suc n) [] = []
-behind (suc n) (c ∷ causes) = behind n causes
-
-abbrev pub front : List Cause → Bool
-front [] = false
-front (cause n b ∷ causes) = b
-
-abbrev pub Past : ℕ → List Cause → Type 0
-Past n causes = first causes ≡ first (behind n causes)
-
 -- Where none is first, no cause of the list is there.
 pub none-first : (n : ℕ) (b : Bool) (cs : List Cause) → (n ≡ 0 → ⊥) → first (cause n b ∷ cs) ≡ 0 → (b ≡ false) × (first cs ≡ 0)
 none-first n b cs ne h =
