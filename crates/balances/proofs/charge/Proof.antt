@@ -63,7 +63,7 @@ loop-again c =
     let start = at .before .before .before in
     let parent = charged .before .natural2 .ensures in
     let low = c .before .lower .ensures in
-    let more = charged .before .before .before .loop-test .taken in (
+    let more : 0 < at .loop .level = omega (arith, charged .before .before .before .loop-test .taken) in (
       omega (arith, parent, chargeable-parent _ _ _ _ (start .pre .0) (at .loop .inv .1) _ (at .loop .inv .0)),
       subst (Chargeable _ (start .args .amount) (at .loop .level - 1)) (sym low) (chargeable-next _ _ _ _ (at .loop .inv .1) more _ (at .loop .inv .0)),
       ap₂ (λ (u : List ℤ) (k : ℕ). charge u (start .args .amount) (at .loop .level - 1) k) low parent

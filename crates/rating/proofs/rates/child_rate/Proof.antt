@@ -1,5 +1,5 @@
 -- `rating::rates::child_rate` meets its contract, by the kind of the share.
-use Prim.Native.Nat.{ℕ}
+use Prim.Native.Nat.{ℕ, _≤_}
 use mathlib.Core.Path.{_≡_, refl, sym, ap, _∙_}
 use native.Mathlib.Omega.{arith}
 use Rattle.table.specs.Tree.{treeOf}
@@ -46,9 +46,9 @@ weighted-rate-requires c κs =
     let known = c .before .before in
     let args = start known .args in
     let pre = start known .pre in
+    let left : c .left-rate .result ≤ args .rate = rw (c .left-rate .ensures) (left-le _ _) in
     omega (
       arith,
-      left-le (args .rate) (args .fixed),
       weights-there (treeOf (args .table .now)) (args .k) (omega arith) (pre .3) (λ e. omega arith) (pre .4) (sym (known .is-fixed .ensures) ∙ c .before .if1 .left),
     )
 
