@@ -7,10 +7,10 @@ ghost use lib.IntN.{pos};
 ghost use Rattle.table.specs.Limits.{tableLength, nodes, lastLevel};
 ghost use Rattle.table.specs.Tree.{treeOf};
 ghost use Rattle.table.specs.Calls.{joinRefusal, joinTable};
-ghost use Rattle.treelaws.specs.Joins.{refusalOf, afterJoin};
+ghost use Rattle.layout.specs.Bytes.{byteValues, pairValues, fourValues};
 ghost use Rattle.layout.specs.Nodes.{shareIn, heldBy, entryBy};
 ghost use Rattle.layout.specs.Format.{lastCount, lastKind, entryAt, planLength, countIn, entryIn, planIn, formed};
-ghost use Rattle.planlaws.specs.Reading.{joinOf, afterEntries, entriesRefusal, standing, rising};
+ghost use Rattle.planlaws.specs.Reading.{entryRefusal, afterEntry, afterEntries, entriesRefusal, standing, rising};
 use layout::Node;
 use layout::bodies;
 use layout::bytes;
@@ -46,10 +46,10 @@ fn join_numbers(
 
 // Joins a node; the number of the refusal, or 0.
 fn join_node(table: &mut [i64], node: Node) -> u64
-    requires { ⌜ (node .number < 256) × (node .parent < 256) × (shareIn (heldBy (node .sort)) < 65536) × (node .depth < 4294967296) ⌝ }
-    ensures number { λ r. ⌜ r ≡ refusalOf (now (table .entry)) (joinOf (entryBy node)) ⌝ }
+    requires { ⌜ (node .number < byteValues) × (node .parent < byteValues) × (shareIn (heldBy (node .sort)) < pairValues) × (node .depth < fourValues) ⌝ }
+    ensures number { λ r. ⌜ r ≡ entryRefusal (now (table .entry)) (entryBy node) ⌝ }
     ensures small { λ r. ⌜ r ≤ 15 ⌝ }
-    ensures table { λ _. ⌜ now (table .exit) ≡ afterJoin (now (table .entry)) (joinOf (entryBy node)) ⌝ }
+    ensures table { λ _. ⌜ now (table .exit) ≡ afterEntry (now (table .entry)) (entryBy node) ⌝ }
 {
     let sort = node.sort;
     let held = bodies::held_by(sort);
@@ -94,9 +94,9 @@ pub fn rising(table: &[i64], s: &[u8], n: usize) -> bool
 // Joins entry i; the number of the refusal, or 0.
 fn join_entry(table: &mut [i64], s: &[u8], n: usize, i: usize) -> u64
     requires { ⌜ (n ≡ countIn (now s)) × (n ≤ lastCount) × (length (now s) ≡ planLength n) × (i < n) × (entryIn (now s) i .kind ≤ lastKind) ⌝ }
-    ensures number { λ r. ⌜ r ≡ refusalOf (now (table .entry)) (joinOf (planIn (now (s .entry)) .entry i)) ⌝ }
+    ensures number { λ r. ⌜ r ≡ entryRefusal (now (table .entry)) (planIn (now (s .entry)) .entry i) ⌝ }
     ensures small { λ r. ⌜ r ≤ 15 ⌝ }
-    ensures table { λ _. ⌜ now (table .exit) ≡ afterJoin (now (table .entry)) (joinOf (planIn (now (s .entry)) .entry i)) ⌝ }
+    ensures table { λ _. ⌜ now (table .exit) ≡ afterEntry (now (table .entry)) (planIn (now (s .entry)) .entry i) ⌝ }
 {
     join_node(table, forms::node_at(s, n, i))
 }

@@ -11,30 +11,30 @@ use Rattle.numbers.specs.Below.{allBelow}
 use Rattle.numbers.proofs.Tests.{by-test, same-truth}
 use Rattle.numbers.proofs.Every.{head-holds, rest-hold, none-left, holds-with}
 use Rattle.numbers.proofs.All.{all-at, all-intro}
-use Rattle.layout.specs.Bytes.{byteAt, le2, le4, bytes2, bytes4, bytesBelow}
-use Rattle.layout.specs.Format.{Entry, Plan, headBytes, entryBytes, bodyBytes, bytesOf, countIn, entryIn, planIn, entryFormed, formed}
+use Rattle.layout.specs.Bytes.{byteValues, pairValues, fourValues, byteAt, le2, le4, bytes2, bytes4, bytesBelow}
+use Rattle.layout.specs.Format.{Entry, Plan, headLength, entryLength, bodyLength, lastCount, lastKind, diskRateAt, rootDepthAt, countAt, entryParentAt, entryOffsetAt, bodyShareAt, bodyDepthAt, entryAt, bodyAt, planLength, headBytes, entryBytes, bodyBytes, bytesOf, countIn, entryIn, planIn, entryFormed, formed}
 use Rattle.layout.proofs.Shows.{Shows, shown, shows-from, shows-self, shows-all, shows-none, shows-next, shows-left, shows-right, shows-both, length-below, shows-each, each-shows, shown2, shows2, shown4, shows4}
 
 -- The lengths of the parts.
-pub length-head : (p : Plan) → length (headBytes p) ≡ 9
+pub length-head : (p : Plan) → length (headBytes p) ≡ headLength
 unfolding headBytes bytes4 bytes2
 length-head p = refl
 
-pub length-entry : (p : Plan) (i : ℕ) → length (entryBytes p i) ≡ 4
+pub length-entry : (p : Plan) (i : ℕ) → length (entryBytes p i) ≡ entryLength
 unfolding entryBytes bytes2
 length-entry p i = refl
 
-pub length-body : (p : Plan) (i : ℕ) → length (bodyBytes p i) ≡ 7
+pub length-body : (p : Plan) (i : ℕ) → length (bodyBytes p i) ≡ bodyLength
 unfolding bodyBytes bytes4 bytes2
 length-body p i = refl
 
-pub length-entries : (p : Plan) (n : ℕ) → length (bytesBelow n (entryBytes p)) ≡ n * 4
-length-entries p = length-below 4 (entryBytes p) (length-entry p)
+pub length-entries : (p : Plan) (n : ℕ) → length (bytesBelow n (entryBytes p)) ≡ n * entryLength
+length-entries p = length-below entryLength (entryBytes p) (length-entry p)
 
-pub length-bodies : (p : Plan) (n : ℕ) → length (bytesBelow n (bodyBytes p)) ≡ n * 7
-length-bodies p = length-below 7 (bodyBytes p) (length-body p)
+pub length-bodies : (p : Plan) (n : ℕ) → length (bytesBelow n (bodyBytes p)) ≡ n * bodyLength
+length-bodies p = length-below bodyLength (bodyBytes p) (length-body p)
 
-pub length-bytes : (p : Plan) → length (bytesOf p) ≡ 9 + 11 * p .count
+pub length-bytes : (p : Plan) → length (bytesOf p) ≡ planLength (p .count)
 unfolding bytesOf
 length-bytes p =
     length-append (headBytes p ++ bytesBelow (p .count) (entryBytes p)) (bytesBelow (p .count) (bodyBytes p))
@@ -42,11 +42,11 @@ length-bytes p =
 
 -- The parts of plan p stand in s where they belong.
 pub record Holds (s : List ℕ) (p : Plan) : Type 0 where
-  pub rate : Shows s 0 (bytes4 (p .rate))
-  pub depth : Shows s 4 (bytes4 (p .depth))
-  pub count : byteAt s 8 ≡ p .count
-  pub entry : (i : ℕ) → i < p .count → Shows s (9 + 4 * i) (entryBytes p i)
-  pub body : (i : ℕ) → i < p .count → Shows s (9 + 4 * p .count + 7 * i) (bodyBytes p i)
+  pub rate : Shows s diskRateAt (bytes4 (p .rate))
+  pub depth : Shows s rootDepthAt (bytes4 (p .depth))
+  pub count : byteAt s countAt ≡ p .count
+  pub entry : (i : ℕ) → i < p .count → Shows s (entryAt i) (entryBytes p i)
+  pub body : (i : ℕ) → i < p .count → Shows s (bodyAt (p .count) i) (bodyBytes p i)
 
 -- That is to say that the bytes of the plan stand there.
 pub bytes-hold : (p : Plan) → Holds (bytesOf p) p
@@ -54,10 +54,10 @@ unfolding bytesOf headBytes bytes4 bytes2 byteAt
 bytes-hold p =
     record {
       rate = shows-left (bytes4 (p .rate)) (bytes4 (p .depth)) (shows-left (bytes4 (p .rate) ++ bytes4 (p .depth)) (p .count ∷ []) head);
-      depth = shows-from 4 refl (shows-right (bytes4 (p .rate)) (bytes4 (p .depth)) (shows-left (bytes4 (p .rate) ++ bytes4 (p .depth)) (p .count ∷ []) head));
-      count = shown head 8 8 (omega arith) (omega arith);
-      entry = λ i hi. shows-from (9 + 4 * i) (omega arith) (shows-each 4 (entryBytes p) (length-entry p) (p .count) (shows-right (headBytes p) entries front) i hi);
-      body = λ i hi. shows-from (9 + 4 * p .count + 7 * i) (omega (arith, length-append (headBytes p) entries, length-entries p (p .count))) (shows-each 7 (bodyBytes p) (length-body p) (p .count) (shows-right (headBytes p ++ entries) bodies all) i hi);
+      depth = shows-from rootDepthAt refl (shows-right (bytes4 (p .rate)) (bytes4 (p .depth)) (shows-left (bytes4 (p .rate) ++ bytes4 (p .depth)) (p .count ∷ []) head));
+      count = shown head countAt countAt (omega arith) (omega arith);
+      entry = λ i hi. shows-from (entryAt i) (omega arith) (shows-each entryLength (entryBytes p) (length-entry p) (p .count) (shows-right (headBytes p) entries front) i hi);
+      body = λ i hi. shows-from (bodyAt (p .count) i) (omega (arith, length-append (headBytes p) entries, length-entries p (p .count))) (shows-each bodyLength (bodyBytes p) (length-body p) (p .count) (shows-right (headBytes p ++ entries) bodies all) i hi);
     }
   where
     entries : List ℕ
@@ -75,27 +75,27 @@ bytes-hold p =
     head : Shows (bytesOf p) 0 (headBytes p)
     head = shows-left (headBytes p) entries front
 
-pub hold-bytes : (s : List ℕ) (p : Plan) → length s ≡ 9 + 11 * p .count → Holds s p → s ≡ bytesOf p
+pub hold-bytes : (s : List ℕ) (p : Plan) → length s ≡ planLength (p .count) → Holds s p → s ≡ bytesOf p
 unfolding bytesOf headBytes bytes4 bytes2
 hold-bytes s p long h = shows-all s (bytesOf p) (long ∙ sym (length-bytes p)) (shows-both (shows-both head entries) bodies)
   where
     head : Shows s 0 (headBytes p)
-    head = shows-both (shows-both (h .rate) (h .depth)) (shows-next (h .count) (shows-none s 9))
+    head = shows-both (shows-both (h .rate) (h .depth)) (shows-next (h .count) (shows-none s headLength))
 
     entries : Shows s (0 + length (headBytes p)) (bytesBelow (p .count) (entryBytes p))
-    entries = each-shows 4 (entryBytes p) (length-entry p) (p .count) (λ i hi. shows-from (9 + i * 4) (omega arith) (h .entry i hi))
+    entries = each-shows entryLength (entryBytes p) (length-entry p) (p .count) (λ i hi. shows-from (headLength + i * entryLength) (omega arith) (h .entry i hi))
 
     bodies : Shows s (0 + length (headBytes p ++ bytesBelow (p .count) (entryBytes p))) (bytesBelow (p .count) (bodyBytes p))
-    bodies = each-shows 7 (bodyBytes p) (length-body p) (p .count) (λ i hi. shows-from (0 + length (headBytes p ++ bytesBelow (p .count) (entryBytes p)) + i * 7) (omega (arith, length-append (headBytes p) (bytesBelow (p .count) (entryBytes p)), length-entries p (p .count))) (h .body i hi))
+    bodies = each-shows bodyLength (bodyBytes p) (length-body p) (p .count) (λ i hi. shows-from (0 + length (headBytes p ++ bytesBelow (p .count) (entryBytes p)) + i * bodyLength) (omega (arith, length-append (headBytes p) (bytesBelow (p .count) (entryBytes p)), length-entries p (p .count))) (h .body i hi))
 
 -- Numbers that fit the bytes of a plan.
 pub record Fits (p : Plan) : Type 0 where
-  pub rate : p .rate < 4294967296
-  pub depth : p .depth < 4294967296
-  pub count : p .count ≤ 63
-  pub kind : (i : ℕ) → i < p .count → p .entry i .kind ≤ 3
-  pub share : (i : ℕ) → i < p .count → p .entry i .share < 65536
-  pub deep : (i : ℕ) → i < p .count → p .entry i .depth < 4294967296
+  pub rate : p .rate < fourValues
+  pub depth : p .depth < fourValues
+  pub count : p .count ≤ lastCount
+  pub kind : (i : ℕ) → i < p .count → p .entry i .kind ≤ lastKind
+  pub share : (i : ℕ) → i < p .count → p .entry i .share < pairValues
+  pub deep : (i : ℕ) → i < p .count → p .entry i .depth < fourValues
 
 -- Two plans say the same.
 pub record SamePlan (p q : Plan) : Type 0 where
@@ -139,44 +139,44 @@ module _ (s : List ℕ) (p : Plan) (fits : Fits p) (h : Holds s p) where
   held-entry : (i : ℕ) → i < p .count → entryIn s i ≡ p .entry i
   unfolding entryIn countIn entryBytes bodyBytes byteAt bytes2
   held-entry i hi =
-      let a = 9 + 4 * p .count + 7 * i in
+      let a = bodyAt (p .count) i in
       let e = p .entry i in
-      let share = shown2 s (a + 1) (e .share) (shows-rest (shows-left (e .kind ∷ bytes2 (e .share)) (bytes4 (e .depth)) (h .body i hi))) in
-      let deep = shown4 s (a + 3) (e .depth) (fits .deep i hi) (shows-right (e .kind ∷ bytes2 (e .share)) (bytes4 (e .depth)) (h .body i hi)) in
-      let here : 9 + 4 * byteAt s 8 + 7 * i ≡ a = omega (arith, h .count) in
+      let share = shown2 s (a + bodyShareAt) (e .share) (shows-rest (shows-left (e .kind ∷ bytes2 (e .share)) (bytes4 (e .depth)) (h .body i hi))) in
+      let deep = shown4 s (a + bodyDepthAt) (e .depth) (fits .deep i hi) (shows-right (e .kind ∷ bytes2 (e .share)) (bytes4 (e .depth)) (h .body i hi)) in
+      let here : bodyAt (byteAt s countAt) i ≡ a = omega (arith, h .count) in
       same-entry (entryIn s i) e
-      (shown (h .entry i hi) (9 + 4 * i) 0 (omega arith) (omega arith))
-      (shown (h .entry i hi) (9 + 4 * i + 1) 1 (omega arith) (omega arith))
-      (shown (h .body i hi) (9 + 4 * byteAt s 8 + 7 * i) 0 (omega (arith, h .count)) (omega arith))
-      (ap (λ (b : ℕ). le2 s (b + 1)) here ∙ share ∙ omega (arith, fits .share i hi))
-      (ap (λ (b : ℕ). le4 s (b + 3)) here ∙ deep)
+      (shown (h .entry i hi) (entryAt i) 0 (omega arith) (omega arith))
+      (shown (h .entry i hi) (entryAt i + entryParentAt) entryParentAt (omega arith) (omega arith))
+      (shown (h .body i hi) (bodyAt (byteAt s countAt) i) 0 (omega (arith, h .count)) (omega arith))
+      (ap (λ (b : ℕ). le2 s (b + bodyShareAt)) here ∙ share ∙ omega (arith, fits .share i hi))
+      (ap (λ (b : ℕ). le4 s (b + bodyDepthAt)) here ∙ deep)
 
   pub held-plan : SamePlan (planIn s) p
   unfolding planIn countIn
   held-plan =
       record {
-        rate = shown4 s 0 (p .rate) (fits .rate) (h .rate);
-        depth = shown4 s 4 (p .depth) (fits .depth) (h .depth);
+        rate = shown4 s diskRateAt (p .rate) (fits .rate) (h .rate);
+        depth = shown4 s rootDepthAt (p .depth) (fits .depth) (h .depth);
         count = h .count;
         entry = held-entry;
       }
 
-  held-offset : (i : ℕ) → i < p .count → le2 s (9 + 4 * i + 2) ≡ 9 + 4 * p .count + 7 * i
+  held-offset : (i : ℕ) → i < p .count → le2 s (entryAt i + entryOffsetAt) ≡ bodyAt (p .count) i
   unfolding entryBytes
-  held-offset i hi = shown2 s (9 + 4 * i + 2) (9 + 4 * p .count + 7 * i) (shows-right (p .entry i .node ∷ p .entry i .parent ∷ []) (bytes2 (9 + 4 * p .count + 7 * i)) (h .entry i hi)) ∙ omega (arith, fits .count)
+  held-offset i hi = shown2 s (entryAt i + entryOffsetAt) (bodyAt (p .count) i) (shows-right (p .entry i .node ∷ p .entry i .parent ∷ []) (bytes2 (bodyAt (p .count) i)) (h .entry i hi)) ∙ omega (arith, fits .count)
 
-  pub held-formed : length s ≡ 9 + 11 * p .count → formed s ≡ true
+  pub held-formed : length s ≡ planLength (p .count) → formed s ≡ true
   unfolding formed countIn entryFormed
   held-formed long =
-      holds-with _ _ (le-leb (byteAt s 8) 63 (omega (arith, fits .count, h .count)))
-      (holds-with _ _ (eq-eqb (length s) (9 + 11 * byteAt s 8) (omega (arith, h .count)))
-      (holds-with _ _ (all-intro (byteAt s 8) (entryFormed s) each) none-left))
+      holds-with _ _ (le-leb (byteAt s countAt) lastCount (omega (arith, fits .count, h .count)))
+      (holds-with _ _ (eq-eqb (length s) (planLength (byteAt s countAt)) (omega (arith, h .count)))
+      (holds-with _ _ (all-intro (byteAt s countAt) (entryFormed s) each) none-left))
     where
-      each : (i : ℕ) → i < byteAt s 8 → entryFormed s i ≡ true
+      each : (i : ℕ) → i < byteAt s countAt → entryFormed s i ≡ true
       each i hi =
           let hp : i < p .count = omega (arith, h .count) in
-          holds-with _ _ (eq-eqb (le2 s (9 + 4 * i + 2)) (9 + 4 * byteAt s 8 + 7 * i) (held-offset i hp ∙ omega (arith, h .count)))
-          (holds-with _ _ (le-leb (entryIn s i .kind) 3 (omega (arith, ap (λ (e : Entry). e .kind) (held-entry i hp), fits .kind i hp))) none-left)
+          holds-with _ _ (eq-eqb (le2 s (entryAt i + entryOffsetAt)) (bodyAt (byteAt s countAt) i) (held-offset i hp ∙ omega (arith, h .count)))
+          (holds-with _ _ (le-leb (entryIn s i .kind) lastKind (omega (arith, ap (λ (e : Entry). e .kind) (held-entry i hp), fits .kind i hp))) none-left)
 
 -- What a plan is written as is well formed, and reading it gives the plan back.
 pub written-formed : (p : Plan) → Fits p → formed (bytesOf p) ≡ true
@@ -187,10 +187,10 @@ written-plan p fits = held-plan (bytesOf p) p fits (bytes-hold p)
 
 -- What well formed bytes say.
 pub record Formed (s : List ℕ) : Type 0 where
-  pub count : countIn s ≤ 63
-  pub long : length s ≡ 9 + 11 * countIn s
-  pub offset : (i : ℕ) → i < countIn s → le2 s (9 + 4 * i + 2) ≡ 9 + 4 * countIn s + 7 * i
-  pub kind : (i : ℕ) → i < countIn s → entryIn s i .kind ≤ 3
+  pub count : countIn s ≤ lastCount
+  pub long : length s ≡ planLength (countIn s)
+  pub offset : (i : ℕ) → i < countIn s → le2 s (entryAt i + entryOffsetAt) ≡ bodyAt (countIn s) i
+  pub kind : (i : ℕ) → i < countIn s → entryIn s i .kind ≤ lastKind
 
 pub formed-facts : (s : List ℕ) → formed s ≡ true → Formed s
 unfolding formed entryFormed
@@ -198,50 +198,50 @@ formed-facts s h =
     let rest = rest-hold _ _ h in
     let each = all-at (countIn s) (entryFormed s) (head-holds _ _ (rest-hold _ _ rest)) in
     record {
-      count = leb-true (countIn s) 63 (head-holds _ _ h);
-      long = eqb-true (length s) (9 + 11 * countIn s) (head-holds _ _ rest);
-      offset = λ i hi. eqb-true (le2 s (9 + 4 * i + 2)) (9 + 4 * countIn s + 7 * i) (head-holds _ _ (each i hi));
-      kind = λ i hi. leb-true (entryIn s i .kind) 3 (head-holds _ _ (rest-hold _ _ (each i hi)));
+      count = leb-true (countIn s) lastCount (head-holds _ _ h);
+      long = eqb-true (length s) (planLength (countIn s)) (head-holds _ _ rest);
+      offset = λ i hi. eqb-true (le2 s (entryAt i + entryOffsetAt)) (bodyAt (countIn s) i) (head-holds _ _ (each i hi));
+      kind = λ i hi. leb-true (entryIn s i .kind) lastKind (head-holds _ _ (rest-hold _ _ (each i hi)));
     }
 
 -- Where the count and the length are right, the entries decide.
-pub formed-rest : (s : List ℕ) → countIn s ≤ 63 → length s ≡ 9 + 11 * countIn s → formed s ≡ allBelow (countIn s) (entryFormed s)
+pub formed-rest : (s : List ℕ) → countIn s ≤ lastCount → length s ≡ planLength (countIn s) → formed s ≡ allBelow (countIn s) (entryFormed s)
 unfolding formed
 formed-rest s few long =
     same-truth _ _
     (λ e. head-holds _ _ (rest-hold _ _ (rest-hold _ _ e)))
-    (λ e. holds-with _ _ (le-leb (countIn s) 63 few) (holds-with _ _ (eq-eqb (length s) (9 + 11 * countIn s) long) (holds-with _ _ e none-left)))
+    (λ e. holds-with _ _ (le-leb (countIn s) lastCount few) (holds-with _ _ (eq-eqb (length s) (planLength (countIn s)) long) (holds-with _ _ e none-left)))
 
 -- Bytes that are shorter than a head are not.
-pub short-not-formed : (s : List ℕ) → length s < 9 → formed s ≡ false
+pub short-not-formed : (s : List ℕ) → length s < headLength → formed s ≡ false
 short-not-formed s h = by-test (formed s) (λ e. absurd (omega (arith, formed-facts s e .long))) (λ e. e)
 
 -- Well formed bytes hold the plan that is read from them.
-module _ (s : List ℕ) (f : Formed s) (small : (i : ℕ) → byteAt s i < 256) where
-  read-entry : (i : ℕ) → i < countIn s → Shows s (9 + 4 * i) (entryBytes (planIn s) i)
+module _ (s : List ℕ) (f : Formed s) (small : (i : ℕ) → byteAt s i < byteValues) where
+  read-entry : (i : ℕ) → i < countIn s → Shows s (entryAt i) (entryBytes (planIn s) i)
   unfolding planIn entryIn entryBytes
   read-entry i hi =
       shows-next refl
       (shows-next refl
-      (shows-from {a = 9 + 4 * i + 2} (9 + 4 * i + 1 + 1) (omega arith)
-      (rw (← f .offset i hi) (shows2 s (9 + 4 * i + 2) (small (9 + 4 * i + 2)) (small (9 + 4 * i + 2 + 1))))))
+      (shows-from {a = entryAt i + entryOffsetAt} (entryAt i + 1 + 1) (omega arith)
+      (rw (← f .offset i hi) (shows2 s (entryAt i + entryOffsetAt) (small (entryAt i + entryOffsetAt)) (small (entryAt i + entryOffsetAt + 1))))))
 
-  read-body : (i : ℕ) → i < countIn s → Shows s (9 + 4 * countIn s + 7 * i) (bodyBytes (planIn s) i)
+  read-body : (i : ℕ) → i < countIn s → Shows s (bodyAt (countIn s) i) (bodyBytes (planIn s) i)
   unfolding planIn entryIn bodyBytes bytes2
   read-body i hi =
-      let a = 9 + 4 * countIn s + 7 * i in
-      shows-both (shows-next refl (shows2 s (a + 1) (small (a + 1)) (small (a + 1 + 1)))) (shows4 s (a + 3) small)
+      let a = bodyAt (countIn s) i in
+      shows-both (shows-next refl (shows2 s (a + bodyShareAt) (small (a + bodyShareAt)) (small (a + bodyShareAt + 1)))) (shows4 s (a + bodyDepthAt) small)
 
   read-holds : Holds s (planIn s)
   unfolding planIn countIn
-  read-holds = record { rate = shows4 s 0 small; depth = shows4 s 4 small; count = refl; entry = read-entry; body = read-body }
+  read-holds = record { rate = shows4 s diskRateAt small; depth = shows4 s rootDepthAt small; count = refl; entry = read-entry; body = read-body }
 
-small-everywhere : (s : List ℕ) → ((i : ℕ) → i < length s → byteAt s i < 256) → (i : ℕ) → byteAt s i < 256
+small-everywhere : (s : List ℕ) → ((i : ℕ) → i < length s → byteAt s i < byteValues) → (i : ℕ) → byteAt s i < byteValues
 unfolding byteAt
 small-everywhere s small i = elim (decLt i (length s)) [ yes l ↦ small i l | no l ↦ rw (List·getD-eq-default s 0 {n = i} (omega arith)) (omega arith) ]
 
 -- Writing what was read from well formed bytes gives the bytes back.
-pub read-bytes : (s : List ℕ) → formed s ≡ true → ((i : ℕ) → i < length s → byteAt s i < 256) → bytesOf (planIn s) ≡ s
+pub read-bytes : (s : List ℕ) → formed s ≡ true → ((i : ℕ) → i < length s → byteAt s i < byteValues) → bytesOf (planIn s) ≡ s
 unfolding planIn
 read-bytes s h small =
     let f = formed-facts s h in

@@ -11,7 +11,7 @@ use lib.Arith.{mod-mul}
 use lib.ListN.{length, length-append, List·getD-append}
 use lib.Seq.{getD-append-add, ext-getD}
 use Rattle.numbers.proofs.All.{below-cases}
-use Rattle.layout.specs.Bytes.{byteAt, le2, le4, bytes2, bytes4, bytesBelow}
+use Rattle.layout.specs.Bytes.{byteValues, pairValues, fourValues, byteAt, le2, le4, bytes2, bytes4, bytesBelow}
 
 -- The bytes of u stand in s from place a on.
 pub record Shows (s : List ℕ) (a : ℕ) (u : List ℕ) : Type 0 where
@@ -95,14 +95,14 @@ module _ (w : ℕ) (f : ℕ → List ℕ) (each : (i : ℕ) → length (f i) ≡
       shows-both (each-shows n (λ i hi. h i (omega arith))) (shows-from (a + length (bytesBelow n f)) (omega (arith, length-below n)) (h n (omega arith)))
 
 -- Integers of two bytes.
-pub shown2 : (s : List ℕ) (a n : ℕ) → Shows s a (bytes2 n) → le2 s a ≡ n % 65536
+pub shown2 : (s : List ℕ) (a n : ℕ) → Shows s a (bytes2 n) → le2 s a ≡ n % pairValues
 unfolding byteAt le2 bytes2
 shown2 s a n h =
-    let low : byteAt s a ≡ n % 256 = shown h a 0 (omega arith) (omega arith) in
-    let high : byteAt s (a + 1) ≡ n / 256 % 256 = shown h (a + 1) 1 (omega arith) (omega arith) in
-    omega (arith, mod-mul n {m = 256} {c = 256} (omega arith) (omega arith))
+    let low : byteAt s a ≡ n % byteValues = shown h a 0 (omega arith) (omega arith) in
+    let high : byteAt s (a + 1) ≡ n / byteValues % byteValues = shown h (a + 1) 1 (omega arith) (omega arith) in
+    omega (arith, mod-mul n {m = byteValues} {c = byteValues} (omega arith) (omega arith))
 
-pub shows2 : (s : List ℕ) (a : ℕ) → byteAt s a < 256 → byteAt s (a + 1) < 256 → Shows s a (bytes2 (le2 s a))
+pub shows2 : (s : List ℕ) (a : ℕ) → byteAt s a < byteValues → byteAt s (a + 1) < byteValues → Shows s a (bytes2 (le2 s a))
 unfolding le2 bytes2
 shows2 s a low high = shows-next (omega arith) (shows-next (omega arith) (shows-none s (a + 1 + 1)))
 
@@ -111,31 +111,31 @@ length2 : (n : ℕ) → length (bytes2 n) ≡ 2
 unfolding bytes2
 length2 n = refl
 
-pub shown4 : (s : List ℕ) (a n : ℕ) → n < 4294967296 → Shows s a (bytes4 n) → le4 s a ≡ n
+pub shown4 : (s : List ℕ) (a n : ℕ) → n < fourValues → Shows s a (bytes4 n) → le4 s a ≡ n
 unfolding le4 bytes4 bytes2
 shown4 s a n most h =
-    let low = shown2 s a n (shows-left (bytes2 n) (bytes2 (n / 65536)) h) in
-    let high = shown2 s (a + 2) (n / 65536) (shows-right (bytes2 n) (bytes2 (n / 65536)) h) in
+    let low = shown2 s a n (shows-left (bytes2 n) (bytes2 (n / pairValues)) h) in
+    let high = shown2 s (a + 2) (n / pairValues) (shows-right (bytes2 n) (bytes2 (n / pairValues)) h) in
     omega arith
 
-small2 : (s : List ℕ) (a : ℕ) → byteAt s a < 256 → byteAt s (a + 1) < 256 → le2 s a < 65536
+small2 : (s : List ℕ) (a : ℕ) → byteAt s a < byteValues → byteAt s (a + 1) < byteValues → le2 s a < pairValues
 unfolding le2
 small2 s a low high = omega arith
 
 -- The low two bytes are those of the low part.
-low2 : (l h : ℕ) → bytes2 (l + 65536 * h) ≡ bytes2 l
+low2 : (l h : ℕ) → bytes2 (l + pairValues * h) ≡ bytes2 l
 unfolding bytes2
 low2 l h =
-    let low : (l + 65536 * h) % 256 ≡ l % 256 = omega arith in
-    let split : l + 65536 * h ≡ l + 256 * (256 * h) = omega arith in
-    let high : (l + 65536 * h) / 256 % 256 ≡ l / 256 % 256 = ap (λ (n : ℕ). n / 256 % 256) split ∙ ap (λ (n : ℕ). n % 256) (add-mul-div-left l (256 * h) {y = 256} (omega arith)) ∙ add-mul-mod-self-left (l / 256) 256 h in
+    let low : (l + pairValues * h) % byteValues ≡ l % byteValues = omega arith in
+    let split : l + pairValues * h ≡ l + byteValues * (byteValues * h) = omega arith in
+    let high : (l + pairValues * h) / byteValues % byteValues ≡ l / byteValues % byteValues = ap (λ (n : ℕ). n / byteValues % byteValues) split ∙ ap (λ (n : ℕ). n % byteValues) (add-mul-div-left l (byteValues * h) {y = byteValues} (omega arith)) ∙ add-mul-mod-self-left (l / byteValues) byteValues h in
     cc
 
-pub shows4 : (s : List ℕ) (a : ℕ) → ((i : ℕ) → byteAt s i < 256) → Shows s a (bytes4 (le4 s a))
+pub shows4 : (s : List ℕ) (a : ℕ) → ((i : ℕ) → byteAt s i < byteValues) → Shows s a (bytes4 (le4 s a))
 unfolding le4 bytes4
 shows4 s a small =
     let most = small2 s a (small a) (small (a + 1)) in
-    let high : (le2 s a + 65536 * le2 s (a + 2)) / 65536 ≡ le2 s (a + 2) = omega arith in
+    let high : (le2 s a + pairValues * le2 s (a + 2)) / pairValues ≡ le2 s (a + 2) = omega arith in
     rw (low2 (le2 s a) (le2 s (a + 2)), high)
     (shows-both (shows2 s a (small a) (small (a + 1)))
     (shows-from (a + length (bytes2 (le2 s a))) (omega (arith, length2 (le2 s a))) (shows2 s (a + 2) (small (a + 2)) (small (a + 2 + 1)))))

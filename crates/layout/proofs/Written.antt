@@ -8,7 +8,7 @@ use native.Mathlib.Nat.{add-zero, zero-add}
 use lib.ListN.{length, take, drop, set, length-append, take-append-drop}
 use lib.Seq.{length-take-le, take-at, drop-append-add, drop-drop, set-split}
 use Rattle.layout.specs.Bytes.{bytesBelow}
-use Rattle.layout.specs.Format.{Plan, headBytes, entryBytes, bodyBytes, bytesOf}
+use Rattle.layout.specs.Format.{Plan, entryAt, headBytes, entryBytes, bodyBytes, bytesOf}
 use Rattle.layout.specs.Written.{written}
 use Rattle.layout.proofs.Shows.{bytes-next, length-below}
 use Rattle.layout.proofs.Codec.{length-head, length-entries}
@@ -59,19 +59,19 @@ module _ (w : ℕ) (f : ℕ → List ℕ) (each : (i : ℕ) → length (f i) ≡
       h ∙ ap (λ (v : List ℕ). written v c (f i)) so-far ∙ written-more b a (bytesBelow i f) (omega arith) c (f i) (omega arith) ∙ ap (written b a) (sym (bytes-next i f))
 
 -- The head, the entries and the bodies written in turn are the plan written.
-pub plan-written : (p : Plan) (n : ℕ) (b h e r : List ℕ) → n ≡ p .count → 9 + 4 * n ≤ length b → h ≡ written b 0 (headBytes p) → e ≡ written h 9 (bytesBelow n (entryBytes p)) → r ≡ written e (9 + 4 * n) (bytesBelow n (bodyBytes p)) → r ≡ written b 0 (bytesOf p)
+pub plan-written : (p : Plan) (n : ℕ) (b h e r : List ℕ) → n ≡ p .count → entryAt n ≤ length b → h ≡ written b 0 (headBytes p) → e ≡ written h (entryAt 0) (bytesBelow n (entryBytes p)) → r ≡ written e (entryAt n) (bytesBelow n (bodyBytes p)) → r ≡ written b 0 (bytesOf p)
 unfolding bytesOf
 plan-written p n b h e r count room head entries bodies =
     bodies
-    ∙ ap (λ (v : List ℕ). written v (9 + 4 * n) (below bodyBytes)) front
-    ∙ written-more b 0 (headBytes p ++ below entryBytes) (omega (arith, long)) (9 + 4 * n) (below bodyBytes) (omega (arith, long))
+    ∙ ap (λ (v : List ℕ). written v (entryAt n) (below bodyBytes)) front
+    ∙ written-more b 0 (headBytes p ++ below entryBytes) (omega (arith, long)) (entryAt n) (below bodyBytes) (omega (arith, long))
     ∙ ap (λ (m : ℕ). written b 0 (headBytes p ++ bytesBelow m (entryBytes p) ++ bytesBelow m (bodyBytes p))) count
   where
     below : (Plan → ℕ → List ℕ) → List ℕ
     below part = bytesBelow n (part p)
 
-    long : length (headBytes p ++ below entryBytes) ≡ 9 + 4 * n
+    long : length (headBytes p ++ below entryBytes) ≡ entryAt n
     long = length-append (headBytes p) (below entryBytes) ∙ omega (arith, length-head p, length-entries p n)
 
     front : e ≡ written b 0 (headBytes p ++ below entryBytes)
-    front = entries ∙ ap (λ (v : List ℕ). written v 9 (below entryBytes)) head ∙ written-more b 0 (headBytes p) (omega (arith, length-head p)) 9 (below entryBytes) (omega (arith, length-head p))
+    front = entries ∙ ap (λ (v : List ℕ). written v (entryAt 0) (below entryBytes)) head ∙ written-more b 0 (headBytes p) (omega (arith, length-head p)) (entryAt 0) (below entryBytes) (omega (arith, length-head p))

@@ -1,14 +1,17 @@
--- Bytes, and the unsigned integers that they make, low byte first. A byte slice is a list of naturals below 256.
+-- Bytes, and the unsigned integers that they make, low byte first. A byte slice is a list of naturals, each below 256.
 use Prim.Native.Nat.{ℕ, zero, suc, _+_, _*_, _/_, _%_}
 use mathlib.Core.List.{List, [], _∷_, _++_}
 use lib.ListN.{getD}
 
--- How many values a byte has, and how many two bytes have.
+-- How many values a byte has, two bytes have, and four bytes have.
 abbrev pub byteValues : ℕ
 byteValues = 256
 
 abbrev pub pairValues : ℕ
 pairValues = 65536
+
+abbrev pub fourValues : ℕ
+fourValues = 4294967296
 
 -- The byte at place i, and 0 beyond the end.
 unfoldable pub byteAt : List ℕ → ℕ → ℕ

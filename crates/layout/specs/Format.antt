@@ -7,10 +7,10 @@ use lib.ListN.{length}
 use lib.Dec.{eqb, leb}
 use Rattle.numbers.specs.Tests.{every}
 use Rattle.numbers.specs.Below.{allBelow}
+use Rattle.layout.specs.Kinds.{clientWeighted}
 use Rattle.layout.specs.Bytes.{byteAt, le2, le4, bytes2, bytes4, bytesBelow}
 
--- What a plan says of one node: its entry's node and parent, and its body's kind, share and depth. Kind 0 is class fixed,
--- 1 class weighted, 2 client fixed, 3 client weighted.
+-- What a plan says of one node: its entry's node and parent, and its body's kind, share and depth.
 pub record Entry : Type 0 where
   pub node : ℕ
   pub parent : ℕ
@@ -40,12 +40,33 @@ abbrev pub lastCount : ℕ
 lastCount = 63
 
 abbrev pub lastKind : ℕ
-lastKind = 3
+lastKind = clientWeighted
 
--- Where the count stands, the entry i, and the body i of a plan of n entries.
+-- Where the head has the disk's rate, the root's depth and the count.
+abbrev pub diskRateAt : ℕ
+diskRateAt = 0
+
+abbrev pub rootDepthAt : ℕ
+rootDepthAt = 4
+
 abbrev pub countAt : ℕ
 countAt = 8
 
+-- Where an entry, which begins with its node, has the parent and the offset.
+abbrev pub entryParentAt : ℕ
+entryParentAt = 1
+
+abbrev pub entryOffsetAt : ℕ
+entryOffsetAt = 2
+
+-- Where a body, which begins with its kind, has the share and the depth.
+abbrev pub bodyShareAt : ℕ
+bodyShareAt = 1
+
+abbrev pub bodyDepthAt : ℕ
+bodyDepthAt = 3
+
+-- Where entry i stands, and body i of a plan of n entries.
 abbrev pub entryAt : ℕ → ℕ
 entryAt i = headLength + entryLength * i
 
@@ -80,18 +101,18 @@ unfoldable pub entryIn : List ℕ → ℕ → Entry
 entryIn s i =
     record {
       node = byteAt s (entryAt i);
-      parent = byteAt s (entryAt i + 1);
+      parent = byteAt s (entryAt i + entryParentAt);
       kind = byteAt s (bodyAt (countIn s) i);
-      share = le2 s (bodyAt (countIn s) i + 1);
-      depth = le4 s (bodyAt (countIn s) i + 3);
+      share = le2 s (bodyAt (countIn s) i + bodyShareAt);
+      depth = le4 s (bodyAt (countIn s) i + bodyDepthAt);
     }
 
 unfoldable pub planIn : List ℕ → Plan
-planIn s = record { rate = le4 s 0; depth = le4 s 4; count = countIn s; entry = entryIn s }
+planIn s = record { rate = le4 s diskRateAt; depth = le4 s rootDepthAt; count = countIn s; entry = entryIn s }
 
 -- Whether the offset and the kind of entry i are right.
 unfoldable pub entryFormed : List ℕ → ℕ → Bool
-entryFormed s i = every (eqb (le2 s (entryAt i + 2)) (bodyAt (countIn s) i) ∷ leb (entryIn s i .kind) lastKind ∷ [])
+entryFormed s i = every (eqb (le2 s (entryAt i + entryOffsetAt)) (bodyAt (countIn s) i) ∷ leb (entryIn s i .kind) lastKind ∷ [])
 
 -- Whether the length, the count, every offset and every kind are right.
 unfoldable pub formed : List ℕ → Bool

@@ -1,4 +1,5 @@
 pub mod Bytes
+pub mod Kinds
 pub mod Format
 pub mod Nodes
 pub mod Written

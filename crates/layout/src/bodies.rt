@@ -1,20 +1,24 @@
 // Nodes in their plan bytes and in their joins.
 ghost use mathlib.Core.Path.{_≡_};
 ghost use Prim.Native.Nat.{_≤_};
+ghost use Rattle.table.specs.Limits.{client, weighted};
+ghost use Rattle.layout.specs.Format.{lastKind};
 ghost use Rattle.layout.specs.Nodes.{shareIn, weightedIn, heldBy, sortIn, kindIn};
+use crate::Kind;
 use crate::Share;
 use crate::Sort;
+use table::Table;
 
 // The sort and share of a kind.
 pub fn sort_of(kind: u64, share: u64) -> Sort
-    requires { ⌜ kind ≤ 3 ⌝ }
+    requires { ⌜ kind ≤ lastKind ⌝ }
     ensures kind { λ r. ⌜ kindIn r ≡ kind ⌝ }
     ensures share { λ r. ⌜ shareIn (heldBy r) ≡ share ⌝ }
 {
     match kind {
-        0 => Sort::Class(Share::Fixed(share)),
-        1 => Sort::Class(Share::Weighted(share)),
-        2 => Sort::Client(Share::Fixed(share)),
+        Kind::CLASS_FIXED => Sort::Class(Share::Fixed(share)),
+        Kind::CLASS_WEIGHTED => Sort::Class(Share::Weighted(share)),
+        Kind::CLIENT_FIXED => Sort::Client(Share::Fixed(share)),
         _ => Sort::Client(Share::Weighted(share)),
     }
 }
@@ -29,7 +33,7 @@ pub fn held_by(sort: Sort) -> Share
     }
 }
 
-// A share's number, and its kind.
+// A share's number, and the table's number of its kind.
 pub fn share_in(share: Share) -> u64
     ensures { λ r. ⌜ r ≡ shareIn share ⌝ }
 {
@@ -41,32 +45,38 @@ pub fn share_in(share: Share) -> u64
 
 pub fn weighted_in(share: Share) -> u64
     ensures kind { λ r. ⌜ r ≡ weightedIn share ⌝ }
-    ensures small { λ r. ⌜ r ≤ 1 ⌝ }
+    ensures small { λ r. ⌜ r ≤ weighted ⌝ }
 {
     match share {
-        Share::Fixed(_) => 0,
-        Share::Weighted(_) => 1,
+        Share::Fixed(_) => Table::FIXED,
+        Share::Weighted(_) => Table::WEIGHTED,
     }
 }
 
-// The table's number of a sort: 1 class, 2 client.
+// The table's number of a sort.
 pub fn sort_number(sort: Sort) -> u64
     ensures sort { λ r. ⌜ r ≡ sortIn sort ⌝ }
-    ensures small { λ r. ⌜ r ≤ 2 ⌝ }
+    ensures small { λ r. ⌜ r ≤ client ⌝ }
 {
     match sort {
-        Sort::Class(_) => 1,
-        Sort::Client(_) => 2,
+        Sort::Class(_) => Table::CLASS,
+        Sort::Client(_) => Table::CLIENT,
     }
 }
 
 // The plan's kind of a sort.
 pub fn kind_in(sort: Sort) -> u64
     ensures kind { λ r. ⌜ r ≡ kindIn sort ⌝ }
-    ensures small { λ r. ⌜ r ≤ 3 ⌝ }
+    ensures small { λ r. ⌜ r ≤ lastKind ⌝ }
 {
     match sort {
-        Sort::Class(share) => weighted_in(share),
-        Sort::Client(share) => 2 + weighted_in(share),
+        Sort::Class(share) => match share {
+            Share::Fixed(_) => Kind::CLASS_FIXED,
+            Share::Weighted(_) => Kind::CLASS_WEIGHTED,
+        },
+        Sort::Client(share) => match share {
+            Share::Fixed(_) => Kind::CLIENT_FIXED,
+            Share::Weighted(_) => Kind::CLIENT_WEIGHTED,
+        },
     }
 }

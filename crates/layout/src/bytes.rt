@@ -2,7 +2,12 @@
 ghost use mathlib.Core.Path.{_≡_};
 ghost use Prim.Native.Nat.{_+_, _<_};
 ghost use lib.ListN.{length};
-ghost use Rattle.layout.specs.Bytes.{byteAt, le2, le4};
+ghost use Rattle.layout.specs.Bytes.{byteValues, pairValues, fourValues, byteAt, le2, le4};
+
+// How many values a byte has, and two bytes have.
+pub const BYTE_VALUES: u64 = 256;
+
+pub const PAIR_VALUES: u64 = 65536;
 
 fn wide(b: u8) -> u64
     ensures { λ r. ⌜ r ≡ b ⌝ }
@@ -14,7 +19,7 @@ fn wide(b: u8) -> u64
 pub fn byte(s: &[u8], i: usize) -> u64
     requires { ⌜ i < length (now s) ⌝ }
     ensures byte { λ r. ⌜ r ≡ byteAt (now (s .entry)) i ⌝ }
-    ensures small { λ r. ⌜ r < 256 ⌝ }
+    ensures small { λ r. ⌜ r < byteValues ⌝ }
 {
     wide(s[i])
 }
@@ -23,15 +28,15 @@ pub fn byte(s: &[u8], i: usize) -> u64
 pub fn pair(s: &[u8], i: usize) -> u64
     requires { ⌜ i + 1 < length (now s) ⌝ }
     ensures pair { λ r. ⌜ r ≡ le2 (now (s .entry)) i ⌝ }
-    ensures small { λ r. ⌜ r < 65536 ⌝ }
+    ensures small { λ r. ⌜ r < pairValues ⌝ }
 {
-    byte(s, i) + 256 * byte(s, i + 1)
+    byte(s, i) + BYTE_VALUES * byte(s, i + 1)
 }
 
 pub fn four(s: &[u8], i: usize) -> u64
     requires { ⌜ i + 3 < length (now s) ⌝ }
     ensures four { λ r. ⌜ r ≡ le4 (now (s .entry)) i ⌝ }
-    ensures small { λ r. ⌜ r < 4294967296 ⌝ }
+    ensures small { λ r. ⌜ r < fourValues ⌝ }
 {
-    pair(s, i) + 65536 * pair(s, i + 2)
+    pair(s, i) + PAIR_VALUES * pair(s, i + 2)
 }

@@ -24,3 +24,49 @@ pub struct Node {
     pub sort: Sort,
     pub depth: u64,
 }
+
+// The figures of a plan's bytes.
+pub struct Format {}
+
+impl Format {
+    // Bytes of the head, of an entry and of a body; the greatest count.
+    pub const HEAD: usize = 9;
+
+    pub const ENTRY: usize = 4;
+
+    pub const BODY: usize = 7;
+
+    pub const LAST_COUNT: usize = 63;
+
+    // Places of the head.
+    pub const DISK_RATE: usize = 0;
+
+    pub const ROOT_DEPTH: usize = 4;
+
+    pub const COUNT: usize = 8;
+
+    // Places of an entry, which begins with its node.
+    pub const ENTRY_PARENT: usize = 1;
+
+    pub const ENTRY_OFFSET: usize = 2;
+
+    // Places of a body, which begins with its kind.
+    pub const BODY_SHARE: usize = 1;
+
+    pub const BODY_DEPTH: usize = 3;
+}
+
+// The kinds of a body.
+pub struct Kind {}
+
+impl Kind {
+    pub const CLASS_FIXED: u64 = 0;
+
+    pub const CLASS_WEIGHTED: u64 = 1;
+
+    pub const CLIENT_FIXED: u64 = 2;
+
+    pub const CLIENT_WEIGHTED: u64 = 3;
+
+    pub const LAST: u64 = Kind::CLIENT_WEIGHTED;
+}

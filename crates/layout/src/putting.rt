@@ -3,11 +3,14 @@ ghost use mathlib.Core.Path.{_≡_};
 ghost use mathlib.Core.List.{[], _∷_, _++_};
 ghost use Prim.Native.Nat.{_+_, _≤_, _<_};
 ghost use lib.ListN.{length};
-ghost use Rattle.layout.specs.Bytes.{bytes2, bytes4};
+ghost use Rattle.layout.specs.Bytes.{byteValues, bytes2, bytes4};
+ghost use Rattle.layout.specs.Format.{headLength, entryLength, bodyLength};
 ghost use Rattle.layout.specs.Written.{written};
+use crate::Format;
+use crate::bytes;
 
 fn narrow(n: u64) -> u8
-    requires { ⌜ n < 256 ⌝ }
+    requires { ⌜ n < byteValues ⌝ }
     ensures { λ r. ⌜ r ≡ n ⌝ }
 {
     n as u8
@@ -15,7 +18,7 @@ fn narrow(n: u64) -> u8
 
 // Writes a byte at place a.
 pub fn put_byte(buffer: &mut [u8], a: usize, n: u64)
-    requires { ⌜ (a < length (now buffer)) × (n < 256) ⌝ }
+    requires { ⌜ (a < length (now buffer)) × (n < byteValues) ⌝ }
     ensures { λ _. ⌜ now (buffer .exit) ≡ written (now (buffer .entry)) a (n ∷ []) ⌝ }
 {
     let b = narrow(n);
@@ -27,8 +30,8 @@ pub fn put_pair(buffer: &mut [u8], a: usize, n: u64)
     requires { ⌜ a + 2 ≤ length (now buffer) ⌝ }
     ensures { λ _. ⌜ now (buffer .exit) ≡ written (now (buffer .entry)) a (bytes2 n) ⌝ }
 {
-    put_byte(buffer, a, n % 256);
-    put_byte(buffer, a + 1, n / 256 % 256);
+    put_byte(buffer, a, n % bytes::BYTE_VALUES);
+    put_byte(buffer, a + 1, n / bytes::BYTE_VALUES % bytes::BYTE_VALUES);
 }
 
 pub fn put_four(buffer: &mut [u8], a: usize, n: u64)
@@ -36,35 +39,35 @@ pub fn put_four(buffer: &mut [u8], a: usize, n: u64)
     ensures { λ _. ⌜ now (buffer .exit) ≡ written (now (buffer .entry)) a (bytes4 n) ⌝ }
 {
     put_pair(buffer, a, n);
-    put_pair(buffer, a + 2, n / 65536);
+    put_pair(buffer, a + 2, n / bytes::PAIR_VALUES);
 }
 
-// Writes the 9 bytes of the head.
+// Writes the head.
 pub fn put_head(buffer: &mut [u8], rate: u64, depth: u64, count: u64)
-    requires { ⌜ (9 ≤ length (now buffer)) × (count < 256) ⌝ }
+    requires { ⌜ (headLength ≤ length (now buffer)) × (count < byteValues) ⌝ }
     ensures { λ _. ⌜ now (buffer .exit) ≡ written (now (buffer .entry)) 0 (bytes4 rate ++ bytes4 depth ++ (count ∷ [])) ⌝ }
 {
-    put_four(buffer, 0, rate);
-    put_four(buffer, 4, depth);
-    put_byte(buffer, 8, count);
+    put_four(buffer, Format::DISK_RATE, rate);
+    put_four(buffer, Format::ROOT_DEPTH, depth);
+    put_byte(buffer, Format::COUNT, count);
 }
 
-// Writes the 4 bytes of an entry.
+// Writes an entry.
 pub fn put_entry(buffer: &mut [u8], a: usize, node: u64, parent: u64, offset: u64)
-    requires { ⌜ (a + 4 ≤ length (now buffer)) × (node < 256) × (parent < 256) ⌝ }
+    requires { ⌜ (a + entryLength ≤ length (now buffer)) × (node < byteValues) × (parent < byteValues) ⌝ }
     ensures { λ _. ⌜ now (buffer .exit) ≡ written (now (buffer .entry)) a (node ∷ parent ∷ bytes2 offset) ⌝ }
 {
     put_byte(buffer, a, node);
-    put_byte(buffer, a + 1, parent);
-    put_pair(buffer, a + 2, offset);
+    put_byte(buffer, a + Format::ENTRY_PARENT, parent);
+    put_pair(buffer, a + Format::ENTRY_OFFSET, offset);
 }
 
-// Writes the 7 bytes of a body.
+// Writes a body.
 pub fn put_body(buffer: &mut [u8], a: usize, kind: u64, share: u64, depth: u64)
-    requires { ⌜ (a + 7 ≤ length (now buffer)) × (kind < 256) ⌝ }
+    requires { ⌜ (a + bodyLength ≤ length (now buffer)) × (kind < byteValues) ⌝ }
     ensures { λ _. ⌜ now (buffer .exit) ≡ written (now (buffer .entry)) a (kind ∷ bytes2 share ++ bytes4 depth) ⌝ }
 {
     put_byte(buffer, a, kind);
-    put_pair(buffer, a + 1, share);
-    put_four(buffer, a + 3, depth);
+    put_pair(buffer, a + Format::BODY_SHARE, share);
+    put_four(buffer, a + Format::BODY_DEPTH, depth);
 }

@@ -13,13 +13,15 @@ use lib.IntN.{ℤ, pos}
 use Rattle.numbers.proofs.All.{below-cases}
 use Rattle.numbers.proofs.Steps.{for-suc}
 use Rattle.numbers.specs.Below.{forBelow}
+use Rattle.table.specs.Limits.{tableLength}
 use Rattle.table.specs.Tree.{treeOf}
 use Rattle.table.specs.Refusals.{Cause, cause, first}
-use Rattle.table.specs.Calls.{openRefusal, openTable, opened}
+use Rattle.table.specs.Calls.{openRefusal, openTable, opened, joinRefusal, joinTable}
 use Rattle.table.proofs.Refusals.{first-here, first-past, first-end, first-none, none-first, kept-new}
 use Rattle.treelaws.specs.Joins.{refusalOf, afterJoin}
-use Rattle.layout.specs.Format.{Plan, planIn, formed}
-use Rattle.planlaws.specs.Reading.{joinOf, afterEntries, refusing, entriesRefusal, openedFor, joinedFor, rising, planRefusal, planTable}
+use Rattle.layout.specs.Kinds.{sortOf, shareKindOf}
+use Rattle.layout.specs.Format.{Entry, Plan, planIn, formed}
+use Rattle.planlaws.specs.Reading.{joinOf, entryRefusal, afterEntry, afterEntries, refusing, entriesRefusal, openedFor, joinedFor, rising, planRefusal, planTable}
 
 -- The refusal of a call as a cause.
 pub refusing-here : (r : ℕ) (cs : List Cause) → (r ≡ 0 → ⊥) → first (refusing r ∷ cs) ≡ r
@@ -36,17 +38,22 @@ none-refusing r cs h = elim (ℕ-discrete r 0) [ yes e ↦ (e, sym (refusing-pas
 pub refusing-last : (r : ℕ) → first (refusing r ∷ []) ≡ r
 refusing-last r = elim (ℕ-discrete r 0) [ yes e ↦ refusing-past r [] e ∙ first-end ∙ sym e | no ne ↦ refusing-here r [] ne ]
 
+-- A join by the numbers of an entry is the join that the entry asks for.
+pub join-by : (t : List ℤ) (e : Entry) {sort kind share r : ℕ} {u : List ℤ} → sort ≡ sortOf (e .kind) → kind ≡ shareKindOf (e .kind) → share ≡ e .share → r ≡ joinRefusal t (pos (e .node)) (pos (e .parent)) (pos sort) (pos kind) (pos share) (pos (e .depth)) → u ≡ joinTable t (pos (e .node)) (pos (e .parent)) (pos sort) (pos kind) (pos share) (pos (e .depth)) → (r ≡ entryRefusal t e) × (u ≡ afterEntry t e)
+unfolding entryRefusal afterEntry refusalOf afterJoin joinOf
+join-by t e sort kind share refusal table = (rw (sort, kind, share) at refusal, rw (sort, kind, share) at table)
+
 -- The joins of a plan's entries, one after the other.
 module _ (t : List ℤ) (p : Plan) where
   pub after-none : afterEntries t p 0 ≡ t
   unfolding afterEntries forBelow
   after-none = refl
 
-  pub after-suc : (n : ℕ) → afterEntries t p (suc n) ≡ afterJoin (afterEntries t p n) (joinOf (p .entry n))
+  pub after-suc : (n : ℕ) → afterEntries t p (suc n) ≡ afterEntry (afterEntries t p n) (p .entry n)
   unfolding afterEntries
-  after-suc n = for-suc n (λ i u. afterJoin u (joinOf (p .entry i))) t
+  after-suc n = for-suc n (λ i u. afterEntry u (p .entry i)) t
 
-  pub after-next : (n : ℕ) → afterEntries t p (n + 1) ≡ afterJoin (afterEntries t p n) (joinOf (p .entry n))
+  pub after-next : (n : ℕ) → afterEntries t p (n + 1) ≡ afterEntry (afterEntries t p n) (p .entry n)
   after-next n = ap (afterEntries t p) (add-one n) ∙ after-suc n
 
   pub entries-none : entriesRefusal t p 0 ≡ 0
@@ -54,16 +61,16 @@ module _ (t : List ℤ) (p : Plan) where
   entries-none = refl
 
   -- The next join counts where none before it is refused; else the refusal stays.
-  pub entries-suc : (n : ℕ) → entriesRefusal t p n ≡ 0 → entriesRefusal t p (suc n) ≡ refusalOf (afterEntries t p n) (joinOf (p .entry n))
+  pub entries-suc : (n : ℕ) → entriesRefusal t p n ≡ 0 → entriesRefusal t p (suc n) ≡ entryRefusal (afterEntries t p n) (p .entry n)
   unfolding entriesRefusal
-  entries-suc n h = refusing-past (entriesRefusal t p n) (refusing (refusalOf (afterEntries t p n) (joinOf (p .entry n))) ∷ []) h ∙ refusing-last (refusalOf (afterEntries t p n) (joinOf (p .entry n)))
+  entries-suc n h = refusing-past (entriesRefusal t p n) (refusing (entryRefusal (afterEntries t p n) (p .entry n)) ∷ []) h ∙ refusing-last (entryRefusal (afterEntries t p n) (p .entry n))
 
-  pub entries-next : (n : ℕ) → entriesRefusal t p n ≡ 0 → entriesRefusal t p (n + 1) ≡ refusalOf (afterEntries t p n) (joinOf (p .entry n))
+  pub entries-next : (n : ℕ) → entriesRefusal t p n ≡ 0 → entriesRefusal t p (n + 1) ≡ entryRefusal (afterEntries t p n) (p .entry n)
   entries-next n h = ap (entriesRefusal t p) (add-one n) ∙ entries-suc n h
 
   entries-refused : (n : ℕ) → (entriesRefusal t p n ≡ 0 → ⊥) → entriesRefusal t p (suc n) ≡ entriesRefusal t p n
   unfolding entriesRefusal
-  entries-refused n ne = refusing-here (entriesRefusal t p n) (refusing (refusalOf (afterEntries t p n) (joinOf (p .entry n))) ∷ []) ne
+  entries-refused n ne = refusing-here (entriesRefusal t p n) (refusing (entryRefusal (afterEntries t p n) (p .entry n)) ∷ []) ne
 
   pub entries-stay : (m n : ℕ) → m ≤ n → (entriesRefusal t p m ≡ 0 → ⊥) → entriesRefusal t p n ≡ entriesRefusal t p m
   entries-stay m zero h ne = ap (entriesRefusal t p) (omega arith)
@@ -72,19 +79,19 @@ module _ (t : List ℤ) (p : Plan) where
       below-cases (suc n) m (omega arith) (λ l. let same = before (omega arith) ne in entries-refused n (λ e. ne (sym same ∙ e)) ∙ same) (λ e. ap (entriesRefusal t p) (sym e))
 
   -- None is refused exactly when each is accepted in its turn.
-  pub entries-each : (n : ℕ) → entriesRefusal t p n ≡ 0 → (i : ℕ) → i < n → refusalOf (afterEntries t p i) (joinOf (p .entry i)) ≡ 0
+  pub entries-each : (n : ℕ) → entriesRefusal t p n ≡ 0 → (i : ℕ) → i < n → entryRefusal (afterEntries t p i) (p .entry i) ≡ 0
   entries-each n h i hi = sym (entries-suc i (earlier i (omega arith))) ∙ earlier (suc i) hi
     where
       earlier : (m : ℕ) → m ≤ n → entriesRefusal t p m ≡ 0
       earlier m hm = elim (ℕ-discrete (entriesRefusal t p m) 0) [ yes e ↦ e | no ne ↦ absurd (ne (sym (entries-stay m n hm ne) ∙ h)) ]
 
-  pub each-entries : (n : ℕ) → ((i : ℕ) → i < n → refusalOf (afterEntries t p i) (joinOf (p .entry i)) ≡ 0) → entriesRefusal t p n ≡ 0
+  pub each-entries : (n : ℕ) → ((i : ℕ) → i < n → entryRefusal (afterEntries t p i) (p .entry i) ≡ 0) → entriesRefusal t p n ≡ 0
   each-entries zero h = entries-none
   each-entries (suc n) h = entries-suc n (each-entries n (λ i hi. h i (omega arith))) ∙ h n (omega arith)
 
 -- What an accepted plan has passed.
 pub record PlanAccepted (t : List ℤ) (s : List ℕ) : Type 0 where
-  pub long : length t ≡ 2568
+  pub long : length t ≡ tableLength
   pub formed : formed s ≡ true
   pub opening : openRefusal t (pos (planIn s .rate)) (pos (planIn s .depth)) ≡ 0
   pub joining : entriesRefusal (openedFor t (planIn s)) (planIn s) (planIn s .count) ≡ 0
@@ -99,7 +106,7 @@ plan-accepted t s h =
     let h4 = none-refusing _ _ (h3 .1) in
     let h5 = none-first 15 _ _ (omega arith) (h4 .1) in
     record {
-      long = eqb-true (length t) 2568 (not-false _ (h1 .0));
+      long = eqb-true (length t) tableLength (not-false _ (h1 .0));
       formed = not-false _ (h2 .0);
       opening = h3 .0;
       joining = h4 .0;
@@ -109,7 +116,7 @@ plan-accepted t s h =
 pub accepted-plan : (t : List ℤ) (s : List ℕ) → PlanAccepted t s → planRefusal t s ≡ 0
 unfolding planRefusal
 accepted-plan t s a =
-    first-none 1 _ _ (ap not (eq-eqb (length t) 2568 (a .long)))
+    first-none 1 _ _ (ap not (eq-eqb (length t) tableLength (a .long)))
     (first-none 14 _ _ (ap not (a .formed))
     (refusing-past _ _ (a .opening) ∙ refusing-past _ _ (a .joining) ∙ first-none 15 _ _ (ap not (a .rising)) first-end))
 

@@ -10,6 +10,7 @@ use lib.IntN.{ℤ, pos}
 use Rattle.numbers.specs.Whole.{plus}
 use Rattle.numbers.proofs.Tests.{true-false}
 use Rattle.numbers.proofs.All.{below-cases}
+use Rattle.table.specs.Limits.{nodes, sortAt, parentAt, kindAt, shareAt, depthAt, rateAt, unused, root}
 use Rattle.table.specs.Places.{place, rate}
 use Rattle.table.specs.Tree.{Tree, treeOf, there}
 use Rattle.table.specs.Calls.{opened, openRefusal}
@@ -21,14 +22,16 @@ use Rattle.calllaws.proofs.Fresh.{zero-unused}
 use Rattle.table.proofs.Passed.{open-passed}
 use Rattle.calllaws.proofs.Open.{opened-in-order}
 use Rattle.calllaws.proofs.Join.{join-keeps}
+use Rattle.layout.specs.Kinds.{sortOf, shareKindOf}
 use Rattle.layout.specs.Format.{Entry, Plan}
-use Rattle.planlaws.specs.Reading.{sortOf, shareKindOf, joinOf, afterEntries, openedFor}
+use Rattle.layout.proofs.EachKind.{sort-limits}
+use Rattle.planlaws.specs.Reading.{joinOf, entryRefusal, afterEntry, afterEntries, openedFor}
 use Rattle.planlaws.proofs.Accepted.{after-none, after-suc, opened-for}
 
 -- The tree shows a node below the root as entry e says.
 pub record Shown (tree : Tree) (e : Entry) : Type 0 where
-  pub small : e .node < 64
-  pub below : e .node ≡ 0 → ⊥
+  pub small : e .node < nodes
+  pub below : e .node ≡ root → ⊥
   pub sort : tree .sort (e .node) ≡ sortOf (e .kind)
   pub parent : tree .parent (e .node) ≡ e .parent
   pub kind : tree .kind (e .node) ≡ shareKindOf (e .kind)
@@ -36,10 +39,10 @@ pub record Shown (tree : Tree) (e : Entry) : Type 0 where
   pub depth : tree .depth (e .node) ≡ e .depth
 
 pub shown-there : (tree : Tree) (e : Entry) → Shown tree e → there tree (e .node) ≡ true
-unfolding there sortOf
-shown-there tree e s = ap not (ne-eqb (tree .sort (e .node)) 0 (omega (arith, s .sort)))
+unfolding there
+shown-there tree e s = ap not (ne-eqb (tree .sort (e .node)) unused (omega (arith, s .sort, sort-limits (e .kind))))
 
-shown-kept : (t u : List ℤ) (e : Entry) → ((q : ℕ) → q < 6 → place u (e .node) q ≡ place t (e .node) q) → Shown (treeOf t) e → Shown (treeOf u) e
+shown-kept : (t u : List ℤ) (e : Entry) → ((q : ℕ) → q < rateAt → place u (e .node) q ≡ place t (e .node) q) → Shown (treeOf t) e → Shown (treeOf u) e
 shown-kept t u e same s =
     let n = same-node t u (e .node) same in
     record {
@@ -54,10 +57,10 @@ shown-kept t u e same s =
 
 pub record Entered (p : Plan) (n : ℕ) (u : List ℤ) : Type 0 where
   pub order : InOrder u
-  pub disk : rate u 0 ≡ p .rate
-  pub depth : treeOf u .depth 0 ≡ p .depth
+  pub disk : rate u root ≡ p .rate
+  pub depth : treeOf u .depth root ≡ p .depth
   pub node : (i : ℕ) → i < n → Shown (treeOf u) (p .entry i)
-  pub free : (k : ℕ) → k < 64 → (k ≡ 0 → ⊥) → ((i : ℕ) → i < n → p .entry i .node ≡ k → ⊥) → there (treeOf u) k ≡ false
+  pub free : (k : ℕ) → k < nodes → (k ≡ root → ⊥) → ((i : ℕ) → i < n → p .entry i .node ≡ k → ⊥) → there (treeOf u) k ≡ false
 
 -- Opened, it shows the root alone.
 pub entered-none : (t : List ℤ) (p : Plan) → openRefusal t (pos (p .rate)) (pos (p .depth)) ≡ 0 → Entered p 0 (opened (pos (p .rate)) (pos (p .depth)))
@@ -65,10 +68,10 @@ unfolding rate plus
 entered-none t p h =
     record {
       order = facts _ (opened-in-order (pos (p .rate)) (pos (p .depth)) (open-passed t (pos (p .rate)) (pos (p .depth)) h));
-      disk = ap plus (opened-edit (pos (p .rate)) (pos (p .depth)) .here 6 (omega arith));
+      disk = ap plus (opened-edit (pos (p .rate)) (pos (p .depth)) .here rateAt (omega arith));
       depth = opened-node (pos (p .rate)) (pos (p .depth)) .depth;
       node = λ i hi. absurd (omega arith);
-      free = λ k hk ne nobody. zero-unused _ k (opened-others (pos (p .rate)) (pos (p .depth)) k 0 hk ne (omega arith));
+      free = λ k hk ne nobody. zero-unused _ k (opened-others (pos (p .rate)) (pos (p .depth)) k sortAt hk ne (omega arith));
     }
 
 -- One accepted join more.
@@ -82,14 +85,14 @@ joined-shown t u e a s =
     record {
       small = a .node;
       below = a .below;
-      sort = ap plus (s .written 0 (omega arith));
-      parent = ap plus (s .written 1 (omega arith));
-      kind = ap plus (s .written 3 (omega arith));
-      share = ap plus (s .written 4 (omega arith));
-      depth = ap plus (s .written 5 (omega arith));
+      sort = ap plus (s .written sortAt (omega arith));
+      parent = ap plus (s .written parentAt (omega arith));
+      kind = ap plus (s .written kindAt (omega arith));
+      share = ap plus (s .written shareAt (omega arith));
+      depth = ap plus (s .written depthAt (omega arith));
     }
 
-joined-apart : (t u : List ℤ) (e : Entry) → JoinLeaves t (joinOf e) u → (k : ℕ) → (k ≡ e .node → ⊥) → (q : ℕ) → q < 6 → place u k q ≡ place t k q
+joined-apart : (t u : List ℤ) (e : Entry) → JoinLeaves t (joinOf e) u → (k : ℕ) → (k ≡ e .node → ⊥) → (q : ℕ) → q < rateAt → place u k q ≡ place t k q
 unfolding joinOf plus
 joined-apart t u e s k ne q hq = s .kept k q hq ne
 
@@ -97,15 +100,16 @@ joined-free : (t : List ℤ) (e : Entry) → JoinAccepted t (joinOf e) → there
 unfolding joinOf plus
 joined-free t e a = a .unused
 
-pub entered-next : (p : Plan) (n : ℕ) (t : List ℤ) → Entered p n t → refusalOf t (joinOf (p .entry n)) ≡ 0 → Entered p (suc n) (afterJoin t (joinOf (p .entry n)))
+pub entered-next : (p : Plan) (n : ℕ) (t : List ℤ) → Entered p n t → entryRefusal t (p .entry n) ≡ 0 → Entered p (suc n) (afterEntry t (p .entry n))
+unfolding entryRefusal afterEntry
 entered-next p n t before h =
     record {
       order = join-in-order t (joinOf e) h;
       disk = s .disk ∙ before .disk;
-      depth = same-node t u 0 (λ q hq. joined-apart t u e s 0 (λ same. new .below (sym same)) q hq) .depth ∙ before .depth;
+      depth = same-node t u root (λ q hq. joined-apart t u e s root (λ same. new .below (sym same)) q hq) .depth ∙ before .depth;
       node = λ i hi. below-cases n i hi (λ l. shown-kept t u (p .entry i) (joined-apart t u e s (p .entry i .node) (apart i l)) (before .node i l)) (λ same. rw same new);
       free = λ k hk ne nobody.
-          same-there u t k (joined-apart t u e s k (λ same. nobody n (omega arith) (sym same)) 0 (omega arith))
+          same-there u t k (joined-apart t u e s k (λ same. nobody n (omega arith) (sym same)) sortAt (omega arith))
           ∙ before .free k hk ne (λ i hi. nobody i (omega arith));
     }
   where
@@ -128,6 +132,6 @@ entered-next p n t before h =
     apart i hi same = true-false (shown-there (treeOf t) (p .entry i) (before .node i hi)) (rw same (joined-free t e a))
 
 -- All that are accepted.
-pub entered : (t : List ℤ) (p : Plan) → openRefusal t (pos (p .rate)) (pos (p .depth)) ≡ 0 → (n : ℕ) → ((i : ℕ) → i < n → refusalOf (afterEntries (openedFor t p) p i) (joinOf (p .entry i)) ≡ 0) → Entered p n (afterEntries (openedFor t p) p n)
+pub entered : (t : List ℤ) (p : Plan) → openRefusal t (pos (p .rate)) (pos (p .depth)) ≡ 0 → (n : ℕ) → ((i : ℕ) → i < n → entryRefusal (afterEntries (openedFor t p) p i) (p .entry i) ≡ 0) → Entered p n (afterEntries (openedFor t p) p n)
 entered t p h zero each = rw (after-none (openedFor t p) p, opened-for t p h) (entered-none t p h)
 entered t p h (suc n) each = rw (after-suc (openedFor t p) p n) (entered-next p n (afterEntries (openedFor t p) p n) (entered t p h n (λ i hi. each i (omega arith))) (each n (omega arith)))

@@ -14,6 +14,7 @@ use Rattle.numbers.specs.Tests.{every}
 use Rattle.numbers.proofs.Tests.{by-test, true-false}
 use Rattle.numbers.proofs.Every.{none-left, holds-with, head-fails, rest-fail}
 use Rattle.numbers.proofs.Parts.{plus-pos, minus-pos, pos-of-within, zarith}
+use Rattle.table.specs.Limits.{recordLength, nodes, lastNode, sortAt, parentAt, levelAt, kindAt, shareAt, depthAt, rateAt, class, client, root, lastClassLevel, lastLevel, wholeShare}
 use Rattle.table.specs.Places.{place}
 use Rattle.table.specs.Tree.{Tree, treeOf, there, isClass, isClient, sumUnder}
 use Rattle.table.specs.Rates.{fixedSum}
@@ -28,7 +29,7 @@ use Rattle.planlaws.proofs.Part.{PartOf, part-shares, part-depths}
 
 -- The join that gives node k what table t shows of it.
 unfoldable pub joinAt : List ℤ → ℕ → Join
-joinAt t k = record { node = pos k; parent = place t k 1; sort = place t k 0; kind = place t k 3; share = place t k 4; depth = place t k 5 }
+joinAt t k = record { node = pos k; parent = place t k parentAt; sort = place t k sortAt; kind = place t k kindAt; share = place t k shareAt; depth = place t k depthAt }
 
 same-twice : (a b c : Tree) (k : ℕ) → SameNode a b k → SameNode b c k → SameNode a c k
 same-twice a b c k m n =
@@ -43,9 +44,9 @@ same-twice a b c k m n =
 
 no-client : (tree : Tree) (k : ℕ) → isClass tree k ≡ true → isClient tree k ≡ false
 unfolding isClass isClient
-no-client tree k e = ne-eqb (tree .sort k) 2 (λ two. omega (arith, eqb-true (tree .sort k) 1 e))
+no-client tree k e = ne-eqb (tree .sort k) client (λ two. omega (arith, eqb-true (tree .sort k) class e))
 
-pub limited-parent : (t : List ℤ) (k : ℕ) → Limits t k → treeOf t .parent k < 64
+pub limited-parent : (t : List ℤ) (k : ℕ) → Limits t k → treeOf t .parent k < nodes
 unfolding treeOf
 limited-parent t k l = omega (arith, zarith, l .parent)
 
@@ -54,8 +55,8 @@ pub record Next (t v : List ℤ) (k : ℕ) : Type 0 where
   pub whole : InOrder t
   pub order : InOrder v
   pub part : PartOf (treeOf v) (treeOf t)
-  pub small : k < 64
-  pub below : k ≡ 0 → ⊥
+  pub small : k < nodes
+  pub below : k ≡ root → ⊥
   pub here : there (treeOf t) k ≡ true
   pub free : there (treeOf v) k ≡ false
   pub above : there (treeOf v) (treeOf t .parent k) ≡ true
@@ -67,7 +68,7 @@ module _ (t v : List ℤ) (k : ℕ) (x : Next t v k) where
   child : Child (treeOf t) k
   child = x .whole .child k (x .small) (x .here) (x .below)
 
-  parent-small : treeOf t .parent k < 64
+  parent-small : treeOf t .parent k < nodes
   parent-small = limited-parent t k limits
 
   -- The parent is the same class in both.
@@ -78,45 +79,45 @@ module _ (t v : List ℤ) (k : ℕ) (x : Next t v k) where
   parent-class = class-same (treeOf v) (treeOf t) (treeOf t .parent k) (parent-same .sort) ∙ child .class
 
   -- With the join written, the node shows what it shows in t.
-  given-same : (q : ℕ) → q < 6 → givenBy (joinAt t k) (suc (treeOf v .level (treeOf t .parent k))) q ≡ place t k q
+  given-same : (q : ℕ) → q < rateAt → givenBy (joinAt t k) (suc (treeOf v .level (treeOf t .parent k))) q ≡ place t k q
   unfolding givenBy joinAt treeOf
   given-same zero hq = refl
-  given-same (suc zero) hq = pos-of-within 0 63 (place t k 1) (limits .parent)
-  given-same (suc (suc zero)) hq = ap pos (ap suc (parent-same .level) ∙ sym (child .level)) ∙ pos-of-within 0 4 (place t k 2) (limits .level)
+  given-same (suc zero) hq = pos-of-within 0 lastNode (place t k parentAt) (limits .parent)
+  given-same (suc (suc zero)) hq = ap pos (ap suc (parent-same .level) ∙ sym (child .level)) ∙ pos-of-within 0 lastLevel (place t k levelAt) (limits .level)
   given-same (suc (suc (suc zero))) hq = refl
   given-same (suc (suc (suc (suc zero)))) hq = refl
   given-same (suc (suc (suc (suc (suc zero))))) hq = refl
   given-same (suc (suc (suc (suc (suc (suc q)))))) hq = absurd (omega arith)
 
-  written : (q : ℕ) → q < 6 → place (joinedBy v (joinAt t k)) k q ≡ place t k q
+  written : (q : ℕ) → q < rateAt → place (joinedBy v (joinAt t k)) k q ≡ place t k q
   unfolding joinAt treeOf plus
   written q hq = joined-shown v (joinAt t k) (x .order .long) (x .small) q hq ∙ given-same q hq
 
-  kept : (j q : ℕ) → q < 40 → (j ≡ k → ⊥) → place (joinedBy v (joinAt t k)) j q ≡ place v j q
+  kept : (j q : ℕ) → q < recordLength → (j ≡ k → ⊥) → place (joinedBy v (joinAt t k)) j q ≡ place v j q
   unfolding joinAt plus
   kept j q hq ne = joined-apart v (joinAt t k) (x .order .long) (x .small) j q hq (λ same. absurd (ne same))
 
-  joined-same : (j : ℕ) → j < 64 → there (treeOf (joinedBy v (joinAt t k))) j ≡ true → SameNode (treeOf (joinedBy v (joinAt t k))) (treeOf t) j
+  joined-same : (j : ℕ) → j < nodes → there (treeOf (joinedBy v (joinAt t k))) j ≡ true → SameNode (treeOf (joinedBy v (joinAt t k))) (treeOf t) j
   joined-same j hj e =
       elim (ℕ-discrete j k) [
         | yes same ↦ rw same (same-node t (joinedBy v (joinAt t k)) k written)
         | no ne ↦
             same-twice _ (treeOf v) _ j (same-node v (joinedBy v (joinAt t k)) j (λ q hq. kept j q (omega arith) ne))
-            (x .part .same j hj (sym (same-there (joinedBy v (joinAt t k)) v j (kept j 0 (omega arith) ne)) ∙ e))
+            (x .part .same j hj (sym (same-there (joinedBy v (joinAt t k)) v j (kept j sortAt (omega arith) ne)) ∙ e))
       ]
 
   joined-part : PartOf (treeOf (joinedBy v (joinAt t k))) (treeOf t)
   joined-part = record { same = joined-same }
 
-  -- A class is not below level 3.
-  not-last : every (eqb (treeOf t .sort k) 1 ∷ eqb (treeOf v .level (treeOf t .parent k)) 3 ∷ []) ≡ false
+  -- A class does not stand below the last level of classes.
+  not-last : every (eqb (treeOf t .sort k) class ∷ eqb (treeOf v .level (treeOf t .parent k)) lastClassLevel ∷ []) ≡ false
   unfolding isClass
   not-last =
-      by-test (eqb (treeOf t .sort k) 1)
-      (λ e. let most = x .whole .class k (x .small) e .level in rest-fail _ _ (head-fails _ _ (ne-eqb (treeOf v .level (treeOf t .parent k)) 3 (λ three. omega (arith, parent-same .level, child .level)))))
+      by-test (eqb (treeOf t .sort k) class)
+      (λ e. let most = x .whole .class k (x .small) e .level in rest-fail _ _ (head-fails _ _ (ne-eqb (treeOf v .level (treeOf t .parent k)) lastClassLevel (λ three. omega (arith, parent-same .level, child .level)))))
       (λ e. head-fails _ _ e)
 
-  shares-kept : fixedSum (treeOf (joinedBy v (joinAt t k))) (treeOf t .parent k) ≤ 10000
+  shares-kept : fixedSum (treeOf (joinedBy v (joinAt t k))) (treeOf t .parent k) ≤ wholeShare
   shares-kept = omega (arith, part-shares _ (treeOf t) joined-part (treeOf t .parent k), x .whole .class (treeOf t .parent k) parent-small (child .class) .shares)
 
   parent-apart : treeOf t .parent k ≡ k → ⊥
@@ -130,7 +131,7 @@ module _ (t v : List ℤ) (k : ℕ) (x : Next t v k) where
   depths-kept : sumUnder (treeOf (joinedBy v (joinAt t k))) (treeOf t .parent k) (treeOf (joinedBy v (joinAt t k)) .depth) ≤ treeOf (joinedBy v (joinAt t k)) .depth (treeOf t .parent k)
   depths-kept = omega (arith, parent-depth, part-depths _ (treeOf t) joined-part (treeOf t .parent k), x .whole .class (treeOf t .parent k) parent-small (child .class) .depths)
 
-  node-limits : withinℤ 1 63 (pos k) ≡ true
+  node-limits : withinℤ 1 lastNode (pos k) ≡ true
   node-limits = omega (arith, zarith, x .small, x .below, plus-pos k, minus-pos k)
 
   pub joinable : refusalOf v (joinAt t k) ≡ 0

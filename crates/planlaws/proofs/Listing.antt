@@ -12,15 +12,17 @@ use lib.Seq.{getD-append-seam}
 use Rattle.numbers.proofs.Tests.{by-test, true-false, cond-true, cond-false}
 use Rattle.numbers.proofs.Every.{head-holds, rest-hold, none-left, holds-with}
 use Rattle.numbers.proofs.All.{below-cases}
+use Rattle.table.specs.Limits.{nodes, root, lastLevel}
 use Rattle.table.specs.Tree.{Tree, there}
+use Rattle.layout.specs.Format.{lastCount}
 use Rattle.planlaws.specs.Reading.{standing}
-use Rattle.planlaws.specs.Writing.{stands, orderBelow, order}
+use Rattle.planlaws.specs.Writing.{standings, stands, orderBelow, order}
 use Rattle.planlaws.proofs.Rising.{Rises, different-few}
 
 -- Node k is there below the root, and its standing is below m.
 pub record Listed (tree : Tree) (m k : ℕ) : Type 0 where
-  pub small : k < 64
-  pub below : k ≡ 0 → ⊥
+  pub small : k < nodes
+  pub below : k ≡ root → ⊥
   pub there : there tree k ≡ true
   pub before : standing tree k < m
 
@@ -34,25 +36,25 @@ listed-next : (tree : Tree) (m k : ℕ) → Listed tree m k → Listed tree (suc
 listed-next tree m k l = record { small = l .small; below = l .below; there = l .there; before = omega (arith, l .before) }
 
 -- Different nodes have different standings.
-pub standing-apart : (tree : Tree) (j k : ℕ) → j < 64 → k < 64 → standing tree j ≡ standing tree k → j ≡ k
+pub standing-apart : (tree : Tree) (j k : ℕ) → j < nodes → k < nodes → standing tree j ≡ standing tree k → j ≡ k
 unfolding standing
 standing-apart tree j k hj hk e = omega arith
 
 -- The node that stands at m, if one does.
 record StandsAt (tree : Tree) (m k : ℕ) : Type 0 where
-  pub small : k < 64
-  pub below : k ≡ 0 → ⊥
+  pub small : k < nodes
+  pub below : k ≡ root → ⊥
   pub there : there tree k ≡ true
   pub here : standing tree k ≡ m
 
-stands-node : (tree : Tree) (m : ℕ) → stands tree m ≡ true → StandsAt tree m (m % 64)
+stands-node : (tree : Tree) (m : ℕ) → stands tree m ≡ true → StandsAt tree m (m % nodes)
 unfolding stands standing
 stands-node tree m h =
     let rest = rest-hold _ _ h in
-    let level : tree .level (m % 64) ≡ m / 64 = eqb-true (tree .level (m % 64)) (m / 64) (head-holds _ _ (rest-hold _ _ rest)) in
+    let level : tree .level (m % nodes) ≡ m / nodes = eqb-true (tree .level (m % nodes)) (m / nodes) (head-holds _ _ (rest-hold _ _ rest)) in
     record {
       small = omega arith;
-      below = eqb-false (m % 64) 0 (not-true _ (head-holds _ _ rest));
+      below = eqb-false (m % nodes) root (not-true _ (head-holds _ _ rest));
       there = head-holds _ _ h;
       here = omega arith;
     }
@@ -60,9 +62,9 @@ stands-node tree m h =
 node-stands : (tree : Tree) (m k : ℕ) → StandsAt tree m k → stands tree m ≡ true
 unfolding stands standing
 node-stands tree m k s =
-    let node : m % 64 ≡ k = omega (arith, s .small, s .here) in
-    let level : tree .level k ≡ m / 64 = omega (arith, s .small, s .here) in
-    rw node (holds-with _ _ (s .there) (holds-with _ _ (ap not (ne-eqb k 0 (s .below))) (holds-with _ _ (eq-eqb (tree .level k) (m / 64) level) none-left)))
+    let node : m % nodes ≡ k = omega (arith, s .small, s .here) in
+    let level : tree .level k ≡ m / nodes = omega (arith, s .small, s .here) in
+    rw node (holds-with _ _ (s .there) (holds-with _ _ (ap not (ne-eqb k root (s .below))) (holds-with _ _ (eq-eqb (tree .level k) (m / nodes) level) none-left)))
 
 -- One step, where a node stands at m and where none does.
 module _ (tree : Tree) (m : ℕ) (xs : List ℕ) (l : Lists tree m xs) where
@@ -111,54 +113,54 @@ lists-below tree zero =
 lists-below tree (suc m) =
     let before = lists-below tree m in
     by-test (stands tree m)
-    (λ e. rw (cond-true (stands tree m) (m % 64 ∷ []) [] e) (with-node tree m (orderBelow tree m) before (m % 64) (stands-node tree m e)))
-    (λ e. rw (cond-false (stands tree m) (m % 64 ∷ []) [] e, append-nil) (without-node tree m (orderBelow tree m) before e))
+    (λ e. rw (cond-true (stands tree m) (m % nodes ∷ []) [] e) (with-node tree m (orderBelow tree m) before (m % nodes) (stands-node tree m e)))
+    (λ e. rw (cond-false (stands tree m) (m % nodes ∷ []) [] e, append-nil) (without-node tree m (orderBelow tree m) before e))
 
 -- The list one step on, as a loop goes.
-pub order-more : (tree : Tree) (m : ℕ) → stands tree m ≡ true → orderBelow tree (m + 1) ≡ orderBelow tree m ++ (m % 64 ∷ [])
+pub order-more : (tree : Tree) (m : ℕ) → stands tree m ≡ true → orderBelow tree (m + 1) ≡ orderBelow tree m ++ (m % nodes ∷ [])
 unfolding orderBelow
-order-more tree m e = ap (orderBelow tree) (add-one m) ∙ ap (λ (xs : List ℕ). orderBelow tree m ++ xs) (cond-true (stands tree m) (m % 64 ∷ []) [] e)
+order-more tree m e = ap (orderBelow tree) (add-one m) ∙ ap (λ (xs : List ℕ). orderBelow tree m ++ xs) (cond-true (stands tree m) (m % nodes ∷ []) [] e)
 
 pub order-stays : (tree : Tree) (m : ℕ) → stands tree m ≡ false → orderBelow tree (m + 1) ≡ orderBelow tree m
 unfolding orderBelow
 order-stays tree m e =
-    ap (orderBelow tree) (add-one m) ∙ ap (λ (xs : List ℕ). orderBelow tree m ++ xs) (cond-false (stands tree m) (m % 64 ∷ []) [] e) ∙ append-nil (orderBelow tree m)
+    ap (orderBelow tree) (add-one m) ∙ ap (λ (xs : List ℕ). orderBelow tree m ++ xs) (cond-false (stands tree m) (m % nodes ∷ []) [] e) ∙ append-nil (orderBelow tree m)
 
-order-lists : (tree : Tree) → Lists tree 320 (order tree)
+order-lists : (tree : Tree) → Lists tree standings (order tree)
 unfolding order
-order-lists tree = lists-below tree 320
+order-lists tree = lists-below tree standings
 
--- A node of a level up to 4 is listed.
-pub level-listed : (tree : Tree) (k : ℕ) → k < 64 → (k ≡ 0 → ⊥) → there tree k ≡ true → tree .level k ≤ 4 → Listed tree 320 k
+-- A node of a level up to the last is listed.
+pub level-listed : (tree : Tree) (k : ℕ) → k < nodes → (k ≡ root → ⊥) → there tree k ≡ true → tree .level k ≤ lastLevel → Listed tree standings k
 unfolding standing
 level-listed tree k small below e h = record { small = small; below = below; there = e; before = omega arith }
 
--- So far as at the end, at most 63 nodes are listed.
-lists-few : (tree : Tree) (m : ℕ) (xs : List ℕ) → Lists tree m xs → length xs ≤ 63
+-- So far as at the end, no more nodes are listed than a plan may have.
+lists-few : (tree : Tree) (m : ℕ) (xs : List ℕ) → Lists tree m xs → length xs ≤ lastCount
 lists-few tree m xs l =
-    different-few 63 (length xs) (λ i. getD xs i 0 - 1) (λ i hi. omega (arith, l .member i hi .small))
+    different-few lastCount (length xs) (λ i. getD xs i 0 - 1) (λ i hi. omega (arith, l .member i hi .small))
     (record {
       apart = λ i j h hj e.
           let same : getD xs i 0 ≡ getD xs j 0 = omega (arith, l .member i (omega arith) .below, l .member j hj .below) in
           omega (arith, l .up i j h hj, ap (standing tree) same);
     })
 
-pub order-few : (tree : Tree) (m : ℕ) → length (orderBelow tree m) ≤ 63
+pub order-few : (tree : Tree) (m : ℕ) → length (orderBelow tree m) ≤ lastCount
 order-few tree m = lists-few tree m (orderBelow tree m) (lists-below tree m)
 
-pub order-short : (tree : Tree) → length (order tree) ≤ 63
+pub order-short : (tree : Tree) → length (order tree) ≤ lastCount
 unfolding order
-order-short tree = order-few tree 320
+order-short tree = order-few tree standings
 
 -- Node i of the order.
 unfoldable pub listed : Tree → ℕ → ℕ
 listed tree i = getD (order tree) i 0
 
-pub listed-node : (tree : Tree) (i : ℕ) → i < length (order tree) → Listed tree 320 (listed tree i)
+pub listed-node : (tree : Tree) (i : ℕ) → i < length (order tree) → Listed tree standings (listed tree i)
 unfolding listed
 listed-node tree = order-lists tree .member
 
-pub listed-found : (tree : Tree) (k : ℕ) → Listed tree 320 k → (i : ℕ) × (i < length (order tree)) × (listed tree i ≡ k)
+pub listed-found : (tree : Tree) (k : ℕ) → Listed tree standings k → (i : ℕ) × (i < length (order tree)) × (listed tree i ≡ k)
 unfolding listed
 listed-found tree = order-lists tree .found
 

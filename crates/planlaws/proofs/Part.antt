@@ -6,6 +6,7 @@ use mathlib.Core.Bool.{true}
 use native.Mathlib.Omega.{arith}
 use Rattle.numbers.proofs.Tests.{by-test}
 use Rattle.numbers.proofs.Sums.{sum-mono}
+use Rattle.table.specs.Limits.{nodes}
 use Rattle.table.specs.Tree.{Tree, there, isFixed, childOf, countIf, sumUnder}
 use Rattle.table.specs.Rates.{fixedShare, fixedSum}
 use Rattle.treelaws.proofs.Children.{ChildOf, child-facts, child-of}
@@ -13,28 +14,28 @@ use Rattle.table.proofs.Edits.{SameNode}
 use Rattle.calllaws.proofs.Nodes.{there-same}
 
 pub record PartOf (part whole : Tree) : Type 0 where
-  pub same : (k : ℕ) → k < 64 → there part k ≡ true → SameNode part whole k
+  pub same : (k : ℕ) → k < nodes → there part k ≡ true → SameNode part whole k
 
 same-fixed : (new old : Tree) (k : ℕ) → SameNode new old k → fixedShare new k ≡ fixedShare old k
 unfolding fixedShare isFixed
 same-fixed new old k n = rw (n .kind, n .share)
 
 module _ (part whole : Tree) (h : PartOf part whole) where
-  part-child : (c k : ℕ) → k < 64 → ChildOf part c k → ChildOf whole c k
+  part-child : (c k : ℕ) → k < nodes → ChildOf part c k → ChildOf whole c k
   part-child c k hk child =
       let n = h .same k hk (child .there) in
       record { there = sym (there-same part whole k (n .sort)) ∙ child .there; below = child .below; parent = sym (n .parent) ∙ child .parent }
 
-  part-term : (c : ℕ) (f g : ℕ → ℕ) (k : ℕ) → k < 64 → (there part k ≡ true → f k ≡ g k) → countIf (childOf part c k) f k ≤ countIf (childOf whole c k) g k
+  part-term : (c : ℕ) (f g : ℕ → ℕ) (k : ℕ) → k < nodes → (there part k ≡ true → f k ≡ g k) → countIf (childOf part c k) f k ≤ countIf (childOf whole c k) g k
   unfolding countIf
   part-term c f g k hk same =
       by-test (childOf part c k)
       (λ e. let child = child-facts part c k e in rw (e, child-of whole c k (part-child c k hk child)) (omega (arith, same (child .there))))
       (λ e. rw e (omega arith))
 
-  part-sum : (c : ℕ) (f g : ℕ → ℕ) → ((k : ℕ) → k < 64 → there part k ≡ true → f k ≡ g k) → sumUnder part c f ≤ sumUnder whole c g
+  part-sum : (c : ℕ) (f g : ℕ → ℕ) → ((k : ℕ) → k < nodes → there part k ≡ true → f k ≡ g k) → sumUnder part c f ≤ sumUnder whole c g
   unfolding sumUnder
-  part-sum c f g same = sum-mono 64 (λ k. countIf (childOf part c k) f k) (λ k. countIf (childOf whole c k) g k) (λ k hk. part-term c f g k hk (same k hk))
+  part-sum c f g same = sum-mono nodes (λ k. countIf (childOf part c k) f k) (λ k. countIf (childOf whole c k) g k) (λ k hk. part-term c f g k hk (same k hk))
 
   pub part-shares : (c : ℕ) → fixedSum part c ≤ fixedSum whole c
   unfolding fixedSum

@@ -11,40 +11,42 @@ use lib.IntN.{ℤ, pos}
 use Rattle.numbers.specs.Whole.{plus}
 use Rattle.numbers.proofs.Parts.{pos-of-within, zarith}
 use Rattle.numbers.proofs.All.{below-cases}
+use Rattle.table.specs.Limits.{nodes, lastNode, sortAt, parentAt, kindAt, shareAt, depthAt, class, client, fixed, weighted, root, lastLevel, wholeShare, greatestDepth}
 use Rattle.table.specs.Places.{place, rate}
 use Rattle.table.specs.Tree.{treeOf, there}
-use Rattle.table.proofs.Facts.{InOrder, Limits, Child}
+use Rattle.table.proofs.Facts.{InOrder, Limits, Child, root-there}
 use Rattle.treelaws.proofs.Children.{class-there}
-use Rattle.calllaws.proofs.Ready.{root-there}
-use Rattle.planlaws.specs.Reading.{sortOf, shareKindOf, joinOf, standing}
-use Rattle.planlaws.specs.Writing.{order, kindOf, entryOf, planOf}
+use Rattle.layout.specs.Kinds.{kindOf, sortOf, shareKindOf}
+use Rattle.layout.proofs.EachKind.{sort-of-kind, share-of-kind, kind-small}
+use Rattle.planlaws.specs.Reading.{joinOf, standing}
+use Rattle.planlaws.specs.Writing.{order, entryOf, planOf}
 use Rattle.layout.proofs.Codec.{Fits}
 use Rattle.planlaws.proofs.Listing.{listed, listed-node, listed-found, listed-rises, level-listed, order-short}
 use Rattle.planlaws.proofs.Joinable.{joinAt, limited-parent}
 
--- A level of a table in order is at most 4.
-pub level-small : (t : List ℤ) (k : ℕ) → InOrder t → k < 64 → there (treeOf t) k ≡ true → treeOf t .level k ≤ 4
+-- A level of a table in order is at most the last.
+pub level-small : (t : List ℤ) (k : ℕ) → InOrder t → k < nodes → there (treeOf t) k ≡ true → treeOf t .level k ≤ lastLevel
 unfolding treeOf
 level-small t k f hk e = omega (arith, zarith, f .limits k hk e .level)
 
 -- Sort and share kind are those that the plan's kind stands for.
 pub kind-sort : (t : List ℤ) (k : ℕ) → Limits t k → sortOf (kindOf (treeOf t .sort k) (treeOf t .kind k)) ≡ treeOf t .sort k
-unfolding sortOf kindOf treeOf
-kind-sort t k l = omega (arith, zarith, l .sort, l .kind)
+unfolding treeOf
+kind-sort t k l = sort-of-kind (treeOf t .sort k) (treeOf t .kind k) (omega (arith, zarith, l .sort)) (omega (arith, zarith, l .sort))
 
 pub kind-share : (t : List ℤ) (k : ℕ) → Limits t k → shareKindOf (kindOf (treeOf t .sort k) (treeOf t .kind k)) ≡ treeOf t .kind k
-unfolding shareKindOf kindOf treeOf
-kind-share t k l = omega (arith, zarith, l .sort, l .kind)
+unfolding treeOf
+kind-share t k l = share-of-kind (treeOf t .sort k) (treeOf t .kind k) (omega (arith, zarith, l .kind))
 
 -- The entry of a node asks for what the table shows.
 pub entry-join : (t : List ℤ) (k : ℕ) → Limits t k → joinOf (entryOf (treeOf t) k) ≡ joinAt t k
 unfolding joinOf entryOf joinAt treeOf
 entry-join t k l =
-    let parent : pos (plus (place t k 1)) ≡ place t k 1 = pos-of-within 0 63 (place t k 1) (l .parent) in
-    let sort : pos (sortOf (kindOf (plus (place t k 0)) (plus (place t k 3)))) ≡ place t k 0 = ap pos (kind-sort t k l) ∙ pos-of-within 1 2 (place t k 0) (l .sort) in
-    let kind : pos (shareKindOf (kindOf (plus (place t k 0)) (plus (place t k 3)))) ≡ place t k 3 = ap pos (kind-share t k l) ∙ pos-of-within 0 1 (place t k 3) (l .kind) in
-    let share : pos (plus (place t k 4)) ≡ place t k 4 = pos-of-within 1 10000 (place t k 4) (l .share) in
-    let depth : pos (plus (place t k 5)) ≡ place t k 5 = pos-of-within 1 1000000 (place t k 5) (l .depth) in
+    let parent : pos (plus (place t k parentAt)) ≡ place t k parentAt = pos-of-within 0 lastNode (place t k parentAt) (l .parent) in
+    let sort : pos (sortOf (kindOf (plus (place t k sortAt)) (plus (place t k kindAt)))) ≡ place t k sortAt = ap pos (kind-sort t k l) ∙ pos-of-within class client (place t k sortAt) (l .sort) in
+    let kind : pos (shareKindOf (kindOf (plus (place t k sortAt)) (plus (place t k kindAt)))) ≡ place t k kindAt = ap pos (kind-share t k l) ∙ pos-of-within fixed weighted (place t k kindAt) (l .kind) in
+    let share : pos (plus (place t k shareAt)) ≡ place t k shareAt = pos-of-within 1 wholeShare (place t k shareAt) (l .share) in
+    let depth : pos (plus (place t k depthAt)) ≡ place t k depthAt = pos-of-within 1 greatestDepth (place t k depthAt) (l .depth) in
     λ i. record { node = pos k; parent = parent i; sort = sort i; kind = kind i; share = share i; depth = depth i }
 
 module _ (t : List ℤ) (f : InOrder t) where
@@ -52,19 +54,19 @@ module _ (t : List ℤ) (f : InOrder t) where
   listed-limits i hi = let l = listed-node (treeOf t) i hi in f .limits (listed (treeOf t) i) (l .small) (l .there)
 
   pub plan-fits : Fits (planOf t)
-  unfolding planOf entryOf kindOf rate treeOf listed
+  unfolding planOf entryOf rate treeOf listed
   plan-fits =
       record {
         rate = omega (arith, zarith, f .root .rate);
-        depth = omega (arith, zarith, f .limits 0 (omega arith) (root-there t (f .root)) .depth);
+        depth = omega (arith, zarith, f .limits root (omega arith) (root-there t (f .root)) .depth);
         count = order-short (treeOf t);
-        kind = λ i hi. omega (arith, zarith, listed-limits i hi .sort, listed-limits i hi .kind);
+        kind = λ i hi. kind-small _ _;
         share = λ i hi. omega (arith, zarith, listed-limits i hi .share);
         deep = λ i hi. omega (arith, zarith, listed-limits i hi .depth);
       }
 
   -- A parent stands before its children.
-  parent-standing : (c k : ℕ) → c < 64 → treeOf t .level k ≡ suc (treeOf t .level c) → standing (treeOf t) c < standing (treeOf t) k
+  parent-standing : (c k : ℕ) → c < nodes → treeOf t .level k ≡ suc (treeOf t .level c) → standing (treeOf t) c < standing (treeOf t) k
   unfolding standing
   parent-standing c k hc e = omega arith
 
@@ -75,7 +77,7 @@ module _ (t : List ℤ) (f : InOrder t) where
         | no high ↦ absurd (below-cases l i (omega arith) (λ low. omega (arith, listed-rises (treeOf t) .up i l low hl)) (λ e. omega (arith, ap (λ (j : ℕ). standing (treeOf t) (listed (treeOf t) j)) e)))
       ]
 
-  pub listed-parent : (i : ℕ) → i < length (order (treeOf t)) → (treeOf t .parent (listed (treeOf t) i) ≡ 0 → ⊥) → (l : ℕ) × (l < i) × (listed (treeOf t) l ≡ treeOf t .parent (listed (treeOf t) i))
+  pub listed-parent : (i : ℕ) → i < length (order (treeOf t)) → (treeOf t .parent (listed (treeOf t) i) ≡ root → ⊥) → (l : ℕ) × (l < i) × (listed (treeOf t) l ≡ treeOf t .parent (listed (treeOf t) i))
   listed-parent i hi below =
       let found = listed-found (treeOf t) c (level-listed (treeOf t) c small below (class-there (treeOf t) c (child .class)) (level-small t c f small (class-there (treeOf t) c (child .class)))) in
       (found .0, earlier (found .0) i (found .1) (rw (found .2) (parent-standing c k small (child .level))), found .2)
@@ -89,5 +91,5 @@ module _ (t : List ℤ) (f : InOrder t) where
       child : Child (treeOf t) k
       child = let l = listed-node (treeOf t) i hi in f .child k (l .small) (l .there) (l .below)
 
-      small : c < 64
+      small : c < nodes
       small = limited-parent t k (listed-limits i hi)

@@ -1,7 +1,7 @@
 -- Reading an accepted plan and writing the table gives the same bytes. The nodes of the table are those of the plan's
 -- entries, and both the plan's order and the writer's rise by level, then by number: so they are one.
-use Prim.Native.Nat.{ℕ, suc, _-_, _<_}
-use mathlib.Core.Path.{_≡_, refl, sym, ap, _∙_}
+use Prim.Native.Nat.{ℕ, suc, _-_, _≤_, _<_}
+use mathlib.Core.Path.{_≡_, refl, sym, ap, ap₂, _∙_}
 use mathlib.Core.Bool.{true}
 use mathlib.Core.List.{List}
 use native.Mathlib.Omega.{arith}
@@ -14,11 +14,13 @@ use Rattle.numbers.proofs.All.{all-at}
 use Rattle.table.specs.Tree.{Tree, treeOf, there}
 use Rattle.table.specs.Order.{inOrder}
 use Rattle.table.proofs.Facts.{from-facts}
-use Rattle.layout.specs.Bytes.{byteAt}
-use Rattle.layout.specs.Format.{Entry, Plan, planIn}
-use Rattle.planlaws.specs.Reading.{sortOf, shareKindOf, joinedFor, standing, rising, planRefusal, planTable}
-use Rattle.planlaws.specs.Writing.{order, kindOf, entryOf, planOf, planBytes}
-use Rattle.layout.proofs.Codec.{SamePlan, same-entry, same-bytes, read-bytes}
+use Rattle.layout.specs.Bytes.{byteValues, byteAt}
+use Rattle.layout.specs.Kinds.{kindOf}
+use Rattle.layout.specs.Format.{Entry, Plan, lastKind, planIn}
+use Rattle.planlaws.specs.Reading.{joinedFor, standing, rising, planRefusal, planTable}
+use Rattle.planlaws.specs.Writing.{order, entryOf, planOf, planBytes}
+use Rattle.layout.proofs.EachKind.{kind-again}
+use Rattle.layout.proofs.Codec.{SamePlan, same-entry, same-bytes, formed-facts, read-bytes}
 use Rattle.planlaws.proofs.Rising.{Rises, rises-by-steps, found-below, Within, rising-same, rising-short}
 use Rattle.planlaws.proofs.Listing.{listed, listed-node, listed-found, listed-rises, level-listed, standing-apart}
 use Rattle.planlaws.proofs.Planned.{level-small}
@@ -26,13 +28,13 @@ use Rattle.planlaws.proofs.Accepted.{plan-accepted, plan-table, entries
 use Rattle.planlaws.proofs.Entered.{Shown, shown-there, Entered, entered}
 
 -- A node that shows an entry is written as that entry.
-shown-entry : (tree : Tree) (e : Entry) → Shown tree e → entryOf tree (e .node) ≡ e
-unfolding entryOf kindOf sortOf shareKindOf
-shown-entry tree e s =
-    same-entry (entryOf tree (e .node)) e refl (s .parent) (omega (arith, s .sort, s .kind)) (s .share) (s .depth)
+shown-entry : (tree : Tree) (e : Entry) → e .kind ≤ lastKind → Shown tree e → entryOf tree (e .node) ≡ e
+unfolding entryOf
+shown-entry tree e known s =
+    same-entry (entryOf tree (e .node)) e refl (s .parent) (ap₂ kindOf (s .sort) (s .kind) ∙ kind-again (e .kind) known) (s .share) (s .depth)
 
--- A table that shows the entries of a plan, which rise, is written as that plan.
-module _ (p : Plan) (u : List ℤ) (en : Entered p (p .count) u) (r : rising (treeOf u) p ≡ true) where
+-- A table that shows the entries of a plan, which rise and have known kinds, is written as that plan.
+module _ (p : Plan) (u : List ℤ) (known : (i : ℕ) → i < p .count → p .entry i .kind ≤ lastKind) (en : Entered p (p .count) u) (r : rising (treeOf u) p ≡ true) where
   -- The node of entry i.
   entered-node : ℕ → ℕ
   entered-node i = p .entry i .node
@@ -86,7 +88,7 @@ module _ (p : Plan) (u : List ℤ) (en : Entered p (p .count) u) (r : rising (tr
         rate = en .disk;
         depth = en .depth;
         count = same-count;
-        entry = λ i hi. ap (entryOf (treeOf u)) (same-node i hi) ∙ shown-entry (treeOf u) (p .entry i) (en .node i hi);
+        entry = λ i hi. ap (entryOf (treeOf u)) (same-node i hi) ∙ shown-entry (treeOf u) (p .entry i) (known i hi) (en .node i hi);
       }
 
 -- What an accepted plan leaves.
@@ -101,8 +103,11 @@ plan-keeps t s h = rw (plan-table t s h) (from-facts _ (plan-entered t s h .orde
 
 -- What is read from an accepted plan is written as that plan: as what it says, and to the byte.
 pub read-plan : (t : List ℤ) (s : List ℕ) → planRefusal t s ≡ 0 → SamePlan (planOf (planTable t s)) (planIn s)
-read-plan t s h = rw (plan-table t s h) (entered-plan (planIn s) (joinedFor t (planIn s)) (plan-entered t s h) (plan-accepted t s h .rising))
+unfolding planIn
+read-plan t s h =
+    let a = plan-accepted t s h in
+    rw (plan-table t s h) (entered-plan (planIn s) (joinedFor t (planIn s)) (formed-facts s (a .formed) .kind) (plan-entered t s h) (a .rising))
 
-pub read-written : (t : List ℤ) (s : List ℕ) → planRefusal t s ≡ 0 → ((i : ℕ) → i < length s → byteAt s i < 256) → planBytes (planTable t s) ≡ s
+pub read-written : (t : List ℤ) (s : List ℕ) → planRefusal t s ≡ 0 → ((i : ℕ) → i < length s → byteAt s i < byteValues) → planBytes (planTable t s) ≡ s
 unfolding planBytes
 read-written t s h small = same-bytes (planOf (planTable t s)) (planIn s) (read-plan t s h) ∙ read-bytes s (plan-accepted t s h .formed) small

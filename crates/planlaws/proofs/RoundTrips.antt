@@ -1,6 +1,6 @@
 -- The two round trips as the calls see them. What write leaves in a buffer is accepted by read into any table of right
 -- length, and same says yes. What read accepts is written back to the byte. Tables are the same exactly when their plans are.
-use Prim.Native.Nat.{ℕ, _+_, _*_, _≤_, _<_}
+use Prim.Native.Nat.{ℕ, _≤_, _<_}
 use mathlib.Core.Path.{_≡_, refl, sym, ap, _∙_}
 use mathlib.Core.Bool.{true, not}
 use mathlib.Core.Logic.{_↔_}
@@ -17,6 +17,7 @@ use Rattle.numbers.proofs.Tests.{cond-true}
 use Rattle.numbers.proofs.Every.{head-holds, rest-hold, none-left, holds-with}
 use Rattle.numbers.proofs.Parts.{eq-same, same-eq}
 use Rattle.numbers.proofs.All.{all-at, all-intro}
+use Rattle.table.specs.Limits.{tableLength, nodes, rateAt, root}
 use Rattle.table.specs.Places.{place, rate}
 use Rattle.table.specs.Tree.{treeOf}
 use Rattle.table.specs.Order.{inOrder}
@@ -25,7 +26,8 @@ use Rattle.table.specs.Calls.{done, sameTree, sameRefusal, sameAnswer}
 use Rattle.table.proofs.Facts.{facts}
 use Rattle.table.proofs.Refusals.{none-first, first-none, first-end, outcome-accepted}
 use Rattle.treelaws.proofs.Renewed.{same-tree-below}
-use Rattle.layout.specs.Bytes.{byteAt}
+use Rattle.layout.specs.Bytes.{byteValues, byteAt}
+use Rattle.layout.specs.Format.{planLength}
 use Rattle.planlaws.specs.Reading.{planRefusal, planTable, planAnswer}
 use Rattle.planlaws.specs.Writing.{order, planOf, planBytes, writeRefusal, writeBuffer, writeAnswer}
 use Rattle.layout.proofs.Codec.{length-bytes}
@@ -34,20 +36,20 @@ use Rattle.planlaws.proofs.WrittenRead.{written-accepted, written-place
 
 -- What same compares.
 pub record SamePlaces (a b : List ℤ) : Type 0 where
-  pub places : (k p : ℕ) → k < 64 → p < 6 → place a k p ≡ place b k p
-  pub disk : place a 0 6 ≡ place b 0 6
+  pub places : (k p : ℕ) → k < nodes → p < rateAt → place a k p ≡ place b k p
+  pub disk : place a root rateAt ≡ place b root rateAt
 
 pub facts-same : (a b : List ℤ) → SamePlaces a b → sameTree a b ≡ true
 unfolding sameTree
 facts-same a b h =
-    holds-with _ _ (all-intro 64 (λ k. allBelow 6 (λ p. sameℤ (place a k p) (place b k p))) (λ k hk. all-intro 6 (λ p. sameℤ (place a k p) (place b k p)) (λ p hp. eq-same _ _ (h .places k p hk hp))))
+    holds-with _ _ (all-intro nodes (λ k. allBelow rateAt (λ p. sameℤ (place a k p) (place b k p))) (λ k hk. all-intro rateAt (λ p. sameℤ (place a k p) (place b k p)) (λ p hp. eq-same _ _ (h .places k p hk hp))))
     (holds-with _ _ (eq-same _ _ (h .disk)) none-left)
 
 pub same-facts : (a b : List ℤ) → sameTree a b ≡ true → SamePlaces a b
 unfolding sameTree
 same-facts a b h =
     record {
-      places = λ k p hk hp. same-eq _ _ (all-at 6 (λ p. sameℤ (place a k p) (place b k p)) (all-at 64 (λ k. allBelow 6 (λ p. sameℤ (place a k p) (place b k p))) (head-holds _ _ h) k hk) p hp);
+      places = λ k p hk hp. same-eq _ _ (all-at rateAt (λ p. sameℤ (place a k p) (place b k p)) (all-at nodes (λ k. allBelow rateAt (λ p. sameℤ (place a k p) (place b k p))) (head-holds _ _ h) k hk) p hp);
       disk = same-eq _ _ (head-holds _ _ (rest-hold _ _ h));
     }
 
@@ -58,11 +60,11 @@ same-answer a b ha hb h =
     ∙ ap (λ (z : ℤ). accepted (z ∷ [])) (cond-true (sameTree a b) (pos 1) (pos 0) h)
 
 -- A table in order and what its plan is read to are the same.
-pub written-same : (t u : List ℤ) → inOrder t ≡ true → length u ≡ 2568 → sameTree t (planTable u (planBytes t)) ≡ true
+pub written-same : (t u : List ℤ) → inOrder t ≡ true → length u ≡ tableLength → sameTree t (planTable u (planBytes t)) ≡ true
 written-same t u h long =
     facts-same t (planTable u (planBytes t)) (record { places = λ k p hk hp. sym (written-place t u h long k p hk hp); disk = sym (written-disk t u h long) })
 
-pub written-answer : (t u : List ℤ) → inOrder t ≡ true → length u ≡ 2568 → sameAnswer t (planTable u (planBytes t)) ≡ accepted (pos 1 ∷ [])
+pub written-answer : (t u : List ℤ) → inOrder t ≡ true → length u ≡ tableLength → sameAnswer t (planTable u (planBytes t)) ≡ accepted (pos 1 ∷ [])
 written-answer t u h long =
     same-answer t (planTable u (planBytes t)) h (plan-keeps u (planBytes t) (written-accepted t u h long)) (written-same t u h long)
 
@@ -84,11 +86,11 @@ same-plans a b ha hb = (there, back)
         facts-same a b
         (record {
           places = λ k p hk hp. sym (written-place a a ha long k p hk hp) ∙ ap (λ (v : List ℤ). place v k p) same ∙ written-place b a hb long k p hk hp;
-          disk = sym (written-disk a a ha long) ∙ ap (λ (v : List ℤ). place v 0 6) same ∙ written-disk b a hb long;
+          disk = sym (written-disk a a ha long) ∙ ap (λ (v : List ℤ). place v root rateAt) same ∙ written-disk b a hb long;
         })
 
 -- What an accepted write has passed and left.
-pub length-plan : (t : List ℤ) → length (planBytes t) ≡ 9 + 11 * length (order (treeOf t))
+pub length-plan : (t : List ℤ) → length (planBytes t) ≡ planLength (length (order (treeOf t)))
 unfolding planBytes planOf
 length-plan t = length-bytes (planOf t)
 
@@ -119,7 +121,7 @@ pub record ReadsBack (t u : List ℤ) (s : List ℕ) : Type 0 where
   pub answer : planAnswer u s ≡ accepted done
   pub same : sameAnswer t (planTable u s) ≡ accepted (pos 1 ∷ [])
 
-pub write-then-read : (t u : List ℤ) (buffer : List ℕ) → writeRefusal t buffer ≡ 0 → length u ≡ 2568 → ReadsBack t u (take (length (planBytes t)) (writeBuffer t buffer))
+pub write-then-read : (t u : List ℤ) (buffer : List ℕ) → writeRefusal t buffer ≡ 0 → length u ≡ tableLength → ReadsBack t u (take (length (planBytes t)) (writeBuffer t buffer))
 unfolding planAnswer
 write-then-read t u buffer h long =
     let order = write-passed t buffer h .order in
@@ -131,7 +133,7 @@ pub record WritesBack (t : List ℤ) (s buffer : List ℕ) : Type 0 where
   pub answer : writeAnswer t buffer ≡ accepted (pos (length s) ∷ [])
   pub bytes : writeBuffer t buffer ≡ s ++ drop (length s) buffer
 
-pub read-then-write : (t : List ℤ) (s buffer : List ℕ) → planRefusal t s ≡ 0 → ((i : ℕ) → i < length s → byteAt s i < 256) → length s ≤ length buffer → WritesBack (planTable t s) s buffer
+pub read-then-write : (t : List ℤ) (s buffer : List ℕ) → planRefusal t s ≡ 0 → ((i : ℕ) → i < length s → byteAt s i < byteValues) → length s ≤ length buffer → WritesBack (planTable t s) s buffer
 unfolding writeAnswer
 read-then-write t s buffer h small room =
     let same = read-written t s h small in

@@ -6,6 +6,7 @@ use mathlib.Core.List.{List}
 use borrow.Author.Tests.{eq-eqb, ne-eqb}
 use lib.ListN.{length, length-replicate}
 use lib.IntN.{ℤ, pos}
+use Rattle.table.specs.Limits.{tableLength, nodes, lastLevel}
 use Rattle.table.specs.Tree.{treeOf}
 use Rattle.table.specs.Calls.{blank, openRefusal}
 use Rattle.table.proofs.Refusals.{first-here, first-past}
@@ -15,34 +16,34 @@ use Rattle.planlaws.proofs.Accepted.{refusing-here, refusing-past, entr
 use Rattle.planlaws.proofs.Entered.{shown-there, entered}
 use Rattle.planlaws.proofs.Planned.{level-small}
 
-pub wrong-length : (t : List ℤ) (s : List ℕ) → (length t ≡ 2568 → ⊥) → planRefusal t s ≡ 1
+pub wrong-length : (t : List ℤ) (s : List ℕ) → (length t ≡ tableLength → ⊥) → planRefusal t s ≡ 1
 unfolding planRefusal
-wrong-length t s ne = first-here 1 _ _ (ap not (ne-eqb (length t) 2568 ne))
+wrong-length t s ne = first-here 1 _ _ (ap not (ne-eqb (length t) tableLength ne))
 
 -- The check gives what any table of right length gives.
-pub check-any : (t : List ℤ) (s : List ℕ) → length t ≡ 2568 → checkAnswer s ≡ planRefusal t s
+pub check-any : (t : List ℤ) (s : List ℕ) → length t ≡ tableLength → checkAnswer s ≡ planRefusal t s
 unfolding checkAnswer blank
-check-any t s long = plan-refusal-any blank t s (length-replicate 2568 (pos 0) ∙ sym long)
+check-any t s long = plan-refusal-any blank t s (length-replicate tableLength (pos 0) ∙ sym long)
 
-module _ (t : List ℤ) (s : List ℕ) (long : length t ≡ 2568) where
+module _ (t : List ℤ) (s : List ℕ) (long : length t ≡ tableLength) where
   pub wrong-form : formed s ≡ false → planRefusal t s ≡ 14
   unfolding planRefusal
-  wrong-form h = first-past 1 _ _ (ap not (eq-eqb (length t) 2568 long)) ∙ first-here 14 _ _ (ap not h)
+  wrong-form h = first-past 1 _ _ (ap not (eq-eqb (length t) tableLength long)) ∙ first-here 14 _ _ (ap not h)
 
   module _ (right : formed s ≡ true) where
     pub wrong-open : (openRefusal t (pos (planIn s .rate)) (pos (planIn s .depth)) ≡ 0 → ⊥) → planRefusal t s ≡ openRefusal t (pos (planIn s .rate)) (pos (planIn s .depth))
     unfolding planRefusal
-    wrong-open ne = first-past 1 _ _ (ap not (eq-eqb (length t) 2568 long)) ∙ first-past 14 _ _ (ap not right) ∙ refusing-here _ _ ne
+    wrong-open ne = first-past 1 _ _ (ap not (eq-eqb (length t) tableLength long)) ∙ first-past 14 _ _ (ap not right) ∙ refusing-here _ _ ne
 
     module _ (opens : openRefusal t (pos (planIn s .rate)) (pos (planIn s .depth)) ≡ 0) where
       pub wrong-join : (entriesRefusal (openedFor t (planIn s)) (planIn s) (planIn s .count) ≡ 0 → ⊥) → planRefusal t s ≡ entriesRefusal (openedFor t (planIn s)) (planIn s) (planIn s .count)
       unfolding planRefusal
-      wrong-join ne = first-past 1 _ _ (ap not (eq-eqb (length t) 2568 long)) ∙ first-past 14 _ _ (ap not right) ∙ refusing-past _ _ opens ∙ refusing-here _ _ ne
+      wrong-join ne = first-past 1 _ _ (ap not (eq-eqb (length t) tableLength long)) ∙ first-past 14 _ _ (ap not right) ∙ refusing-past _ _ opens ∙ refusing-here _ _ ne
 
       pub wrong-order : entriesRefusal (openedFor t (planIn s)) (planIn s) (planIn s .count) ≡ 0 → rising (treeOf (joinedFor t (planIn s))) (planIn s) ≡ false → planRefusal t s ≡ 15
       unfolding planRefusal
       wrong-order joins h =
-          first-past 1 _ _ (ap not (eq-eqb (length t) 2568 long))
+          first-past 1 _ _ (ap not (eq-eqb (length t) tableLength long))
           ∙ first-past 14 _ _ (ap not right)
           ∙ refusing-past _ _ opens
           ∙ refusing-past _ _ joins
@@ -59,7 +60,7 @@ module _ (t : List ℤ) (s : List ℕ) (u v : List ℤ) (n : ℕ) where
   unfolding joinedFor
   joined-for opened joined all = cc (plan-count s)
 
-  pub joined-entries : openRefusal t (pos (planIn s .rate)) (pos (planIn s .depth)) ≡ 0 → v ≡ openedFor t (planIn s) → u ≡ afterEntries v (planIn s) n → entriesRefusal v (planIn s) n ≡ 0 → (i : ℕ) → i < n → (planIn s .entry i .node < 64) × (treeOf u .level (planIn s .entry i .node) ≤ 4)
+  pub joined-entries : openRefusal t (pos (planIn s .rate)) (pos (planIn s .depth)) ≡ 0 → v ≡ openedFor t (planIn s) → u ≡ afterEntries v (planIn s) n → entriesRefusal v (planIn s) n ≡ 0 → (i : ℕ) → i < n → (planIn s .entry i .node < nodes) × (treeOf u .level (planIn s .entry i .node) ≤ lastLevel)
   joined-entries opens opened joined joins i hi =
       let shows = entered t (planIn s) opens n (entries-each (openedFor t (planIn s)) (planIn s) n (rw opened at joins)) in
       let node = shows .node i hi in

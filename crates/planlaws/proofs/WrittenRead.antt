@@ -16,20 +16,19 @@ use Rattle.numbers.proofs.Tests.{by-test, true-false}
 use Rattle.numbers.proofs.Every.{none-left, holds-with}
 use Rattle.numbers.proofs.Parts.{pos-of-within}
 use Rattle.numbers.proofs.All.{below-cases, all-intro}
+use Rattle.table.specs.Limits.{tableLength, nodes, lastNode, depthAt, rateAt, class, client, fixed, weighted, root, lastLevel, wholeShare, greatestDepth, greatestRate}
 use Rattle.table.specs.Places.{place, rate}
 use Rattle.table.specs.Tree.{treeOf, there}
 use Rattle.table.specs.Order.{inOrder}
 use Rattle.table.specs.Calls.{openRefusal}
-use Rattle.table.proofs.Facts.{InOrder, Limits, facts}
+use Rattle.table.proofs.Facts.{InOrder, Limits, facts, root-there}
 use Rattle.table.proofs.Refusals.{first-none, first-end}
-use Rattle.treelaws.specs.Joins.{refusalOf}
 use Rattle.treelaws.proofs.Renewed.{same-tree-below}
 use Rattle.table.proofs.Edits.{SameNode}
 use Rattle.calllaws.proofs.Nodes.{there-same}
-use Rattle.calllaws.proofs.Ready.{root-there}
 use Rattle.layout.specs.Format.{Entry, Plan, planIn, formed}
-use Rattle.planlaws.specs.Reading.{joinOf, afterEntries, openedFor, joinedFor, standing, rising, planRefusal, planTable}
-use Rattle.planlaws.specs.Writing.{order, entryOf, planOf, planBytes}
+use Rattle.planlaws.specs.Reading.{entryRefusal, afterEntries, openedFor, joinedFor, standing, rising, planRefusal, planTable}
+use Rattle.planlaws.specs.Writing.{standings, order, entryOf, planOf, planBytes}
 use Rattle.layout.proofs.Codec.{SamePlan, written-formed, written-plan}
 use Rattle.planlaws.proofs.Rising.{found-below}
 use Rattle.planlaws.proofs.Listing.{Listed, listed, listed-node, listed-found, listed-rises, level-listed}
@@ -40,26 +39,26 @@ use Rattle.planlaws.proofs.Joinable.{Next, joinable}
 use Rattle.planlaws.proofs.Planned.{level-small, kind-sort, kind-share, entry-join, listed-limits, plan-fits, listed-parent}
 
 -- The root's rate and depth as whole numbers.
-disk-number : (t : List ℤ) → InOrder t → pos (rate t 0) ≡ place t 0 6
+disk-number : (t : List ℤ) → InOrder t → pos (rate t root) ≡ place t root rateAt
 unfolding rate
-disk-number t f = pos-of-within 1 1000000000 (place t 0 6) (f .root .rate)
+disk-number t f = pos-of-within 1 greatestRate (place t root rateAt) (f .root .rate)
 
-depth-number : (t : List ℤ) → InOrder t → pos (treeOf t .depth 0) ≡ place t 0 5
+depth-number : (t : List ℤ) → InOrder t → pos (treeOf t .depth root) ≡ place t root depthAt
 unfolding treeOf
-depth-number t f = pos-of-within 1 1000000 (place t 0 5) (f .limits 0 (omega arith) (root-there t (f .root)) .depth)
+depth-number t f = pos-of-within 1 greatestDepth (place t root depthAt) (f .limits root (omega arith) (root-there t (f .root)) .depth)
 
 -- Nodes in their limits that show the same have the same places.
 same-number : (low high : ℕ) (a b : ℤ) → withinℤ low high a ≡ true → withinℤ low high b ≡ true → plus a ≡ plus b → a ≡ b
 same-number low high a b ha hb e = sym (pos-of-within low high a ha) ∙ ap pos e ∙ pos-of-within low high b hb
 
-shown-places : (v t : List ℤ) (k : ℕ) → SameNode (treeOf v) (treeOf t) k → Limits v k → Limits t k → (p : ℕ) → p < 6 → place v k p ≡ place t k p
+shown-places : (v t : List ℤ) (k : ℕ) → SameNode (treeOf v) (treeOf t) k → Limits v k → Limits t k → (p : ℕ) → p < rateAt → place v k p ≡ place t k p
 unfolding treeOf
-shown-places v t k n a b zero hp = same-number 1 2 _ _ (a .sort) (b .sort) (n .sort)
-shown-places v t k n a b (suc zero) hp = same-number 0 63 _ _ (a .parent) (b .parent) (n .parent)
-shown-places v t k n a b (suc (suc zero)) hp = same-number 0 4 _ _ (a .level) (b .level) (n .level)
-shown-places v t k n a b (suc (suc (suc zero))) hp = same-number 0 1 _ _ (a .kind) (b .kind) (n .kind)
-shown-places v t k n a b (suc (suc (suc (suc zero)))) hp = same-number 1 10000 _ _ (a .share) (b .share) (n .share)
-shown-places v t k n a b (suc (suc (suc (suc (suc zero))))) hp = same-number 1 1000000 _ _ (a .depth) (b .depth) (n .depth)
+shown-places v t k n a b zero hp = same-number class client _ _ (a .sort) (b .sort) (n .sort)
+shown-places v t k n a b (suc zero) hp = same-number 0 lastNode _ _ (a .parent) (b .parent) (n .parent)
+shown-places v t k n a b (suc (suc zero)) hp = same-number 0 lastLevel _ _ (a .level) (b .level) (n .level)
+shown-places v t k n a b (suc (suc (suc zero))) hp = same-number fixed weighted _ _ (a .kind) (b .kind) (n .kind)
+shown-places v t k n a b (suc (suc (suc (suc zero)))) hp = same-number 1 wholeShare _ _ (a .share) (b .share) (n .share)
+shown-places v t k n a b (suc (suc (suc (suc (suc zero))))) hp = same-number 1 greatestDepth _ _ (a .depth) (b .depth) (n .depth)
 shown-places v t k n a b (suc (suc (suc (suc (suc (suc p)))))) hp = absurd (omega arith)
 
 -- A plan q that says what the plan of t says.
@@ -85,7 +84,7 @@ module _ (t : List ℤ) (f : InOrder t) (q : Plan) (same : SamePlan q (planOf t)
     unfolding entryOf
     there-node l hl = shown-there (treeOf v) (entryOf (treeOf t) (listed (treeOf t) l)) (shown-node l hl)
 
-    root-same : SameNode (treeOf v) (treeOf t) 0
+    root-same : SameNode (treeOf v) (treeOf t) root
     unfolding treeOf planOf
     root-same =
         record {
@@ -106,7 +105,7 @@ module _ (t : List ℤ) (f : InOrder t) (q : Plan) (same : SamePlan q (planOf t)
         let c = treeOf t .parent k in
         let x = listed-node (treeOf t) l (omega arith) in
         let above : treeOf v .level c ≡ treeOf t .level c =
-        elim (ℕ-discrete c 0) [
+        elim (ℕ-discrete c root) [
           | yes z ↦ rw z (root-same .level)
           | no ne ↦ let w = listed-parent t f l (omega arith) ne in rw (← w .2) (node-level m (w .0) (omega (arith, w .1)) (omega (arith, w .1)))
         ] in
@@ -132,7 +131,7 @@ module _ (t : List ℤ) (f : InOrder t) (q : Plan) (same : SamePlan q (planOf t)
     shows-part =
         record {
           same = λ k hk e.
-              elim (ℕ-discrete k 0) [
+              elim (ℕ-discrete k root) [
                 | yes z ↦ rw z root-same
                 | no ne ↦
                     elim (found-below n (listed (treeOf t)) k) [
@@ -158,38 +157,39 @@ module _ (t : List ℤ) (f : InOrder t) (q : Plan) (same : SamePlan q (planOf t)
         k : ℕ
         k = listed (treeOf t) n
 
-        x : Listed (treeOf t) 320 k
+        x : Listed (treeOf t) standings k
         x = listed-node (treeOf t) n hn
 
         above : there (treeOf v) (treeOf t .parent k) ≡ true
         above =
-            elim (ℕ-discrete (treeOf t .parent k) 0) [
+            elim (ℕ-discrete (treeOf t .parent k) root) [
               | yes z ↦ rw z (root-there v (en .order .root))
               | no ne ↦ let w = listed-parent t f n hn ne in rw (← w .2) (there-node (w .0) (w .1))
             ]
 
-    next-accepted : n < length (order (treeOf t)) → refusalOf v (joinOf (q .entry n)) ≡ 0
+    next-accepted : n < length (order (treeOf t)) → entryRefusal v (q .entry n) ≡ 0
+    unfolding entryRefusal
     next-accepted hn =
         rw (entry-is n hn, entry-join t (listed (treeOf t) n) (listed-limits t f n hn)) (joinable t v (listed (treeOf t) n) (next-node hn))
 
   -- Opening for q and joining its entries into a table u of right length.
-  module _ (u : List ℤ) (long : length u ≡ 2568) where
+  module _ (u : List ℤ) (long : length u ≡ tableLength) where
     opens : openRefusal u (pos (q .rate)) (pos (q .depth)) ≡ 0
     unfolding openRefusal planOf
     opens =
-        first-none 1 _ _ (ap not (eq-eqb (length u) 2568 long))
+        first-none 1 _ _ (ap not (eq-eqb (length u) tableLength long))
         (first-none 2 _ _ (ap not (holds-with _ _ (rw rate-is (f .root .rate)) (holds-with _ _ (rw depth-is (limits .depth)) none-left))) first-end)
       where
-        limits : Limits t 0
-        limits = f .limits 0 (omega arith) (root-there t (f .root))
+        limits : Limits t root
+        limits = f .limits root (omega arith) (root-there t (f .root))
 
-        rate-is : pos (q .rate) ≡ place t 0 6
+        rate-is : pos (q .rate) ≡ place t root rateAt
         rate-is = ap pos (same .rate) ∙ disk-number t f
 
-        depth-is : pos (q .depth) ≡ place t 0 5
+        depth-is : pos (q .depth) ≡ place t root depthAt
         depth-is = ap pos (same .depth) ∙ depth-number t f
 
-    each-accepted : (n : ℕ) → n ≤ length (order (treeOf t)) → (i : ℕ) → i < n → refusalOf (afterEntries (openedFor u q) q i) (joinOf (q .entry i)) ≡ 0
+    each-accepted : (n : ℕ) → n ≤ length (order (treeOf t)) → (i : ℕ) → i < n → entryRefusal (afterEntries (openedFor u q) q i) (q .entry i) ≡ 0
     each-accepted zero hn i hi = absurd (omega arith)
     each-accepted (suc n) hn i hi =
         let before = each-accepted n (omega arith) in
@@ -203,14 +203,14 @@ module _ (t : List ℤ) (f : InOrder t) (q : Plan) (same : SamePlan q (planOf t)
         (entered u q opens (length (order (treeOf t))) (each-accepted (length (order (treeOf t))) (omega arith)))
 
     -- A node of t is there, and shown as it is; where t has none, there is none.
-    node-there : (k : ℕ) → k < 64 → there (treeOf t) k ≡ true → there (treeOf (joinedFor u q)) k ≡ true
+    node-there : (k : ℕ) → k < nodes → there (treeOf t) k ≡ true → there (treeOf (joinedFor u q)) k ≡ true
     node-there k hk e =
-        elim (ℕ-discrete k 0) [
+        elim (ℕ-discrete k root) [
           | yes z ↦ rw z (root-there (joinedFor u q) (all-entered .order .root))
           | no ne ↦ let w = listed-found (treeOf t) k (level-listed (treeOf t) k hk ne e (level-small t k f hk e)) in rw (← w .2) (there-node (length (order (treeOf t))) (omega arith) (joinedFor u q) all-entered (w .0) (w .1))
         ]
 
-    joined-place : (k p : ℕ) → k < 64 → p < 6 → place (joinedFor u q) k p ≡ place t k p
+    joined-place : (k p : ℕ) → k < nodes → p < rateAt → place (joinedFor u q) k p ≡ place t k p
     joined-place k p hk hp =
         by-test (there (treeOf t) k)
         (λ e.
@@ -224,7 +224,7 @@ module _ (t : List ℤ) (f : InOrder t) (q : Plan) (same : SamePlan q (planOf t)
     joined-tree : treeOf (joinedFor u q) ≡ treeOf t
     joined-tree = same-tree-below (joinedFor u q) t (all-entered .order .long) (f .long) joined-place
 
-    joined-disk : place (joinedFor u q) 0 6 ≡ place t 0 6
+    joined-disk : place (joinedFor u q) root rateAt ≡ place t root rateAt
     unfolding planOf
     joined-disk = sym (disk-number (joinedFor u q) (all-entered .order)) ∙ ap pos (all-entered .disk ∙ same .rate) ∙ disk-number t f
 
@@ -240,7 +240,7 @@ module _ (t : List ℤ) (f : InOrder t) (q : Plan) (same : SamePlan q (planOf t)
             (lt-ltb _ _ (listed-rises (treeOf t) .up i (suc i) (omega arith) (omega (arith, count-is))))
 
 -- What was written is accepted, and the table shows the same tree and disk rate.
-module _ (t u : List ℤ) (h : inOrder t ≡ true) (long : length u ≡ 2568) where
+module _ (t u : List ℤ) (h : inOrder t ≡ true) (long : length u ≡ tableLength) where
   says : SamePlan (planIn (planBytes t)) (planOf t)
   unfolding planBytes
   says = written-plan (planOf t) (plan-fits t (facts t h))
@@ -260,15 +260,15 @@ module _ (t u : List ℤ) (h : inOrder t ≡ true) (long : length u ≡ 2568) wh
         rising = joined-rising t (facts t h) (planIn (planBytes t)) says u long;
       })
 
-  pub written-place : (k p : ℕ) → k < 64 → p < 6 → place (planTable u (planBytes t)) k p ≡ place t k p
+  pub written-place : (k p : ℕ) → k < nodes → p < rateAt → place (planTable u (planBytes t)) k p ≡ place t k p
   written-place k p hk hp = rw (plan-table u (planBytes t) written-accepted) (joined-place t (facts t h) (planIn (planBytes t)) says u long k p hk hp)
 
-  pub written-disk : place (planTable u (planBytes t)) 0 6 ≡ place t 0 6
+  pub written-disk : place (planTable u (planBytes t)) root rateAt ≡ place t root rateAt
   written-disk = rw (plan-table u (planBytes t) written-accepted) (joined-disk t (facts t h) (planIn (planBytes t)) says u long)
 
   pub written-tree : treeOf (planTable u (planBytes t)) ≡ treeOf t
   written-tree = rw (plan-table u (planBytes t) written-accepted) (joined-tree t (facts t h) (planIn (planBytes t)) says u long)
 
-  pub written-rate : rate (planTable u (planBytes t)) 0 ≡ rate t 0
+  pub written-rate : rate (planTable u (planBytes t)) root ≡ rate t root
   unfolding rate
   written-rate = ap plus written-disk

@@ -1,25 +1,19 @@
 -- Reading a plan opens a table and joins the entries in turn. Document 01, "Same tree, and the plan file" and "What is
 -- turned back".
-use Prim.Native.Nat.{ℕ, zero, suc, _+_, _*_, _-_, _/_, _%_}
+use Prim.Native.Nat.{ℕ, zero, suc, _+_, _*_, _-_}
 use mathlib.Core.Bool.{Bool, not}
 use mathlib.Core.List.{List, [], _∷_}
 use lib.ListN.{length}
 use lib.Dec.{eqb, ltb}
 use lib.IntN.{ℤ, pos}
 use Rattle.numbers.specs.Below.{allBelow, forBelow}
-use Rattle.table.specs.Limits.{tableLength, nodes, class}
+use Rattle.table.specs.Limits.{tableLength, nodes}
 use Rattle.table.specs.Tree.{Tree, treeOf}
 use Rattle.table.specs.Refusals.{Cause, cause, first, Outcome, outcome, kept}
 use Rattle.table.specs.Calls.{done, blank, openRefusal, openTable}
 use Rattle.treelaws.specs.Joins.{Join, refusalOf, afterJoin}
+use Rattle.layout.specs.Kinds.{sortOf, shareKindOf}
 use Rattle.layout.specs.Format.{Entry, Plan, planIn, formed}
-
--- The sort and the share kind that a plan's kind stands for.
-unfoldable pub sortOf : ℕ → ℕ
-sortOf kind = class + kind / 2
-
-unfoldable pub shareKindOf : ℕ → ℕ
-shareKindOf kind = kind % 2
 
 -- The join that an entry asks for.
 unfoldable pub joinOf : Entry → Join
@@ -33,9 +27,16 @@ joinOf e =
       depth = pos (e .depth);
     }
 
+-- The refusal of that join, and the table after it.
+unfoldable pub entryRefusal : List ℤ → Entry → ℕ
+entryRefusal t e = refusalOf t (joinOf e)
+
+unfoldable pub afterEntry : List ℤ → Entry → List ℤ
+afterEntry t e = afterJoin t (joinOf e)
+
 -- The table after the first n entries of plan p are joined to t in turn.
 unfoldable pub afterEntries : List ℤ → Plan → ℕ → List ℤ
-afterEntries t p n = forBelow n (λ i u. afterJoin u (joinOf (p .entry i))) t
+afterEntries t p n = forBelow n (λ i u. afterEntry u (p .entry i)) t
 
 -- The refusal of a call as a cause.
 unfoldable pub refusing : ℕ → Cause
@@ -45,7 +46,7 @@ refusing number = cause number (not (eqb number 0))
 unfoldable pub entriesRefusal : List ℤ → Plan → ℕ → ℕ
 entriesRefusal t p zero = 0
 entriesRefusal t p (suc n) =
-    first (refusing (entriesRefusal t p n) ∷ refusing (refusalOf (afterEntries t p n) (joinOf (p .entry n))) ∷ [])
+    first (refusing (entriesRefusal t p n) ∷ refusing (entryRefusal (afterEntries t p n) (p .entry n)) ∷ [])
 
 -- The table opened for plan p, and with all its entries joined.
 unfoldable pub openedFor : List ℤ → Plan → List ℤ

@@ -1,19 +1,24 @@
 -- Writing the plan of a table. Document 01, "Same tree, and the plan file" and "What is turned back".
-use Prim.Native.Nat.{ℕ, zero, suc, _+_, _*_, _-_, _/_, _%_}
+use Prim.Native.Nat.{ℕ, zero, suc, _*_, _/_, _%_}
 use mathlib.Core.Bool.{Bool, not, cond}
 use mathlib.Core.List.{List, [], _∷_, _++_}
 use lib.ListN.{length, getD, drop}
 use lib.Dec.{eqb, ltb}
 use lib.IntN.{ℤ, pos}
 use Rattle.numbers.specs.Tests.{every}
-use Rattle.table.specs.Limits.{nodes, root, class, lastLevel}
+use Rattle.table.specs.Limits.{nodes, root, lastLevel}
 use Rattle.table.specs.Places.{rate}
 use Rattle.table.specs.Tree.{Tree, treeOf, there}
 use Rattle.table.specs.Order.{inOrder}
 use Rattle.table.specs.Refusals.{cause, first, Outcome, outcome}
+use Rattle.layout.specs.Kinds.{kindOf}
 use Rattle.layout.specs.Format.{Entry, Plan, bytesOf}
 
--- Whether node m % 64 is there at level m / 64 and is not the root.
+-- How many pairs of a level and a number there are.
+abbrev pub standings : ℕ
+standings = nodes * suc lastLevel
+
+-- Whether node m % nodes is there at level m / nodes and is not the root.
 unfoldable pub stands : Tree → ℕ → Bool
 stands tree m =
     every (there tree (m % nodes) ∷ not (eqb (m % nodes) root) ∷ eqb (tree .level (m % nodes)) (m / nodes) ∷ [])
@@ -25,11 +30,7 @@ orderBelow tree zero = []
 orderBelow tree (suc m) = orderBelow tree m ++ cond (stands tree m) (m % nodes ∷ []) []
 
 unfoldable pub order : Tree → List ℕ
-order tree = orderBelow tree (nodes * suc lastLevel)
-
--- The plan's kind for a sort and a share kind.
-unfoldable pub kindOf : ℕ → ℕ → ℕ
-kindOf sort shareKind = 2 * (sort - class) + shareKind
+order tree = orderBelow tree standings
 
 -- The entry of node k.
 unfoldable pub entryOf : Tree → ℕ → Entry

@@ -1,6 +1,6 @@
 // Reading a plan opens a table and joins the entries in turn. Document 01, "Same tree, and the plan file".
 ghost use mathlib.Core.Path.{_≡_};
-ghost use Prim.Native.Nat.{_+_, _≤_, _<_};
+ghost use Prim.Native.Nat.{_≤_, _<_};
 ghost use lib.ListN.{length, getD};
 ghost use lib.IntN.{pos};
 ghost use Rattle.table.specs.Limits.{tableLength};
@@ -8,6 +8,7 @@ ghost use Rattle.table.specs.Answers.{told};
 ghost use Rattle.table.specs.Calls.{openRefusal};
 ghost use Rattle.layout.specs.Format.{headLength, planIn, formed};
 ghost use Rattle.planlaws.specs.Reading.{openedFor, joinedFor, rising, planRefusal, planTable, planAnswer, checkAnswer};
+use layout::Format;
 use layout::bytes;
 use layout::forms;
 use table::Answer;
@@ -20,8 +21,8 @@ fn open_plan(table: &mut [i64], s: &[u8]) -> u64
     ensures small { λ r. ⌜ r ≤ 15 ⌝ }
     ensures table { λ _. ⌜ now (table .exit) ≡ openedFor (now (table .entry)) (planIn (now (s .entry))) ⌝ }
 {
-    let rate = numbers::whole(bytes::four(s, 0));
-    let depth = numbers::whole(bytes::four(s, 4));
+    let rate = numbers::whole(bytes::four(s, Format::DISK_RATE));
+    let depth = numbers::whole(bytes::four(s, Format::ROOT_DEPTH));
     table::number_told(Table::open(table, rate, depth))
 }
 
@@ -44,10 +45,7 @@ fn build(table: &mut [i64], s: &[u8]) -> u64
     if joining != 0 {
         return joining;
     }
-    if !entering::rising(table, s, n) {
-        return 15;
-    }
-    0
+    if entering::rising(table, s, n) { 0 } else { 15 }
 }
 
 // The refusal number, or 0, that reading a plan into a table of right length gives.

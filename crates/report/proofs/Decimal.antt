@@ -1,5 +1,5 @@
 -- The decimal digits of a number: what `io::decimal` puts, and how many there are.
-use Prim.Native.Nat.{ℕ, zero, suc, _+_, _-_, _/_, _%_, _^_, _≤_, _<_}
+use Prim.Native.Nat.{ℕ, zero, suc, _-_, _/_, _%_, _^_, _≤_, _<_}
 use mathlib.Core.Path.{_≡_, sym, ap, _∙_}
 use mathlib.Core.List.{List, [], _∷_, _++_}
 use native.Mathlib.Nat.{one-le-pow, pow-le-pow-right}
@@ -10,11 +10,11 @@ use lib.ListN.{length, length-append}
 use lib.Dec.{ltb}
 use Rattle.numbers.proofs.Tests.{by-test, cond-true, cond-false}
 use Rattle.io.specs.Digits.{glyph, digits, Fewest}
-use Rattle.report.specs.Text.{digit, decimalWithin, decimal}
+use Rattle.report.specs.Text.{mostDigits, digit, decimalWithin, decimal}
 
 -- The digits of `io` below 10.
 glyph-low : (d : ℕ) → d < 10 → glyph d ≡ digit d
-glyph-low d h = cond-true (ltb d 10) (48 + d) (87 + d) (lt-ltb d 10 h)
+glyph-low d h = cond-true (ltb d 10) (digit d) _ (lt-ltb d 10 h)
 
 one-digit : (m n : ℕ) → n < 10 → decimalWithin (suc m) n ≡ digit n ∷ []
 unfolding decimalWithin
@@ -39,19 +39,19 @@ within (suc m) n (suc (suc k)) le h =
     ∙ ap (λ (d : ℕ). decimalWithin m (n / 10) ++ (d ∷ [])) (glyph-low (n % 10) (omega arith))
     ∙ sym (more-digits m n (omega (arith, one-le-pow k 10 (omega arith))))
 
--- Below 2 ^ 64 there are at most 20.
-pub fewest-few : (n k : ℕ) → n < 2 ^ 64 → Fewest 10 1 n k → k ≤ 20
+-- So many at most has a number below 2 ^ 64.
+pub fewest-few : (n k : ℕ) → n < 2 ^ 64 → Fewest 10 1 n k → k ≤ mostDigits
 fewest-few n k small h =
-    by-test (ltb 20 k)
+    by-test (ltb mostDigits k)
     (λ e.
-    let many : 20 ≤ k - 1 = omega (arith, ltb-true 20 k e) in
-    let power : 10 ^ 20 ≤ 10 ^ (k - 1) = pow-le-pow-right (omega arith) many in
+    let many : mostDigits ≤ k - 1 = omega (arith, ltb-true mostDigits k e) in
+    let power : 10 ^ mostDigits ≤ 10 ^ (k - 1) = pow-le-pow-right (omega arith) many in
     absurd (omega (arith, h .2 (omega arith))))
-    (λ e. ltb-false 20 k e)
+    (λ e. ltb-false mostDigits k e)
 
 pub fewest-decimal : (n k : ℕ) → n < 2 ^ 64 → Fewest 10 1 n k → digits 10 k n ≡ decimal n
 unfolding decimal
-fewest-decimal n k small h = within 20 n k (fewest-few n k small h) h
+fewest-decimal n k small h = within mostDigits n k (fewest-few n k small h) h
 
 within-short : (m n : ℕ) → length (decimalWithin m n) ≤ m
 unfolding decimalWithin
@@ -61,6 +61,6 @@ within-short (suc m) n =
     (λ e. rw e (omega arith))
     (λ e. rw e (omega (arith, length-append (decimalWithin m (n / 10)) (digit (n % 10) ∷ []), within-short m (n / 10))))
 
-pub decimal-short : (n : ℕ) → length (decimal n) ≤ 20
+pub decimal-short : (n : ℕ) → length (decimal n) ≤ mostDigits
 unfolding decimal
-decimal-short n = within-short 20 n
+decimal-short n = within-short mostDigits n

@@ -9,6 +9,7 @@ use lib.IntN.{ℤ, pos}
 use Rattle.numbers.specs.Whole.{plus, withinℤ}
 use Rattle.numbers.specs.Tests.{every}
 use Rattle.numbers.specs.Below.{sumBelow, allBelow}
+use Rattle.table.specs.Limits.{tableLength, nodes, root}
 use Rattle.table.specs.Places.{place, put, rate}
 use Rattle.table.specs.Order.{inOrder}
 use Rattle.table.specs.Refusals.{first}
@@ -20,8 +21,9 @@ use Rattle.treelaws.specs.Joins.{Join, refusalOf, joinedBy}
 use Rattle.treelaws.proofs.Joined.{after-join}
 use Rattle.calllaws.proofs.Open.{opened-in-order}
 use Rattle.layout.specs.Bytes.{byteAt, le2, le4, bytesBelow}
+use Rattle.layout.specs.Kinds.{sortOf, shareKindOf}
 use Rattle.layout.specs.Format.{countIn, entryIn, planIn, entryFormed, formed}
-use Rattle.planlaws.specs.Reading.{sortOf, shareKindOf, joinOf, afterEntries, entriesRefusal, openedFor, joinedFor, rising, planRefusal, planTable, checkAnswer}
+use Rattle.planlaws.specs.Reading.{joinOf, entryRefusal, afterEntry, afterEntries, entriesRefusal, openedFor, joinedFor, rising, planRefusal, planTable, checkAnswer}
 use Rattle.planlaws.proofs.Accepted.{after-none, after-suc, entries-none, entries-suc, accepted-plan, plan-table, opened-for}
 use Rattle.report.specs.Text.{ascii, decimalWithin, decimal, sortText, nodeLine, linesOf, refusedLine, reportOf}
 use Rattle.report.proofs.Texts.{accepted-report}
@@ -89,13 +91,14 @@ first-join : afterEntries (openedFor blank (planIn sample)) (planIn sample) 0 �
 first-join = after-none _ _ ∙ opened-is
 
 joins-accepted : entriesRefusal (openedFor blank (planIn sample)) (planIn sample) 1 ≡ 0
+unfolding entryRefusal
 joins-accepted = entries-suc _ _ 0 (entries-none _ _) ∙ rw (first-join, join-is) join-accepted
 
 accepted : checkAnswer sample ≡ 0
 unfolding checkAnswer planIn entryIn countIn le4 le2 byteAt formed entryFormed every allBelow rising blank
 accepted =
     accepted-plan blank sample
-    (record { long = length-replicate 2568 (pos 0); formed = refl; opening = open-accepted; joining = joins-accepted; rising = refl })
+    (record { long = length-replicate tableLength (pos 0); formed = refl; opening = open-accepted; joining = joins-accepted; rising = refl })
 
 -- The table that it makes.
 all-joined : joinedFor blank (planIn sample) ≡ afterEntries (openedFor blank (planIn sample)) (planIn sample) 1
@@ -103,7 +106,7 @@ unfolding joinedFor planIn countIn byteAt
 all-joined = refl
 
 table-is : planTable blank sample ≡ renewed after
-unfolding checkAnswer after
+unfolding checkAnswer afterEntry after
 table-is =
     plan-table blank sample accepted
     ∙ all-joined
@@ -111,11 +114,11 @@ table-is =
     ∙ rw (first-join, join-is) (after-join before five join-accepted)
 
 -- Its lines.
-lines : bytesBelow 64 (lineIn (treeOf after) (rate after 0)) ≡ ascii "0 class 1000\n5 client 1000\n"
+lines : bytesBelow nodes (lineIn (treeOf after) (rate after root)) ≡ ascii "0 class 1000\n5 client 1000\n"
 unfolding after before five joinedBy joined opened blank lineIn nodeLine sortText decimal decimalWithin ascii bytesBelow there isClass isFixed childOf countIf sumUnder sumBelow every rate treeOf place put plus fixedShare weight fixedSum weightSum fixedRate leftRate weightedRate childRate rateAtLevel rateIn
 lines = refl
 
-long : length after ≡ 2568
+long : length after ≡ tableLength
 unfolding after before five joinedBy joined opened blank put plus
 long = refl
 

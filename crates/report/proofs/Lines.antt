@@ -1,4 +1,4 @@
--- A line has at most 49 bytes: 20 digits, 8 of the sort, 20 digits and the end.
+-- How long a line can be: the digits of the node, the word of the sort, the digits of the rate and the end.
 use Prim.Native.Nat.{ℕ, zero, suc, _+_, _*_, _≤_}
 use mathlib.Core.Path.{_≡_, sym}
 use mathlib.Core.Bool.{Bool, true, false}
@@ -10,23 +10,23 @@ use Rattle.numbers.proofs.Tests.{by-test, cond-true, cond-false}
 use Rattle.table.specs.Places.{rate}
 use Rattle.table.specs.Tree.{treeOf, there, isClass}
 use Rattle.layout.specs.Bytes.{bytesBelow}
-use Rattle.report.specs.Text.{ascii, decimal, sortText, nodeLine, line}
+use Rattle.report.specs.Text.{longestSort, longestLine, ascii, decimal, sortText, nodeLine, line}
 use Rattle.report.specs.Appended.{Appended}
 use Rattle.report.proofs.Appending.{append-more}
 use Rattle.report.proofs.Decimal.{decimal-short}
 
-pub sort-short : (class : Bool) → length (sortText class) ≤ 8
+pub sort-short : (class : Bool) → length (sortText class) ≤ longestSort
 unfolding sortText ascii
 sort-short true = omega arith
 sort-short false = omega arith
 
 module _ (node : ℕ) (class : Bool) (rate : ℕ) where
-  node-short : length (nodeLine node class rate) ≤ 49
+  node-short : length (nodeLine node class rate) ≤ longestLine
   unfolding nodeLine ascii
   node-short = simp length-append (omega (arith, decimal-short node, sort-short class, decimal-short rate))
 
   -- Node, sort, rate and the end put one behind the other.
-  pub node-appended : (b b1 b2 b3 b4 : List ℕ) (a n1 n2 n3 n4 : ℕ) → a + 49 ≤ length b → Appended b a (decimal node) b1 n1 → Appended b1 n1 (sortText class) b2 n2 → Appended b2 n2 (decimal rate) b3 n3 → Appended b3 n3 (ascii "\n") b4 n4 → Appended b a (nodeLine node class rate) b4 n4
+  pub node-appended : (b b1 b2 b3 b4 : List ℕ) (a n1 n2 n3 n4 : ℕ) → a + longestLine ≤ length b → Appended b a (decimal node) b1 n1 → Appended b1 n1 (sortText class) b2 n2 → Appended b2 n2 (decimal rate) b3 n3 → Appended b3 n3 (ascii "\n") b4 n4 → Appended b a (nodeLine node class rate) b4 n4
   unfolding nodeLine
   node-appended b b1 b2 b3 b4 a n1 n2 n3 n4 room one two three four =
       let number = decimal-short node in
@@ -48,13 +48,13 @@ module _ (t : List ℤ) where
   pub line-of : (k r : ℕ) (class : Bool) → there (treeOf t) k ≡ true → class ≡ isClass (treeOf t) k → r ≡ rate t k → nodeLine k class r ≡ line t k
   line-of k r class here sort rates = rw (sort, rates) (sym (line-there k here))
 
-  line-short : (k : ℕ) → length (line t k) ≤ 49
+  line-short : (k : ℕ) → length (line t k) ≤ longestLine
   line-short k =
       by-test (there (treeOf t) k)
       (λ h. rw (line-there k h) (node-short k (isClass (treeOf t) k) (rate t k)))
       (λ h. rw (line-none k h) (omega arith))
 
-  pub lines-short : (k : ℕ) → length (bytesBelow k (line t)) ≤ 49 * k
+  pub lines-short : (k : ℕ) → length (bytesBelow k (line t)) ≤ longestLine * k
   unfolding bytesBelow
   lines-short zero = omega arith
   lines-short (suc k) = omega (arith, length-append (bytesBelow k (line t)) (line t k), lines-short k, line-short k)

@@ -8,6 +8,7 @@ use lib.ListN.{length}
 use lib.IntN.{ℤ}
 use Rattle.numbers.specs.Whole.{plus}
 use Rattle.numbers.proofs.Tests.{by-test, cond-true, cond-false}
+use Rattle.table.specs.Limits.{tableLength, nodes, root}
 use Rattle.table.specs.Places.{rate}
 use Rattle.table.specs.Tree.{Tree, treeOf, there, isClass}
 use Rattle.table.specs.Rates.{rateIn, renewed}
@@ -25,14 +26,14 @@ unfolding bytesBelow
 bytes-cong zero f g h = refl
 bytes-cong (suc n) f g h = rw (bytes-cong n f g (λ k l. h k (omega arith)), h n (omega arith))
 
-module _ (t : List ℤ) (long : length t ≡ 2568) where
-  line-renewed : (k : ℕ) → k < 64 → line (renewed t) k ≡ lineIn (treeOf t) (rate t 0) k
+module _ (t : List ℤ) (long : length t ≡ tableLength) where
+  line-renewed : (k : ℕ) → k < nodes → line (renewed t) k ≡ lineIn (treeOf t) (rate t root) k
   unfolding lineIn rate plus
   line-renewed k small =
       by-test (there (treeOf t) k)
       (λ e. sym (line-of (renewed t) k _ _ (rw (renewed-tree t) e) (ap (λ (tree : Tree). isClass tree k) (sym (renewed-tree t))) (sym (ap plus (renewed-rate t long k small e)))) ∙ sym (cond-true (there (treeOf t) k) _ [] e))
       (λ e. line-none (renewed t) k (rw (renewed-tree t) e) ∙ sym (cond-false (there (treeOf t) k) _ [] e))
 
-  pub lines-renewed : linesOf (renewed t) ≡ bytesBelow 64 (lineIn (treeOf t) (rate t 0))
+  pub lines-renewed : linesOf (renewed t) ≡ bytesBelow nodes (lineIn (treeOf t) (rate t root))
   unfolding linesOf
-  lines-renewed = bytes-cong 64 (line (renewed t)) (lineIn (treeOf t) (rate t 0)) line-renewed
+  lines-renewed = bytes-cong nodes (line (renewed t)) (lineIn (treeOf t) (rate t root)) line-renewed

@@ -18,6 +18,19 @@ unfoldable pub ascii : String → List ℕ
 ascii end = []
 ascii (c then s) = code c ∷ ascii s
 
+-- What the text's buffer holds, and how long a number of 64 bits, the word of a sort and a line can be.
+abbrev pub textLength : ℕ
+textLength = 4096
+
+abbrev pub mostDigits : ℕ
+mostDigits = 20
+
+abbrev pub longestSort : ℕ
+longestSort = 8
+
+abbrev pub longestLine : ℕ
+longestLine = mostDigits + longestSort + mostDigits + 1
+
 -- The ASCII code of a digit.
 abbrev pub digit : ℕ → ℕ
 digit d = code "0" + d
@@ -27,9 +40,9 @@ unfoldable pub decimalWithin : ℕ → ℕ → List ℕ
 decimalWithin zero n = []
 decimalWithin (suc m) n = cond (ltb n 10) (digit n ∷ []) (decimalWithin m (n / 10) ++ (digit (n % 10) ∷ []))
 
--- The same for n below 10 ^ 20, as every number of 64 bits is.
+-- The same for every number of 64 bits.
 unfoldable pub decimal : ℕ → List ℕ
-decimal n = decimalWithin 20 n
+decimal n = decimalWithin mostDigits n
 
 -- The word of a sort, and the line of a node: node, sort, rate.
 unfoldable pub sortText : Bool → List ℕ

@@ -1,6 +1,5 @@
 // The text that is printed for a plan. Document 01, "Same tree, and the plan file". A function `put_..` puts bytes into a
-// text from place a on, or from the start on, and answers the place behind them. A line has at most 49 bytes: two numbers
-// of up to 20 digits, the word of a sort and a newline.
+// text from place a on, or from the start on, and answers the place behind them.
 ghost use mathlib.Core.Path.{_≡_};
 ghost use Prim.Native.Nat.{_+_, _<_, _≤_};
 ghost use lib.ListN.{length};
@@ -8,16 +7,19 @@ ghost use Rattle.io.specs.Counts.{Counts};
 ghost use Rattle.table.specs.Limits.{tableLength, nodes};
 ghost use Rattle.layout.specs.Written.{written};
 ghost use Rattle.report.specs.Appended.{Appended};
-ghost use Rattle.report.specs.Text.{sortText, nodeLine, line, linesOf, refusedLine, reportOf};
+ghost use Rattle.report.specs.Text.{textLength, longestSort, longestLine, sortText, nodeLine, line, linesOf, refusedLine, reportOf};
 
 mod pieces;
 
 use rating::tree;
 use table::Table;
 
+// What the text's buffer holds.
+pub const TEXT_LENGTH: usize = 4096;
+
 // The word of a sort.
 fn put_sort(text: &mut [u8], a: usize, class: bool) -> usize
-    requires { ⌜ a + 8 ≤ length (now text) ⌝ }
+    requires { ⌜ a + longestSort ≤ length (now text) ⌝ }
     ensures { λ r. ⌜ Appended (now (text .entry)) a (sortText class) (now (text .exit)) r ⌝ }
 {
     if class {
@@ -29,7 +31,7 @@ fn put_sort(text: &mut [u8], a: usize, class: bool) -> usize
 
 // The line of a node: node, sort, rate.
 fn put_node(text: &mut [u8], a: usize, node: u64, class: bool, rate: u64) -> usize
-    requires { ⌜ a + 49 ≤ length (now text) ⌝ }
+    requires { ⌜ a + longestLine ≤ length (now text) ⌝ }
     ensures { λ r. ⌜ Appended (now (text .entry)) a (nodeLine node class rate) (now (text .exit)) r ⌝ }
 {
     let sort_at = pieces::put_decimal(text, a, node);
@@ -40,7 +42,7 @@ fn put_node(text: &mut [u8], a: usize, node: u64, class: bool, rate: u64) -> usi
 
 // The line of node k of a table where it is there, else nothing.
 fn put_line(text: &mut [u8], a: usize, table: &[i64], k: usize) -> usize
-    requires { ⌜ (a + 49 ≤ length (now text)) × (length (now table) ≡ tableLength) × (k < nodes) ⌝ }
+    requires { ⌜ (a + longestLine ≤ length (now text)) × (length (now table) ≡ tableLength) × (k < nodes) ⌝ }
     ensures { λ r. ⌜ Appended (now (text .entry)) a (line (now (table .entry)) k) (now (text .exit)) r ⌝ }
 {
     if !tree::there(table, k) {
@@ -53,7 +55,7 @@ fn put_line(text: &mut [u8], a: usize, table: &[i64], k: usize) -> usize
 
 // One line for each node in rising number.
 fn put_lines(text: &mut [u8], table: &[i64]) -> usize
-    requires { ⌜ (4096 ≤ length (now text)) × (length (now table) ≡ tableLength) ⌝ }
+    requires { ⌜ (textLength ≤ length (now text)) × (length (now table) ≡ tableLength) ⌝ }
     ensures { λ r. ⌜ Appended (now (text .entry)) 0 (linesOf (now (table .entry))) (now (text .exit)) r ⌝ }
 {
     let mut a: usize = 0;
@@ -67,7 +69,7 @@ fn put_lines(text: &mut [u8], table: &[i64]) -> usize
 
 // The line of a refused plan.
 fn put_refused(text: &mut [u8], number: u64) -> usize
-    requires { ⌜ 4096 ≤ length (now text) ⌝ }
+    requires { ⌜ textLength ≤ length (now text) ⌝ }
     ensures { λ r. ⌜ Appended (now (text .entry)) 0 (refusedLine number) (now (text .exit)) r ⌝ }
 {
     let number_at = pieces::put_text(text, 0, b"refused ");
@@ -76,7 +78,7 @@ fn put_refused(text: &mut [u8], number: u64) -> usize
 }
 
 // Puts the text that is printed for a plan at the start of a buffer, touches nothing beyond it, and answers its length.
-pub fn report(contents: &[u8], text: &mut [u8; 4096]) -> usize
+pub fn report(contents: &[u8], text: &mut [u8; TEXT_LENGTH]) -> usize
     ensures count { λ r. ⌜ Counts r (now (text .exit)) ⌝ }
     ensures length { λ r. ⌜ r ≡ length (reportOf (now (contents .entry))) ⌝ }
     ensures text { λ _. ⌜ now (text .exit) ≡ written (now (text .entry)) 0 (reportOf (now (contents .entry))) ⌝ }

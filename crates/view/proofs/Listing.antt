@@ -8,6 +8,8 @@ use lib.Dec.{eqb}
 use borrow.Author.Tests.{eq-eqb, ne-eqb}
 use Rattle.numbers.proofs.Tests.{cond-true, cond-false}
 use Rattle.table.specs.Refusals.{accepted, refused}
+use Rattle.table.specs.Answers.{numberOf}
+use Rattle.table.specs.declared.Refusal.the-variants.{PlanWrong}
 use Rattle.layout.specs.Format.{countIn, entryIn, formed}
 use Rattle.view.specs.declared.Body.{Body}
 use Rattle.view.specs.declared.Found.the-variants as found
@@ -40,7 +42,7 @@ module _ (s : List ℕ) (number : ℕ) where
       let all : n - 0 ≡ countIn s = omega arith in
       ap (λ (k : ℕ). accepted (listedFrom s number 0 k)) all ∙ sym (cond-true _ _ _ right)
 
-  pub answer-no-plan : formed s ≡ false → refused 14 ≡ bodyAnswer s number
+  pub answer-no-plan : formed s ≡ false → refused (numberOf PlanWrong) ≡ bodyAnswer s number
   unfolding bodyAnswer
   answer-no-plan wrong = sym (cond-false _ _ _ wrong)
 

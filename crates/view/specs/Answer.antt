@@ -5,6 +5,8 @@ use mathlib.Core.List.{List, [], _∷_}
 use lib.Dec.{eqb}
 use lib.IntN.{ℤ, pos}
 use Rattle.table.specs.Refusals.{Outcome, accepted, refused}
+use Rattle.table.specs.Answers.{numberOf}
+use Rattle.table.specs.declared.Refusal.the-variants.{PlanWrong}
 use Rattle.layout.specs.Format.{Entry, countIn, entryIn, formed}
 use Rattle.layout.specs.Nodes.{shareIn, heldBy, kindIn}
 use Rattle.view.specs.declared.Body.{Body}
@@ -21,12 +23,12 @@ listedFrom s number i zero = []
 listedFrom s number i (suc n) =
     cond (eqb (entryIn s i .node) number) (bodyValues (entryIn s i)) (listedFrom s number (i + 1) n)
 
--- What is answered for plan bytes and a node: 14 where the bytes are not well formed.
+-- What is answered for plan bytes and a node: the refusal of a wrong plan where the bytes are not well formed.
 unfoldable pub bodyAnswer : List ℕ → ℕ → Outcome
-bodyAnswer s number = cond (formed s) (accepted (listedFrom s number 0 (countIn s))) (refused 14)
+bodyAnswer s number = cond (formed s) (accepted (listedFrom s number 0 (countIn s))) (refused (numberOf PlanWrong))
 
--- What an answer tells: the body's values, no values where the node is not listed, 14 for bytes that are no plan.
+-- What an answer tells: the body's values, no values where the node is not listed, the refusal for bytes that are no plan.
 unfoldable pub toldFound : Found → Outcome
 toldFound (found.Body b) = accepted (pos (kindIn (b .sort)) ∷ pos (shareIn (heldBy (b .sort))) ∷ pos (b .depth) ∷ [])
 toldFound found.NotListed = accepted []
-toldFound found.NotAPlan = refused 14
+toldFound found.NotAPlan = refused (numberOf PlanWrong)

@@ -1,34 +1,35 @@
 -- What is known of a node that stands in a table in order, and of the nodes listed for its plan.
-use Prim.Native.Nat.{ℕ, _+_, _*_, _≤_, _<_}
+use Prim.Native.Nat.{ℕ, _≤_, _<_}
 use mathlib.Core.Path.{_≡_, sym, ap, _∙_}
 use mathlib.Core.List.{List, _∷_, _++_}
 use native.Mathlib.Omega.{arith}
 use lib.ListN.{length, getD}
 use lib.Seq.{getD-take}
 use lib.IntN.{ℤ}
+use Rattle.table.specs.Limits.{tableLength}
 use Rattle.table.specs.Tree.{treeOf}
 use Rattle.table.proofs.Facts.{Limits, facts}
 use Rattle.layout.specs.declared.Node.{Node}
 use Rattle.layout.specs.Bytes.{bytes2, bytes4}
-use Rattle.layout.specs.Format.{Entry, entryBytes, bodyBytes}
+use Rattle.layout.specs.Format.{Entry, lastCount, entryAt, bodyAt, entryBytes, bodyBytes}
 use Rattle.layout.specs.Nodes.{shareIn, heldBy, kindIn, entryBy}
 use Rattle.layout.specs.Written.{written}
-use Rattle.planlaws.specs.Writing.{order, entryOf, planOf}
+use Rattle.planlaws.specs.Writing.{entryOf, planOf}
 use Rattle.planlaws.proofs.Listing.{listed, listed-node, order-short}
 use Rattle.writing.specs.Listed.{Standing, Listed}
 
 module _ (t : List ℤ) (k : ℕ) (s : Standing t k) where
-  pub standing-long : length t ≡ 2568
+  pub standing-long : length t ≡ tableLength
   standing-long = facts t (s .ordered) .long
 
   pub standing-limits : Limits t k
   standing-limits = facts t (s .ordered) .limits k (s .small) (s .here)
 
 module _ (t : List ℤ) (xs : List ℕ) (n : ℕ) (h : Listed t xs n) where
-  pub listed-long : length t ≡ 2568
+  pub listed-long : length t ≡ tableLength
   listed-long = facts t (h .ordered) .long
 
-  pub listed-few : n ≤ 63
+  pub listed-few : n ≤ lastCount
   listed-few = omega (arith, h .count, order-short (treeOf t))
 
   pub listed-at : (i : ℕ) → i < n → getD xs i 0 ≡ listed (treeOf t) i
@@ -49,18 +50,18 @@ module _ (t : List ℤ) (xs : List ℕ) (n : ℕ) (h : Listed t xs n) where
   listed-count = h .count
 
   -- A node that stands for entry i has the bytes of the entry, and of the body.
-  node-entry : (i : ℕ) (node : Node) → i < n → entryBy node ≡ entryOf (treeOf t) (getD xs i 0) → node .number ∷ node .parent ∷ bytes2 (9 + 4 * n + 7 * i) ≡ entryBytes (planOf t) i
+  node-entry : (i : ℕ) (node : Node) → i < n → entryBy node ≡ entryOf (treeOf t) (getD xs i 0) → node .number ∷ node .parent ∷ bytes2 (bodyAt n i) ≡ entryBytes (planOf t) i
   unfolding entryBy entryBytes
   node-entry i node hi e =
-      ap (λ (x : Entry). x .node ∷ x .parent ∷ bytes2 (9 + 4 * n + 7 * i)) (e ∙ listed-entry i hi)
-      ∙ ap (λ (m : ℕ). planOf t .entry i .node ∷ planOf t .entry i .parent ∷ bytes2 (9 + 4 * m + 7 * i)) listed-count
+      ap (λ (x : Entry). x .node ∷ x .parent ∷ bytes2 (bodyAt n i)) (e ∙ listed-entry i hi)
+      ∙ ap (λ (m : ℕ). planOf t .entry i .node ∷ planOf t .entry i .parent ∷ bytes2 (bodyAt m i)) listed-count
 
   node-body : (i : ℕ) (node : Node) → i < n → entryBy node ≡ entryOf (treeOf t) (getD xs i 0) → kindIn (node .sort) ∷ bytes2 (shareIn (heldBy (node .sort))) ++ bytes4 (node .depth) ≡ bodyBytes (planOf t) i
   unfolding entryBy bodyBytes
   node-body i node hi e = ap (λ (x : Entry). x .kind ∷ bytes2 (x .share) ++ bytes4 (x .depth)) (e ∙ listed-entry i hi)
 
-  pub entry-written : (b r : List ℕ) (i a offset : ℕ) (node : Node) → i < n → entryBy node ≡ entryOf (treeOf t) (getD xs i 0) → offset ≡ 9 + 4 * n + 7 * i → a ≡ 9 + 4 * i → r ≡ written b a (node .number ∷ node .parent ∷ bytes2 offset) → r ≡ written b (9 + 4 * i) (entryBytes (planOf t) i)
+  pub entry-written : (b r : List ℕ) (i a offset : ℕ) (node : Node) → i < n → entryBy node ≡ entryOf (treeOf t) (getD xs i 0) → offset ≡ bodyAt n i → a ≡ entryAt i → r ≡ written b a (node .number ∷ node .parent ∷ bytes2 offset) → r ≡ written b (entryAt i) (entryBytes (planOf t) i)
   entry-written b r i a offset node hi e at here h = cc (node-entry i node hi e)
 
-  pub body-written : (b r : List ℕ) (i a kind share : ℕ) (node : Node) → i < n → entryBy node ≡ entryOf (treeOf t) (getD xs i 0) → kind ≡ kindIn (node .sort) → share ≡ shareIn (heldBy (node .sort)) → a ≡ 9 + 4 * n + 7 * i → r ≡ written b a (kind ∷ bytes2 share ++ bytes4 (node .depth)) → r ≡ written b (9 + 4 * n + 7 * i) (bodyBytes (planOf t) i)
+  pub body-written : (b r : List ℕ) (i a kind share : ℕ) (node : Node) → i < n → entryBy node ≡ entryOf (treeOf t) (getD xs i 0) → kind ≡ kindIn (node .sort) → share ≡ shareIn (heldBy (node .sort)) → a ≡ bodyAt n i → r ≡ written b a (kind ∷ bytes2 share ++ bytes4 (node .depth)) → r ≡ written b (bodyAt n i) (bodyBytes (planOf t) i)
   body-written b r i a kind share node hi e k s here h = cc (node-body i node hi e)

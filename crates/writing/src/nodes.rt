@@ -5,8 +5,9 @@ ghost use Prim.Native.Nat.{_≤_, _<_};
 ghost use lib.ListN.{length, take};
 ghost use Rattle.table.specs.Limits.{tableLength, nodes};
 ghost use Rattle.table.specs.Tree.{treeOf};
+ghost use Rattle.layout.specs.Kinds.{kindOf};
 ghost use Rattle.layout.specs.Nodes.{shareIn, weightedIn, heldBy, kindIn, entryBy};
-ghost use Rattle.planlaws.specs.Writing.{stands, order, kindOf, entryOf};
+ghost use Rattle.planlaws.specs.Writing.{stands, order, entryOf};
 ghost use Rattle.writing.specs.Listed.{Standing};
 use layout::Node;
 use layout::Share;
@@ -14,15 +15,15 @@ use layout::Sort;
 use table::Table;
 
 // How many pairs of a level and a number there are.
-const STANDINGS: usize = 320;
+const STANDINGS: usize = Table::NODES * (Table::LAST_LEVEL as usize + 1);
 
 // Nodes in order, and how many.
 pub struct Listing {
-    pub nodes: [u64; 64],
+    pub nodes: [u64; Table::NODES],
     pub count: usize,
 }
 
-// Whether node m % 64 is there at level m / 64 and is not the root.
+// Whether node m % NODES is there at level m / NODES and is not the root.
 fn stands(table: &[i64], m: usize) -> bool
     requires { ⌜ length (now table) ≡ tableLength ⌝ }
     ensures { λ r. ⌜ r ≡ stands (treeOf (now (table .entry))) m ⌝ }
@@ -47,7 +48,7 @@ pub fn list_nodes(table: &[i64]) -> Listing
     ensures nodes { λ r. ⌜ take (r .count) (r .nodes) ≡ order (treeOf (now (table .entry))) ⌝ }
     ensures count { λ r. ⌜ r .count ≡ length (order (treeOf (now (table .entry)))) ⌝ }
 {
-    let mut nodes: [u64; 64] = [0; 64];
+    let mut nodes: [u64; Table::NODES] = [0; Table::NODES];
     let mut count: usize = 0;
     let mut m: usize = 0;
     while m < STANDINGS {

@@ -25,7 +25,7 @@ fn put_head(table: &[i64], n: usize, buffer: &mut [u8])
 }
 
 // Writes entry i, and body i, of the n nodes listed.
-fn put_entry(table: &[i64], listed: &[u64; 64], n: usize, i: usize, buffer: &mut [u8])
+fn put_entry(table: &[i64], listed: &[u64; Table::NODES], n: usize, i: usize, buffer: &mut [u8])
     requires { ⌜ (Listed (now table) (now listed) n) × (i < n) × (planLength n ≤ length (now buffer)) ⌝ }
     ensures { λ _. ⌜ now (buffer .exit) ≡ written (now (buffer .entry)) (entryAt i) (entryBytes (planOf (now (table .entry))) i) ⌝ }
 {
@@ -34,7 +34,7 @@ fn put_entry(table: &[i64], listed: &[u64; 64], n: usize, i: usize, buffer: &mut
     putting::put_entry(buffer, forms::entry_at(i), node.number, node.parent, offset);
 }
 
-fn put_body(table: &[i64], listed: &[u64; 64], n: usize, i: usize, buffer: &mut [u8])
+fn put_body(table: &[i64], listed: &[u64; Table::NODES], n: usize, i: usize, buffer: &mut [u8])
     requires { ⌜ (Listed (now table) (now listed) n) × (i < n) × (planLength n ≤ length (now buffer)) ⌝ }
     ensures { λ _. ⌜ now (buffer .exit) ≡ written (now (buffer .entry)) (bodyAt n i) (bodyBytes (planOf (now (table .entry))) i) ⌝ }
 {
@@ -46,7 +46,7 @@ fn put_body(table: &[i64], listed: &[u64; 64], n: usize, i: usize, buffer: &mut 
 }
 
 // Writes the entries in turn, and the bodies behind them.
-fn put_entries(table: &[i64], listed: &[u64; 64], n: usize, buffer: &mut [u8])
+fn put_entries(table: &[i64], listed: &[u64; Table::NODES], n: usize, buffer: &mut [u8])
     requires { ⌜ (Listed (now table) (now listed) n) × (planLength n ≤ length (now buffer)) ⌝ }
     ensures { λ _. ⌜ now (buffer .exit) ≡ written (now (buffer .entry)) (entryAt 0) (bytesBelow n (entryBytes (planOf (now (table .entry))))) ⌝ }
 {
@@ -57,7 +57,7 @@ fn put_entries(table: &[i64], listed: &[u64; 64], n: usize, buffer: &mut [u8])
     }
 }
 
-fn put_bodies(table: &[i64], listed: &[u64; 64], n: usize, buffer: &mut [u8])
+fn put_bodies(table: &[i64], listed: &[u64; Table::NODES], n: usize, buffer: &mut [u8])
     requires { ⌜ (Listed (now table) (now listed) n) × (planLength n ≤ length (now buffer)) ⌝ }
     ensures { λ _. ⌜ now (buffer .exit) ≡ written (now (buffer .entry)) (entryAt n) (bytesBelow n (bodyBytes (planOf (now (table .entry))))) ⌝ }
 {
@@ -69,7 +69,7 @@ fn put_bodies(table: &[i64], listed: &[u64; 64], n: usize, buffer: &mut [u8])
 }
 
 // Writes the plan: the head, the entries, then the bodies.
-pub fn put_plan(table: &[i64], listed: &[u64; 64], n: usize, buffer: &mut [u8])
+pub fn put_plan(table: &[i64], listed: &[u64; Table::NODES], n: usize, buffer: &mut [u8])
     requires { ⌜ (Listed (now table) (now listed) n) × (planLength n ≤ length (now buffer)) ⌝ }
     ensures { λ _. ⌜ now (buffer .exit) ≡ written (now (buffer .entry)) 0 (planBytes (now (table .entry))) ⌝ }
 {

@@ -1,10 +1,9 @@
 -- `entering::join_node` meets its contract.
-use mathlib.Core.Path.{_≡_}
+use mathlib.Core.Path.{_≡_, sym, ap, _∙_}
 use native.Mathlib.Omega.{arith}
-use Rattle.treelaws.specs.Joins.{refusalOf, afterJoin}
-use Rattle.layout.specs.Nodes.{shareIn, heldBy, entryBy}
-use Rattle.planlaws.specs.Reading.{joinOf}
-use Rattle.entering.proofs.Sorts.{kind-sort-in, kind-weighted-in}
+use Rattle.layout.specs.Nodes.{shareIn, weightedIn, heldBy, entryBy}
+use Rattle.layout.proofs.EachKind.{sort-in-kind, share-in-kind}
+use Rattle.planlaws.proofs.Accepted.{join-by}
 use borrow.Author.Needs.{needs}
 use Rattle.entering.proofs.join_node.Statement.{statement}
 use Rattle.entering.proofs.join_node.Tie as tie
@@ -30,10 +29,17 @@ same-length : tie.Need-same-length
 same-length c = search needs
 
 returns : tie.Need-returns
-unfolding refusalOf afterJoin joinOf entryBy
+unfolding entryBy
 returns c =
-    let x = c .before .before .before .before .before .before .before .args .node .sort in
-    (cc (kind-sort-in x, kind-weighted-in x), (omega arith, cc (kind-sort-in x, kind-weighted-in x)))
+    let joined = c .before .join-numbers .ensures in
+    let given = c .before .before .before in
+    let kind = given .before .weighted-in .ensures .0 in
+    let number = given .before .before .sort-number .ensures .0 in
+    let held = given .before .before .before .held-by .ensures in
+    let start = given .before .before .before .before in
+    let x = start .args .node .sort in
+    let same = join-by (start .args .table .now) (entryBy (start .args .node)) (number ∙ sym (sort-in-kind x)) (kind ∙ ap weightedIn held ∙ sym (share-in-kind x)) (given .share-in .ensures ∙ ap shareIn held) (joined .0) (joined .1 .1) in
+    (same .0, (joined .1 .0, same .1))
 
 pub join-node-spec : {M : Type 1} → statement M
 join-node-spec =

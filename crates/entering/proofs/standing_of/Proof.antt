@@ -1,10 +1,9 @@
 -- `entering::standing_of` meets its contract.
-use Prim.Native.Nat.{_+_, _*_}
 use mathlib.Core.Path.{_≡_}
 use native.Mathlib.Omega.{arith}
 use Rattle.table.specs.Tree.{treeOf}
 use Rattle.layout.specs.Bytes.{byteAt}
-use Rattle.layout.specs.Format.{entryIn, planIn}
+use Rattle.layout.specs.Format.{entryAt, entryIn, planIn}
 use Rattle.planlaws.specs.Reading.{standing}
 use borrow.Author.Needs.{needs}
 use Rattle.entering.proofs.standing_of.Statement.{statement}
@@ -20,21 +19,21 @@ natural-requires : tie.Need-natural-requires
 unfolding planIn entryIn
 natural-requires c κs =
     let start = c .before .before .before in
-    let node : c .byte .result ≡ byteAt (start .args .s .now) (9 + 4 * start .args .i) = cc in
+    let node : c .byte .result ≡ byteAt (start .args .s .now) (entryAt (start .args .i)) = cc in
     (omega arith, omega arith, omega arith)
 
 mul-result : tie.Need-mul-result
 unfolding planIn entryIn treeOf
 mul-result c =
     let start = c .before .before .before .before in
-    let level : c .natural .result ≡ treeOf (start .args .table .now) .level (byteAt (start .args .s .now) (9 + 4 * start .args .i)) = cc in
+    let level : c .natural .result ≡ treeOf (start .args .table .now) .level (byteAt (start .args .s .now) (entryAt (start .args .i))) = cc in
     omega arith
 
 add-result : tie.Need-add-result
 unfolding planIn entryIn treeOf
 add-result c =
     let start = c .before .before .before .before in
-    let level : c .natural .result ≡ treeOf (start .args .table .now) .level (byteAt (start .args .s .now) (9 + 4 * start .args .i)) = cc in
+    let level : c .natural .result ≡ treeOf (start .args .table .now) .level (byteAt (start .args .s .now) (entryAt (start .args .i))) = cc in
     omega arith
 
 returns : tie.Need-returns

@@ -14,17 +14,27 @@ use borrow.Author.Needs.{needs}
 use Rattle.reading.proofs.build.Statement.{statement}
 use Rattle.reading.proofs.build.Tie as tie
 
+-- Back from a stage that has passed: to the start, to where the bytes were judged, to where the table was opened.
+abbrev start : tie.Else1 → tie.Start
+start c = c .before .before .before
+
+abbrev judged : tie.Else2 → tie.Else1
+judged c = c .before .before .before .before
+
+abbrev opened : tie.Else3 → tie.Else2
+opened c = c .before .before .before .before .before
+
 -- The bytes are well formed.
-right : (c : tie.Else1) → formed (c .before .before .before .args .s .now) ≡ true
+right : (c : tie.Else1) → formed (start c .args .s .now) ≡ true
 right c = sym (c .before .formed .ensures) ∙ not-false _ (c .if1 .left)
 
 -- Open is accepted.
-opening : (c : tie.Else2) → openRefusal (c .before .before .before .before .before .before .before .args .table .now) (pos (planIn (c .before .before .before .before .before .before .before .args .s .now) .rate)) (pos (planIn (c .before .before .before .before .before .before .before .args .s .now) .depth)) ≡ 0
+opening : (c : tie.Else2) → let s = start (judged c) in openRefusal (s .args .table .now) (pos (planIn (s .args .s .now) .rate)) (pos (planIn (s .args .s .now) .depth)) ≡ 0
 opening c = sym (c .before .before .open-plan .ensures .0) ∙ c .if2 .left
 
 -- What the joins give.
-joining : (c : tie.After-join-entries) → c .join-entries .result ≡ entriesRefusal (openedFor (c .before .before .before .before .before .before .before .before .before .before .args .table .now) (planIn (c .before .before .before .before .before .before .before .before .before .before .args .s .now))) (planIn (c .before .before .before .before .before .before .before .before .before .before .args .s .now)) (planIn (c .before .before .before .before .before .before .before .before .before .before .args .s .now) .count)
-joining c = cc (plan-count (c .before .before .before .before .before .before .before .before .before .before .args .s .now))
+joining : (c : tie.After-join-entries) → let s = start (judged (c .before .before .before)) in c .join-entries .result ≡ entriesRefusal (openedFor (s .args .table .now) (planIn (s .args .s .now))) (planIn (s .args .s .now)) (planIn (s .args .s .now) .count)
+joining c = let s = start (judged (c .before .before .before)) in cc (plan-count (s .args .s .now))
 
 formed-requires : tie.Need-formed-requires
 formed-requires c κs = search needs
@@ -44,18 +54,19 @@ same-length c = search needs
 
 returns-2 : tie.Need-returns-2
 returns-2 c =
-    let number = c .before .before .open-plan .ensures .0 in
-    let past = c .before .before .before .before in (
-      number ∙ sym (wrong-open _ _ (past .before .before .before .pre) (right past) (λ z. c .if2 .taken (number ∙ z))),
+    let call = c .before .before in
+    let past = call .before .before in
+    let number = call .open-plan .ensures .0 in (
+      number ∙ sym (wrong-open _ _ (start past .pre) (right past) (λ z. c .if2 .taken (number ∙ z))),
       (omega arith, λ z. absurd (c .if2 .taken z)),
     )
 
 count-in-requires : tie.Need-count-in-requires
-count-in-requires c κs = omega (arith, formed-facts _ (right (c .before .before .before .before)) .long)
+count-in-requires c κs = omega (arith, formed-facts _ (right (judged c)) .long)
 
 join-entries-requires : tie.Need-join-entries-requires
 join-entries-requires c κs =
-    let past = c .before .before .before .before .before .before in
+    let past = judged (c .before .before) in
     let form = formed-facts _ (right past) in
     (right past, c .before .count-in .ensures, omega (arith, form .count), omega (arith, form .long))
 
@@ -64,21 +75,24 @@ same-length-2 c = search needs
 
 returns-3 : tie.Need-returns-3
 returns-3 c =
-    let past = c .before .before .before .before .before in
-    let number = joining (c .before .before) in (
-      number ∙ sym (wrong-join _ _ (c .before .before .before .before .before .before .before .before .before .before .before .before .pre) (right (past .before .before .before .before)) (opening past) (λ z. c .if3 .taken (number ∙ z))),
+    let join = c .before .before in
+    let past = join .before .before .before in
+    let number = joining join in (
+      number ∙ sym (wrong-join _ _ (start (judged past) .pre) (right (judged past)) (opening past) (λ z. c .if3 .taken (number ∙ z))),
       (omega arith, λ z. absurd (c .if3 .taken z)),
     )
 
 rising-requires : tie.Need-rising-requires
 rising-requires c κs =
-    let past = c .before in
-    let form = formed-facts _ (right (past .before .before .before .before .before .before .before .before .before)) in (
+    let all = c .before in
+    let join = all .before .before in
+    let past = opened all in
+    let form = formed-facts _ (right (judged past)) in (
       omega arith,
-      past .before .before .before .before .count-in .ensures,
+      join .before .before .count-in .ensures,
       omega (arith, form .count),
       omega (arith, form .long),
-      joined-entries _ _ _ _ _ (opening (past .before .before .before .before .before)) (past .before .before .before .before .before .before .before .open-plan .ensures .1 .1) (past .before .before .join-entries .ensures .1 .1 (past .if3 .left)) (sym (past .before .before .join-entries .ensures .0) ∙ past .if3 .left),
+      joined-entries _ _ _ _ _ (opening past) (past .before .before .open-plan .ensures .1 .1) (join .join-entries .ensures .1 .1 (all .if3 .left)) (sym (join .join-entries .ensures .0) ∙ all .if3 .left),
     )
 
 same-length-3 : tie.Need-same-length-3
@@ -86,10 +100,20 @@ same-length-3 c = search needs
 
 returns-4 : tie.Need-returns-4
 returns-4 c =
-    let past = c .before .before .before in
-    let table = joined-for _ _ _ _ _ (past .before .before .before .before .before .before .before .open-plan .ensures .1 .1) (past .before .before .join-entries .ensures .1 .1 (past .if3 .left)) (past .before .before .before .before .count-in .ensures) in (
-      sym (wrong-order _ _ (c .before .before .before .before .before .before .before .before .before .before .before .before .before .before .before .pre) (right (past .before .before .before .before .before .before .before .before .before)) (opening (past .before .before .before .before .before)) (sym (joining (past .before .before)) ∙ past .if3 .left) (rw table at (sym (c .before .rising .ensures) ∙ not-true _ (c .if4 .taken)))),
-      (omega arith, λ z. absurd (omega arith)),
+    let all = c .before .before .before in
+    let join = all .before .before in
+    let past = opened all in
+    let table = joined-for _ _ _ _ _ (past .before .before .open-plan .ensures .1 .1) (join .join-entries .ensures .1 .1 (all .if3 .left)) (join .before .before .count-in .ensures) in (
+      sym
+          (accepted-plan _ _
+          record {
+            long = start (judged past) .pre;
+            formed = right (judged past);
+            opening = opening past;
+            joining = sym (joining join) ∙ all .if3 .left;
+            rising = rw table at (sym (c .before .rising .ensures) ∙ c .if4 .taken);
+          }),
+      (omega arith, λ z. table),
     )
 
 same-length-4 : tie.Need-same-length-4
@@ -97,18 +121,12 @@ same-length-4 c = search needs
 
 returns-5 : tie.Need-returns-5
 returns-5 c =
-    let past = c .before .before .before in
-    let table = joined-for _ _ _ _ _ (past .before .before .before .before .before .before .before .open-plan .ensures .1 .1) (past .before .before .join-entries .ensures .1 .1 (past .if3 .left)) (past .before .before .before .before .count-in .ensures) in (
-      sym
-          (accepted-plan _ _
-          record {
-            long = c .before .before .before .before .before .before .before .before .before .before .before .before .before .before .before .pre;
-            formed = right (past .before .before .before .before .before .before .before .before .before);
-            opening = opening (past .before .before .before .before .before);
-            joining = sym (joining (past .before .before)) ∙ past .if3 .left;
-            rising = rw table at (sym (c .before .rising .ensures) ∙ not-false _ (c .if4 .left));
-          }),
-      (omega arith, λ z. table),
+    let all = c .before .before .before in
+    let join = all .before .before in
+    let past = opened all in
+    let table = joined-for _ _ _ _ _ (past .before .before .open-plan .ensures .1 .1) (join .join-entries .ensures .1 .1 (all .if3 .left)) (join .before .before .count-in .ensures) in (
+      sym (wrong-order _ _ (start (judged past) .pre) (right (judged past)) (opening past) (sym (joining join) ∙ all .if3 .left) (rw table at (sym (c .before .rising .ensures) ∙ c .if4 .left))),
+      (omega arith, λ z. absurd (omega arith)),
     )
 
 pub build-spec : {M : Type 1} → statement M

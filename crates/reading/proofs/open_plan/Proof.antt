@@ -1,4 +1,4 @@
--- `reading::open_plan` meets its contract: rate and depth stand in the first eight bytes.
+-- `reading::open_plan` meets its contract: rate and depth stand in the head.
 use mathlib.Core.Path.{ap, _∙_}
 use lib.IntN.{pos}
 use mir.Syntax.{w64}

@@ -5,6 +5,7 @@ use native.Mathlib.Omega.{arith}
 use lib.ListN.{length-replicate}
 use lib.IntN.{pos}
 use borrow.Author.Needs.{needs}
+use Rattle.table.specs.Limits.{tableLength}
 use Rattle.table.specs.Answers.{told}
 use Rattle.table.specs.Refusals.{outcome}
 use Rattle.table.specs.Calls.{blank, done}
@@ -68,7 +69,7 @@ returns-3 c =
       c .before .copy .ensures
           ∙ built .build .ensures .1 .1 (c .before .before .before .before .if2 .left)
           ∙ sym (plan-table blank (start .args .s .now) (sym (built .build .ensures .0) ∙ c .before .before .before .before .if2 .left))
-          ∙ sym (plan-table-any (start .args .table .now) blank (start .args .s .now) (built .before .before .if1 .left ∙ sym (length-replicate 2568 (pos 0))) zero),
+          ∙ sym (plan-table-any (start .args .table .now) blank (start .args .s .now) (built .before .before .if1 .left ∙ sym (length-replicate tableLength (pos 0))) zero),
     )
 
 pub read-spec : {M : Type 1} → statement M

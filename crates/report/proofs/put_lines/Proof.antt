@@ -4,6 +4,7 @@ use mathlib.Core.Path.{_≡_, refl, sym, ap}
 use native.Mathlib.Omega.{arith}
 use borrow.Author.Needs.{needs}
 use lib.ListN.{length}
+use Rattle.table.specs.Limits.{nodes}
 use Rattle.layout.specs.Bytes.{bytesBelow}
 use Rattle.layout.proofs.Shows.{bytes-next}
 use Rattle.report.specs.Appended.{Appended}
@@ -15,10 +16,10 @@ use Rattle.report.proofs.put_lines.Tie as tie
 
 abbrev Inv-loop : tie.InvT-loop
 Inv-loop text₀ table a₀ k₀ text a k =
-    (k ≤ 64) × (Appended text₀ 0 (bytesBelow k (line table)) text a) × (length text ≡ length text₀)
+    (k ≤ nodes) × (Appended text₀ 0 (bytesBelow k (line table)) text a) × (length text ≡ length text₀)
 
 abbrev μ-loop : tie.MeasureT-loop
-μ-loop text₀ table a₀ k₀ text a k = 64 - k
+μ-loop text₀ table a₀ k₀ text a k = nodes - k
 
 loop-holds : tie.Need-loop-holds Inv-loop μ-loop
 unfolding bytesBelow
@@ -51,7 +52,7 @@ same-length c = search needs
 returns : tie.Need-returns Inv-loop μ-loop
 unfolding linesOf
 returns c =
-    let end : c .before .loop .k ≡ 64 = omega arith in
+    let end : c .before .loop .k ≡ nodes = omega arith in
     append-as _ _ _ _ _ _ (ap (λ (k : ℕ). bytesBelow k (line (c .before .before .before .args .table .now))) end) (c .before .loop .inv .1)
 
 pub put-lines-spec : {M : Type 1} → statement M

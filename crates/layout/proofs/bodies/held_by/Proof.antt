@@ -1,5 +1,5 @@
 -- `layout::bodies::held_by` meets its contract, case by case.
-use Rattle.layout.specs.Nodes.{shareIn, weightedIn, heldBy, kindIn}
+use Rattle.layout.specs.Nodes.{heldBy}
 use borrow.Author.Needs.{needs}
 use Rattle.layout.proofs.bodies.held_by.Statement.{statement}
 use Rattle.layout.proofs.bodies.held_by.Tie as tie
@@ -11,11 +11,11 @@ enum-known-sort-2 : tie.Need-enum-known-sort-2
 enum-known-sort-2 c = search needs
 
 returns : tie.Need-returns
-unfolding kindIn weightedIn shareIn heldBy
+unfolding heldBy
 returns c = search needs
 
 returns-2 : tie.Need-returns-2
-unfolding kindIn weightedIn shareIn heldBy
+unfolding heldBy
 returns-2 c = search needs
 
 pub held-by-spec : {M : Type 1} → statement M

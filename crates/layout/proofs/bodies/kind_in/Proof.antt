@@ -1,41 +1,64 @@
 -- `layout::bodies::kind_in` meets its contract, case by case.
-use native.Mathlib.Omega.{arith}
-use Rattle.layout.specs.Nodes.{kindIn}
 use borrow.Author.Needs.{needs}
+use mathlib.Core.Path.{_≡_, sym, ap, _∙_}
+use native.Mathlib.Omega.{arith}
+use Rattle.layout.specs.declared.Share.{Share}
+use Rattle.layout.specs.declared.Sort.{Sort}
+use Rattle.layout.specs.declared.Sort.the-variants.{Class, Client}
+use Rattle.layout.specs.Kinds.{kindOf}
+use Rattle.layout.specs.Nodes.{weightedIn, heldBy, sortIn, kindIn}
 use Rattle.layout.proofs.bodies.kind_in.Statement.{statement}
 use Rattle.layout.proofs.bodies.kind_in.Tie as tie
+
+-- The kind of a sort that is known to be made of a known share.
+kind-told : {x : Sort} {held share : Share} (make : Share → Sort) → x ≡ make held → held ≡ share → kindIn (make share) ≡ kindIn x
+kind-told make of-share is = sym (ap kindIn (of-share ∙ ap make is))
 
 enum-known-sort : tie.Need-enum-known-sort
 enum-known-sort c = search needs
 
-weighted-in-requires : tie.Need-weighted-in-requires
-weighted-in-requires c κs = search needs
+enum-told : tie.Need-enum-told
+enum-told c = search needs
+
+enum-told-2 : tie.Need-enum-told-2
+enum-told-2 c = search needs
 
 enum-known-sort-2 : tie.Need-enum-known-sort-2
 enum-known-sort-2 c = search needs
 
-weighted-in-requires-2 : tie.Need-weighted-in-requires-2
-weighted-in-requires-2 c κs = search needs
+enum-told-3 : tie.Need-enum-told-3
+enum-told-3 c = search needs
 
-add-result : tie.Need-add-result
-add-result c = search needs
+enum-told-4 : tie.Need-enum-told-4
+enum-told-4 c = search needs
 
 returns : tie.Need-returns
-unfolding kindIn
-returns c = (cc, omega arith)
+unfolding kindIn kindOf sortIn weightedIn heldBy
+returns c = (kind-told Class (c .before .before .before .sort .given .1) (c .enum-told .given .1), omega arith)
 
 returns-2 : tie.Need-returns-2
-unfolding kindIn
-returns-2 c = (cc, omega arith)
+unfolding kindIn kindOf sortIn weightedIn heldBy
+returns-2 c = (kind-told Class (c .before .before .before .sort .given .1) (c .enum-told2 .given .1), omega arith)
+
+returns-3 : tie.Need-returns-3
+unfolding kindIn kindOf sortIn weightedIn heldBy
+returns-3 c = (kind-told Client (c .before .before .before .sort2 .given .1) (c .enum-told3 .given .1), omega arith)
+
+returns-4 : tie.Need-returns-4
+unfolding kindIn kindOf sortIn weightedIn heldBy
+returns-4 c = (kind-told Client (c .before .before .before .sort2 .given .1) (c .enum-told4 .given .1), omega arith)
 
 pub kind-in-spec : {M : Type 1} → statement M
 kind-in-spec =
     tie.close
     (tie.spec
     enum-known-sort
-    weighted-in-requires
+    enum-told
+    enum-told-2
     enum-known-sort-2
-    weighted-in-requires-2
-    add-result
+    enum-told-3
+    enum-told-4
     returns
-    returns-2)
+    returns-2
+    returns-3
+    returns-4)

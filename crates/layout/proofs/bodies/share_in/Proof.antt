@@ -1,5 +1,5 @@
 -- `layout::bodies::share_in` meets its contract, case by case.
-use Rattle.layout.specs.Nodes.{shareIn, weightedIn, heldBy, kindIn}
+use Rattle.layout.specs.Nodes.{shareIn}
 use borrow.Author.Needs.{needs}
 use Rattle.layout.proofs.bodies.share_in.Statement.{statement}
 use Rattle.layout.proofs.bodies.share_in.Tie as tie
@@ -11,11 +11,11 @@ enum-known-share-2 : tie.Need-enum-known-share-2
 enum-known-share-2 c = search needs
 
 returns : tie.Need-returns
-unfolding kindIn weightedIn shareIn heldBy
+unfolding shareIn
 returns c = search needs
 
 returns-2 : tie.Need-returns-2
-unfolding kindIn weightedIn shareIn heldBy
+unfolding shareIn
 returns-2 c = search needs
 
 pub share-in-spec : {M : Type 1} → statement M

@@ -1,23 +1,24 @@
 -- `layout::bodies::sort_of` meets its contract, kind by kind.
-use Rattle.layout.specs.Nodes.{shareIn, weightedIn, heldBy, kindIn}
+use Rattle.layout.specs.Kinds.{kindOf}
+use Rattle.layout.specs.Nodes.{shareIn, weightedIn, heldBy, sortIn, kindIn}
 use borrow.Author.Needs.{needs}
 use Rattle.layout.proofs.bodies.sort_of.Statement.{statement}
 use Rattle.layout.proofs.bodies.sort_of.Tie as tie
 
 returns : tie.Need-returns
-unfolding kindIn weightedIn shareIn heldBy
+unfolding kindIn kindOf sortIn weightedIn shareIn heldBy
 returns c = search needs
 
 returns-2 : tie.Need-returns-2
-unfolding kindIn weightedIn shareIn heldBy
+unfolding kindIn kindOf sortIn weightedIn shareIn heldBy
 returns-2 c = search needs
 
 returns-3 : tie.Need-returns-3
-unfolding kindIn weightedIn shareIn heldBy
+unfolding kindIn kindOf sortIn weightedIn shareIn heldBy
 returns-3 c = search needs
 
 returns-4 : tie.Need-returns-4
-unfolding kindIn weightedIn shareIn heldBy
+unfolding kindIn kindOf sortIn weightedIn shareIn heldBy
 returns-4 c = search needs
 
 pub sort-of-spec : {M : Type 1} → statement M

@@ -1,10 +1,10 @@
 -- `layout::forms::entry_formed` meets its contract: both tests together.
-use Prim.Native.Nat.{ℕ, _+_, _*_}
+use Prim.Native.Nat.{ℕ, _+_}
 use mathlib.Core.Path.{ap, ap₂, _∙_}
 use lib.Dec.{eqb, leb}
 use Rattle.numbers.proofs.Every.{joined-as, same-tests, last-test}
 use Rattle.layout.specs.Bytes.{byteAt, le2}
-use Rattle.layout.specs.Format.{entryIn, entryFormed}
+use Rattle.layout.specs.Format.{lastKind, entryOffsetAt, bodyAt, entryIn, entryFormed}
 use borrow.Author.Needs.{needs}
 use Rattle.layout.proofs.forms.entry_formed.Statement.{statement}
 use Rattle.layout.proofs.forms.entry_formed.Tie as tie
@@ -30,11 +30,11 @@ returns c =
     let start = c .before .before .before .before .before in
     let s = start .args .s .now in
     let i = start .args .i in
-    let body = c .before .before .before .body-at .ensures ∙ ap (λ (n : ℕ). 9 + 4 * n + 7 * i) (start .pre .0) in
+    let body = c .before .before .before .body-at .ensures ∙ ap (λ (n : ℕ). bodyAt n i) (start .pre .0) in
     let entry = c .before .before .entry-at .ensures in
     joined-as
-    (same-tests (ap₂ eqb (c .before .pair .ensures .0 ∙ ap (λ (a : ℕ). le2 s (a + 2)) entry) body)
-    (last-test (ap (λ (n : ℕ). leb n 3) (c .byte .ensures .0 ∙ ap (byteAt s) body))))
+    (same-tests (ap₂ eqb (c .before .pair .ensures .0 ∙ ap (λ (a : ℕ). le2 s (a + entryOffsetAt)) entry) body)
+    (last-test (ap (λ (n : ℕ). leb n lastKind) (c .byte .ensures .0 ∙ ap (byteAt s) body))))
 
 pub entry-formed-spec : {M : Type 1} → statement M
 entry-formed-spec =

@@ -1,5 +1,5 @@
 -- `layout::forms::formed` meets its contract: a wrong length or count, or all entries.
-use Prim.Native.Nat.{ℕ, _+_, _*_, _≤_}
+use Prim.Native.Nat.{ℕ, _≤_}
 use mathlib.Core.Path.{_≡_, sym, ap, _∙_}
 use mathlib.Core.Bool.{false}
 use mathlib.Core.List.{List}
@@ -7,7 +7,7 @@ use native.Mathlib.Omega.{arith}
 use lib.ListN.{length}
 use Rattle.numbers.specs.Below.{allBelow}
 use Rattle.numbers.proofs.Tests.{by-test}
-use Rattle.layout.specs.Format.{countIn, entryFormed, formed}
+use Rattle.layout.specs.Format.{lastCount, planLength, countIn, entryFormed, formed}
 use Rattle.layout.proofs.Codec.{Formed, formed-facts, formed-rest}
 use borrow.Author.Needs.{needs}
 use Rattle.layout.proofs.forms.formed.Statement.{statement}
@@ -38,8 +38,8 @@ returns-4 : tie.Need-returns-4
 returns-4 c =
     let start = c .before .before .before .before .before .before .before in
     let s = start .args .s .now in
-    let few : countIn s ≤ 63 = omega arith in
-    let long : length s ≡ 9 + 11 * countIn s = omega arith in
+    let few : countIn s ≤ lastCount = omega arith in
+    let long : length s ≡ planLength (countIn s) = omega arith in
     c .entries-formed .ensures ∙ ap (λ (n : ℕ). allBelow n (entryFormed s)) (c .before .before .before .before .count-in .ensures) ∙ sym (formed-rest s few long)
 
 pub formed-spec : {M : Type 1} → statement M

@@ -3,7 +3,7 @@ use Prim.Native.Nat.{ℕ, _+_}
 use mathlib.Core.Path.{_≡_, ap, _∙_}
 use native.Mathlib.Omega.{arith}
 use Rattle.layout.specs.Bytes.{byteAt, le2, le4}
-use Rattle.layout.specs.Format.{bodyAt, countIn, entryIn}
+use Rattle.layout.specs.Format.{entryParentAt, bodyShareAt, bodyDepthAt, bodyAt, countIn, entryIn}
 use Rattle.layout.specs.Nodes.{entryBy}
 use Rattle.layout.proofs.Codec.{same-entry}
 use borrow.Author.Needs.{needs}
@@ -63,10 +63,10 @@ returns c =
     let depth = c .before .four in (
       same-entry _ _
           (number .ensures .0 ∙ ap (byteAt s) entry)
-          (parent .ensures .0 ∙ ap (λ (a : ℕ). byteAt s (a + 1)) entry)
+          (parent .ensures .0 ∙ ap (λ (a : ℕ). byteAt s (a + entryParentAt)) entry)
           (c .sort-of .ensures .0 ∙ kind (c .before .before .before))
-          (c .sort-of .ensures .1 ∙ share .ensures .0 ∙ ap (λ (a : ℕ). le2 s (a + 1)) at-body)
-          (depth .ensures .0 ∙ ap (λ (a : ℕ). le4 s (a + 3)) at-body),
+          (c .sort-of .ensures .1 ∙ share .ensures .0 ∙ ap (λ (a : ℕ). le2 s (a + bodyShareAt)) at-body)
+          (depth .ensures .0 ∙ ap (λ (a : ℕ). le4 s (a + bodyDepthAt)) at-body),
       (number .ensures .1, parent .ensures .1, omega (arith, c .sort-of .ensures .1, share .ensures .1), depth .ensures .1),
     )
 

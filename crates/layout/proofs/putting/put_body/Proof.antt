@@ -4,6 +4,7 @@ use mathlib.Core.Path.{refl}
 use mathlib.Core.List.{[], _∷_}
 use native.Mathlib.Omega.{arith}
 use Rattle.layout.specs.Bytes.{bytes2, bytes4}
+use Rattle.layout.specs.Format.{bodyShareAt, bodyDepthAt}
 use Rattle.layout.proofs.Written.{written-after}
 use borrow.Author.Needs.{needs}
 use Rattle.layout.proofs.putting.put_body.Statement.{statement}
@@ -33,9 +34,9 @@ returns c =
     let start = c .before .before .before .before .before .before .before .before .before .before .before .before .before in
     let x = start .args in
     let b = x .buffer .now in
-    written-after b (x .a) (x .a + 3) (x .kind ∷ bytes2 (x .share)) (bytes4 (x .depth)) (omega (arith, start .pre .0)) refl
+    written-after b (x .a) (x .a + bodyDepthAt) (x .kind ∷ bytes2 (x .share)) (bytes4 (x .depth)) (omega (arith, start .pre .0)) refl
     (c .before .before .put-four .ensures)
-    (written-after b (x .a) (x .a + 1) (x .kind ∷ []) (bytes2 (x .share)) (omega (arith, start .pre .0)) refl
+    (written-after b (x .a) (x .a + bodyShareAt) (x .kind ∷ []) (bytes2 (x .share)) (omega (arith, start .pre .0)) refl
     (c .before .before .before .before .before .before .put-pair .ensures)
     (c .before .before .before .before .before .before .before .before .before .before .put-byte .ensures))
 

@@ -4,6 +4,7 @@ use mathlib.Core.Path.{refl}
 use mathlib.Core.List.{[], _∷_}
 use native.Mathlib.Omega.{arith}
 use Rattle.layout.specs.Bytes.{bytes2}
+use Rattle.layout.specs.Format.{entryParentAt, entryOffsetAt}
 use Rattle.layout.proofs.Written.{written-after}
 use borrow.Author.Needs.{needs}
 use Rattle.layout.proofs.putting.put_entry.Statement.{statement}
@@ -33,9 +34,9 @@ returns c =
     let start = c .before .before .before .before .before .before .before .before .before .before .before .before .before in
     let x = start .args in
     let b = x .buffer .now in
-    written-after b (x .a) (x .a + 2) (x .node ∷ x .parent ∷ []) (bytes2 (x .offset)) (omega (arith, start .pre .0)) refl
+    written-after b (x .a) (x .a + entryOffsetAt) (x .node ∷ x .parent ∷ []) (bytes2 (x .offset)) (omega (arith, start .pre .0)) refl
     (c .before .before .put-pair .ensures)
-    (written-after b (x .a) (x .a + 1) (x .node ∷ []) (x .parent ∷ []) (omega (arith, start .pre .0)) refl
+    (written-after b (x .a) (x .a + entryParentAt) (x .node ∷ []) (x .parent ∷ []) (omega (arith, start .pre .0)) refl
     (c .before .before .before .before .before .before .put-byte2 .ensures)
     (c .before .before .before .before .before .before .before .before .before .before .put-byte .ensures))
 

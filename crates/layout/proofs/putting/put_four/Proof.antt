@@ -2,7 +2,7 @@
 use Prim.Native.Nat.{_+_, _/_}
 use mathlib.Core.Path.{refl}
 use native.Mathlib.Omega.{arith}
-use Rattle.layout.specs.Bytes.{bytes2, bytes4}
+use Rattle.layout.specs.Bytes.{pairValues, bytes2, bytes4}
 use Rattle.layout.proofs.Written.{written-after}
 use borrow.Author.Needs.{needs}
 use Rattle.layout.proofs.putting.put_four.Statement.{statement}
@@ -25,7 +25,7 @@ unfolding bytes4 bytes2
 returns c =
     let start = c .before .before .before .before .before .before .before .before .before in
     let x = start .args in
-    written-after (x .buffer .now) (x .a) (x .a + 2) (bytes2 (x .n)) (bytes2 (x .n / 65536)) (omega (arith, start .pre)) refl
+    written-after (x .buffer .now) (x .a) (x .a + 2) (bytes2 (x .n)) (bytes2 (x .n / pairValues)) (omega (arith, start .pre)) refl
     (c .before .before .put-pair2 .ensures)
     (c .before .before .before .before .before .before .put-pair .ensures)
 

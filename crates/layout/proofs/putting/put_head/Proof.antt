@@ -3,6 +3,7 @@ use mathlib.Core.Path.{refl}
 use mathlib.Core.List.{[], _∷_, _++_}
 use native.Mathlib.Omega.{arith}
 use Rattle.layout.specs.Bytes.{bytes2, bytes4}
+use Rattle.layout.specs.Format.{rootDepthAt, countAt}
 use Rattle.layout.proofs.Written.{written-after}
 use borrow.Author.Needs.{needs}
 use Rattle.layout.proofs.putting.put_head.Statement.{statement}
@@ -26,9 +27,9 @@ returns c =
     let start = c .before .before .before .before .before .before .before .before .before .before .before .before .before in
     let x = start .args in
     let b = x .buffer .now in
-    written-after b 0 8 (bytes4 (x .rate) ++ bytes4 (x .depth)) (x .count ∷ []) (omega (arith, start .pre .0)) refl
+    written-after b 0 countAt (bytes4 (x .rate) ++ bytes4 (x .depth)) (x .count ∷ []) (omega (arith, start .pre .0)) refl
     (c .before .before .put-byte .ensures)
-    (written-after b 0 4 (bytes4 (x .rate)) (bytes4 (x .depth)) (omega (arith, start .pre .0)) refl
+    (written-after b 0 rootDepthAt (bytes4 (x .rate)) (bytes4 (x .depth)) (omega (arith, start .pre .0)) refl
     (c .before .before .before .before .before .before .put-four2 .ensures)
     (c .before .before .before .before .before .before .before .before .before .before .put-four .ensures))
 

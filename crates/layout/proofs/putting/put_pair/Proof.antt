@@ -3,7 +3,7 @@ use Prim.Native.Nat.{_+_, _/_, _%_}
 use mathlib.Core.Path.{refl}
 use mathlib.Core.List.{[], _∷_}
 use native.Mathlib.Omega.{arith}
-use Rattle.layout.specs.Bytes.{bytes2}
+use Rattle.layout.specs.Bytes.{byteValues, bytes2}
 use Rattle.layout.proofs.Written.{written-after}
 use borrow.Author.Needs.{needs}
 use Rattle.layout.proofs.putting.put_pair.Statement.{statement}
@@ -26,7 +26,7 @@ unfolding bytes2
 returns c =
     let start = c .before .before .before .before .before .before .before .before .before in
     let x = start .args in
-    written-after (x .buffer .now) (x .a) (x .a + 1) (x .n % 256 ∷ []) (x .n / 256 % 256 ∷ []) (omega (arith, start .pre)) refl
+    written-after (x .buffer .now) (x .a) (x .a + 1) (x .n % byteValues ∷ []) (x .n / byteValues % byteValues ∷ []) (omega (arith, start .pre)) refl
     (c .before .before .put-byte2 .ensures)
     (c .before .before .before .before .before .before .put-byte .ensures)
 

@@ -39,7 +39,7 @@ use denote.Triple.Spec.{Meets, tripleOf}
 use denote.Triple.Table.{entered, cited}
 use denote.Triple.Walked.{says, needs, Stays, stay-none-slice, walkOf, goes-none-slice, Walks, ends-at, walked, walk-meets}
 use denote.Exit.{yes}
-use Rattle.layout.specs.Format.{countIn, formed}
+use Rattle.layout.specs.Format.{headLength, countIn, formed}
 use Rattle.layout.proofs.Codec.{formed-facts}
 use Rattle.layout.proofs.forms.count_in as count-in
 use Rattle.layout.proofs.forms.count_in.Symbol as count-in-def
@@ -57,7 +57,7 @@ abbrev stayed : Stays (of.ended .signature .params) (of.ended .kept)
 stayed = (stay-none-slice (0 ∷ []) tt (plain (λ _. u8)) yes, tt)
 
 -- well formed bytes have a head
-headed : (s : List ℕ) → formed s ≡ true → 9 ≤ length s
+headed : (s : List ℕ) → formed s ≡ true → headLength ≤ length s
 headed s right = omega (arith, formed-facts s right .long)
 
 module _ {M : Type 1} (𝓤 : URA M) (H : Heap 𝓤) (A : Atoms 𝓤) (mem : Memory → SProp 𝓤) (run : Routine → Fun 𝓤) where

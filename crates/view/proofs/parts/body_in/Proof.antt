@@ -1,5 +1,4 @@
 -- `view::parts::body_in` meets its contract: the sort and the depth of the node that stands there.
-use Prim.Native.Nat.{ℕ}
 use mathlib.Core.Path.{ap}
 use native.Mathlib.Omega.{arith}
 use Rattle.layout.specs.Format.{Entry}

@@ -1,5 +1,4 @@
 -- `view::parts::entry_in` meets its contract: the number and the parent of the node that stands there.
-use Prim.Native.Nat.{ℕ}
 use mathlib.Core.Path.{ap}
 use native.Mathlib.Omega.{arith}
 use Rattle.layout.specs.Format.{Entry}

@@ -8,25 +8,26 @@ use native.Mathlib.Omega.{arith}
 use lib.ListN.{length, take, set, length-set, length-append}
 use lib.Seq.{take-suc-set, take-set-le}
 use Rattle.numbers.proofs.Tests.{by-test, cond-true, cond-false}
+use Rattle.table.specs.Limits.{nodes}
 use Rattle.table.specs.Tree.{Tree, treeOf}
-use Rattle.planlaws.specs.Writing.{stands, orderBelow, order}
+use Rattle.planlaws.specs.Writing.{standings, stands, orderBelow, order}
 use Rattle.planlaws.proofs.Listing.{order-more, order-stays, order-few}
 use borrow.Author.Needs.{needs}
 use Rattle.writing.proofs.nodes.list_nodes.Statement.{statement}
 use Rattle.writing.proofs.nodes.list_nodes.Tie as tie
 
--- One step on, m % 64 is listed where it stands.
-next-nodes : (tree : Tree) (m count r : ℕ) (nodes : List ℕ) → length nodes ≡ 64 → count ≡ length (orderBelow tree m) → take count nodes ≡ orderBelow tree m → r ≡ cond (stands tree m) 1 0 → (count + r ≡ length (orderBelow tree (m + 1))) × (take (count + r) (set nodes count (m % 64)) ≡ orderBelow tree (m + 1))
-next-nodes tree m count r nodes long size has h =
+-- One step on, m % nodes is listed where it stands.
+next-nodes : (tree : Tree) (m count r : ℕ) (xs : List ℕ) → length xs ≡ nodes → count ≡ length (orderBelow tree m) → take count xs ≡ orderBelow tree m → r ≡ cond (stands tree m) 1 0 → (count + r ≡ length (orderBelow tree (m + 1))) × (take (count + r) (set xs count (m % nodes)) ≡ orderBelow tree (m + 1))
+next-nodes tree m count r xs long size has h =
     by-test (stands tree m)
     (λ e.
     let one : r ≡ 1 = h ∙ cond-true (stands tree m) 1 0 e in
     let more = order-more tree m e in
-    let room : count < length nodes = omega (arith, order-few tree m) in (
-      omega (arith, ap length more, length-append (orderBelow tree m) (m % 64 ∷ [])),
-      ap (λ (n : ℕ). take n (set nodes count (m % 64))) (ap (λ (n : ℕ). count + n) one ∙ add-one count)
-          ∙ take-suc-set nodes count (m % 64) room
-          ∙ ap (λ (xs : List ℕ). xs ++ (m % 64 ∷ [])) has
+    let room : count < length xs = omega (arith, order-few tree m) in (
+      omega (arith, ap length more, length-append (orderBelow tree m) (m % nodes ∷ [])),
+      ap (λ (n : ℕ). take n (set xs count (m % nodes))) (ap (λ (n : ℕ). count + n) one ∙ add-one count)
+          ∙ take-suc-set xs count (m % nodes) room
+          ∙ ap (λ (ys : List ℕ). ys ++ (m % nodes ∷ [])) has
           ∙ sym more,
     ))
     (λ e.
@@ -34,15 +35,15 @@ next-nodes tree m count r nodes long size has h =
     let stay = order-stays tree m e in
     let same : count + r ≡ count = omega arith in (
       omega (arith, ap length stay),
-      ap (λ (n : ℕ). take n (set nodes count (m % 64))) same ∙ take-set-le count nodes count (m % 64) (omega arith) ∙ has ∙ sym stay,
+      ap (λ (n : ℕ). take n (set xs count (m % nodes))) same ∙ take-set-le count xs count (m % nodes) (omega arith) ∙ has ∙ sym stay,
     ))
 
 abbrev Inv-loop : tie.InvT-loop
-Inv-loop table nodes₀ count₀ m₀ nodes count m =
-    (m ≤ 320) × (length nodes ≡ 64) × (count ≡ length (orderBelow (treeOf table) m)) × (take count nodes ≡ orderBelow (treeOf table) m)
+Inv-loop table xs₀ count₀ m₀ xs count m =
+    (m ≤ standings) × (length xs ≡ nodes) × (count ≡ length (orderBelow (treeOf table) m)) × (take count xs ≡ orderBelow (treeOf table) m)
 
 abbrev μ-loop : tie.MeasureT-loop
-μ-loop table nodes₀ count₀ m₀ nodes count m = 320 - m
+μ-loop table xs₀ count₀ m₀ xs count m = standings - m
 
 loop-holds : tie.Need-loop-holds Inv-loop μ-loop
 unfolding orderBelow
@@ -74,13 +75,13 @@ loop-again c =
     let at = c .before .before .before in
     let tree = treeOf (at .before .args .table .now) in
     let next = next-nodes tree (at .loop .m) (at .loop .count) (c .counted .result) (at .loop .nodes) (at .loop .inv .1) (at .loop .inv .2) (at .loop .inv .3) (c .counted .ensures .0 ∙ ap (λ (b : Bool). cond b 1 0) (c .before .stands .ensures)) in
-    (omega arith, length-set (at .loop .nodes) (at .loop .count) (at .loop .m % 64) ∙ at .loop .inv .1, next .0, next .1)
+    (omega arith, length-set (at .loop .nodes) (at .loop .count) (at .loop .m % nodes) ∙ at .loop .inv .1, next .0, next .1)
 
 returns : tie.Need-returns Inv-loop μ-loop
 unfolding order
 returns c =
     let tree = treeOf (c .before .before .args .table .now) in
-    let end : c .before .loop .m ≡ 320 = omega arith in
+    let end : c .before .loop .m ≡ standings = omega arith in
     (c .before .loop .inv .3 ∙ ap (orderBelow tree) end, c .before .loop .inv .2 ∙ ap (λ (n : ℕ). length (orderBelow tree n)) end)
 
 pub list-nodes-spec : {M : Type 1} → statement M

@@ -1,9 +1,10 @@
 -- `writing::nodes::sort_at` meets its contract: a sort in its limits is a class or a client.
+use mathlib.Core.Path.{ap₂}
 use native.Mathlib.Omega.{arith}
 use Rattle.numbers.proofs.Parts.{zarith}
 use Rattle.table.specs.Tree.{treeOf}
-use Rattle.layout.specs.Nodes.{heldBy, kindIn}
-use Rattle.planlaws.specs.Writing.{kindOf}
+use Rattle.layout.specs.Kinds.{kindOf}
+use Rattle.layout.specs.Nodes.{heldBy, sortIn, kindIn}
 use Rattle.writing.proofs.Members.{standing-long, standing-limits}
 use borrow.Author.Needs.{needs}
 use Rattle.writing.proofs.nodes.sort_at.Statement.{statement}
@@ -16,14 +17,16 @@ natural-requires : tie.Need-natural-requires
 natural-requires c κs = let s = c .before .pre in (standing-long _ _ s, s .small, omega arith)
 
 returns : tie.Need-returns
-unfolding heldBy kindIn kindOf treeOf
-returns c = (omega (arith, c .before .before .share-at .ensures .1), c .before .before .share-at .ensures .0)
+unfolding heldBy sortIn kindIn treeOf
+returns c =
+    let share = c .before .before .share-at in
+    (ap₂ kindOf (omega arith) (share .ensures .1), share .ensures .0)
 
 returns-2 : tie.Need-returns-2
-unfolding heldBy kindIn kindOf treeOf
+unfolding heldBy sortIn kindIn treeOf
 returns-2 c =
-    let s = c .before .before .before .pre in
-    (omega (arith, zarith, c .before .before .share-at .ensures .1, standing-limits _ _ s .sort), c .before .before .share-at .ensures .0)
+    let share = c .before .before .share-at in
+    (ap₂ kindOf (omega (arith, zarith, standing-limits _ _ (c .before .before .before .pre) .sort)) (share .ensures .1), share .ensures .0)
 
 pub sort-at-spec : {M : Type 1} → statement M
 sort-at-spec = tie.close (tie.spec share-at-requires natural-requires returns returns-2)

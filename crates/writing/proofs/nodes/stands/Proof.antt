@@ -4,6 +4,7 @@ use mathlib.Core.List.{[], _∷_}
 use Prim.Native.Nat.{_/_, _%_}
 use lib.Dec.{eqb}
 use Rattle.numbers.proofs.Every.{every-two, every-next}
+use Rattle.table.specs.Limits.{nodes, root}
 use Rattle.table.specs.Tree.{treeOf, there}
 use Rattle.planlaws.specs.Writing.{stands}
 use borrow.Author.Needs.{needs}
@@ -20,10 +21,10 @@ returns : tie.Need-returns
 unfolding stands there treeOf
 returns c =
     let a = c .before .before .args in
-    let k = a .m % 64 in
+    let k = a .m % nodes in
     let tree = treeOf (a .table .now) in
-    let up = eqb (tree .level k) (a .m / 64) in
-    cc (every-next (there tree k) (not (eqb k 0)) (up ∷ []), every-two (there tree k && not (eqb k 0)) up)
+    let up = eqb (tree .level k) (a .m / nodes) in
+    cc (every-next (there tree k) (not (eqb k root)) (up ∷ []), every-two (there tree k && not (eqb k root)) up)
 
 pub stands-spec : {M : Type 1} → statement M
 stands-spec = tie.close (tie.spec natural-requires natural-requires-2 returns)

@@ -1,10 +1,10 @@
 -- `writing::parts::put_bodies` meets its contract. The invariant: the bodies so far are written, one behind the other.
-use Prim.Native.Nat.{ℕ, _+_, _*_, _-_, _≤_}
+use Prim.Native.Nat.{ℕ, _-_, _≤_}
 use mathlib.Core.Path.{_≡_, refl, sym, ap, _∙_}
 use native.Mathlib.Omega.{arith}
 use lib.ListN.{length}
 use Rattle.layout.specs.Bytes.{bytesBelow}
-use Rattle.layout.specs.Format.{bodyBytes}
+use Rattle.layout.specs.Format.{bodyLength, entryAt, bodyBytes}
 use Rattle.layout.specs.Written.{written}
 use Rattle.layout.proofs.Written.{pieces-none, pieces-next}
 use Rattle.layout.proofs.Codec.{length-body}
@@ -15,7 +15,7 @@ use Rattle.writing.proofs.parts.put_bodies.Tie as tie
 
 abbrev Inv-loop : tie.InvT-loop
 Inv-loop table listed n buffer₀ i₀ buffer i =
-    (i ≤ n) × (buffer ≡ written buffer₀ (9 + 4 * n) (bytesBelow i (bodyBytes (planOf table)))) × (length buffer ≡ length buffer₀)
+    (i ≤ n) × (buffer ≡ written buffer₀ (entryAt n) (bytesBelow i (bodyBytes (planOf table)))) × (length buffer ≡ length buffer₀)
 
 abbrev μ-loop : tie.MeasureT-loop
 μ-loop table listed n buffer₀ i₀ buffer i = n - i
@@ -23,7 +23,7 @@ abbrev μ-loop : tie.MeasureT-loop
 loop-holds : tie.Need-loop-holds Inv-loop μ-loop
 loop-holds c =
     let p = planOf (c .before .args .table .now) in
-    (omega arith, sym (pieces-none 7 (bodyBytes p) (length-body p) (c .before .args .buffer .now) (9 + 4 * c .before .args .n)), refl)
+    (omega arith, sym (pieces-none bodyLength (bodyBytes p) (length-body p) (c .before .args .buffer .now) (entryAt (c .before .args .n))), refl)
 
 put-body-requires : tie.Need-put-body-requires Inv-loop μ-loop
 put-body-requires c κs = let start = c .before .before .before .before in (start .pre .0, omega arith, omega arith)
@@ -39,7 +39,7 @@ loop-again c =
     let at = c .before .before .before .before .before in
     let start = at .before .before in
     let p = planOf (start .args .table .now) in
-    (omega arith, pieces-next 7 (bodyBytes p) (length-body p) _ (9 + 4 * start .args .n) (at .loop .i) _ _ _ (omega arith) (omega arith) (at .loop .inv .1) (c .before .before .put-body .ensures), search needs)
+    (omega arith, pieces-next bodyLength (bodyBytes p) (length-body p) _ (entryAt (start .args .n)) (at .loop .i) _ _ _ (omega arith) (omega arith) (at .loop .inv .1) (c .before .before .put-body .ensures), search needs)
 
 same-length : tie.Need-same-length Inv-loop μ-loop
 same-length c = search needs
@@ -48,7 +48,7 @@ returns : tie.Need-returns Inv-loop μ-loop
 returns c =
     let start = c .before .before .before in
     let end : c .before .loop .i ≡ start .args .n = omega arith in
-    c .before .loop .inv .1 ∙ ap (λ (i : ℕ). written (start .args .buffer .now) (9 + 4 * start .args .n) (bytesBelow i (bodyBytes (planOf (start .args .table .now))))) end
+    c .before .loop .inv .1 ∙ ap (λ (i : ℕ). written (start .args .buffer .now) (entryAt (start .args .n)) (bytesBelow i (bodyBytes (planOf (start .args .table .now))))) end
 
 pub put-bodies-spec : {M : Type 1} → statement M
 put-bodies-spec =

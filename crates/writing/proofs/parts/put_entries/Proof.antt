@@ -4,7 +4,7 @@ use mathlib.Core.Path.{_≡_, refl, sym, ap, _∙_}
 use native.Mathlib.Omega.{arith}
 use lib.ListN.{length}
 use Rattle.layout.specs.Bytes.{bytesBelow}
-use Rattle.layout.specs.Format.{entryBytes}
+use Rattle.layout.specs.Format.{entryLength, entryAt, entryBytes}
 use Rattle.layout.specs.Written.{written}
 use Rattle.layout.proofs.Written.{pieces-none, pieces-next}
 use Rattle.layout.proofs.Codec.{length-entry}
@@ -15,7 +15,7 @@ use Rattle.writing.proofs.parts.put_entries.Tie as tie
 
 abbrev Inv-loop : tie.InvT-loop
 Inv-loop table listed n buffer₀ i₀ buffer i =
-    (i ≤ n) × (buffer ≡ written buffer₀ 9 (bytesBelow i (entryBytes (planOf table)))) × (length buffer ≡ length buffer₀)
+    (i ≤ n) × (buffer ≡ written buffer₀ (entryAt 0) (bytesBelow i (entryBytes (planOf table)))) × (length buffer ≡ length buffer₀)
 
 abbrev μ-loop : tie.MeasureT-loop
 μ-loop table listed n buffer₀ i₀ buffer i = n - i
@@ -23,7 +23,7 @@ abbrev μ-loop : tie.MeasureT-loop
 loop-holds : tie.Need-loop-holds Inv-loop μ-loop
 loop-holds c =
     let p = planOf (c .before .args .table .now) in
-    (omega arith, sym (pieces-none 4 (entryBytes p) (length-entry p) (c .before .args .buffer .now) 9), refl)
+    (omega arith, sym (pieces-none entryLength (entryBytes p) (length-entry p) (c .before .args .buffer .now) (entryAt 0)), refl)
 
 put-entry-requires : tie.Need-put-entry-requires Inv-loop μ-loop
 put-entry-requires c κs = let start = c .before .before .before .before in (start .pre .0, omega arith, omega arith)
@@ -39,7 +39,7 @@ loop-again c =
     let at = c .before .before .before .before .before in
     let start = at .before .before in
     let p = planOf (start .args .table .now) in
-    (omega arith, pieces-next 4 (entryBytes p) (length-entry p) _ 9 (at .loop .i) _ _ _ (omega arith) (omega arith) (at .loop .inv .1) (c .before .before .put-entry .ensures), search needs)
+    (omega arith, pieces-next entryLength (entryBytes p) (length-entry p) _ (entryAt 0) (at .loop .i) _ _ _ (omega arith) (omega arith) (at .loop .inv .1) (c .before .before .put-entry .ensures), search needs)
 
 same-length : tie.Need-same-length Inv-loop μ-loop
 same-length c = search needs
@@ -48,7 +48,7 @@ returns : tie.Need-returns Inv-loop μ-loop
 returns c =
     let start = c .before .before .before in
     let end : c .before .loop .i ≡ start .args .n = omega arith in
-    c .before .loop .inv .1 ∙ ap (λ (i : ℕ). written (start .args .buffer .now) 9 (bytesBelow i (entryBytes (planOf (start .args .table .now))))) end
+    c .before .loop .inv .1 ∙ ap (λ (i : ℕ). written (start .args .buffer .now) (entryAt 0) (bytesBelow i (entryBytes (planOf (start .args .table .now))))) end
 
 pub put-entries-spec : {M : Type 1} → statement M
 put-entries-spec =
