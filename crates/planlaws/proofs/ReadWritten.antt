@@ -1,12 +1,11 @@
 -- Reading an accepted plan and writing the table gives the same bytes. The nodes of the table are those of the plan's
 -- entries, and both the plan's order and the writer's rise by level, then by number: so they are one.
-use Prim.Native.Nat.{ℕ, suc, _-_, _≤_, _<_}
+use Prim.Native.Nat.{ℕ, _≤_, _<_}
 use mathlib.Core.Path.{_≡_, refl, sym, ap, ap₂, _∙_}
 use mathlib.Core.Bool.{true}
 use mathlib.Core.List.{List}
 use native.Mathlib.Omega.{arith}
 use borrow.Author.Tests.{ltb-true}
-use lib.Dec.{ltb}
 use lib.ListN.{length}
 use lib.IntN.{ℤ}
 use Rattle.numbers.proofs.Tests.{true-false}
@@ -43,7 +42,7 @@ module _ (p : Plan) (u : List ℤ) (known : (i : ℕ) → i < p .count → p .en
   unfolding entered-node rising
   entered-rises =
       rises-by-steps (standing (treeOf u)) (p .count) entered-node
-      (λ i h. ltb-true _ _ (all-at (p .count - 1) (λ i. ltb (standing (treeOf u) (p .entry i .node)) (standing (treeOf u) (p .entry (suc i) .node))) r i (omega arith)))
+      (λ i h. ltb-true _ _ (all-at _ _ r i (omega arith)))
 
   listed-within : Within (length (order (treeOf u))) (p .count) (listed (treeOf u)) entered-node
   unfolding entered-node
