@@ -18,9 +18,10 @@ same-length c = search needs
 
 returns : tie.Need-returns
 returns c =
-    let s = c .before .before .before .before in
+    let call = c .before .before in
+    let s = call .before .before in
     let done =
-    rw (toZ-ofZ w64 (s .args .rate) (s .fits .rate)) at (c .before .before .change-rate .ensures) in
+    rw (toZ-ofZ w64 (s .args .rate) (s .fits .rate)) at (call .change-rate .ensures) in
     (toZ-ofZ w64 _ (sfits-of (c .answer-number .ok)) ∙ c .answer-number .ensures ∙ ap exported (done .0), done .1)
 
 pub hds-change-rate-spec : {M : Type 1} → statement M

@@ -18,9 +18,10 @@ same-length c = search needs
 
 returns : tie.Need-returns
 returns c =
-    let s = c .before .before .before .before in
+    let call = c .before .before in
+    let s = call .before .before in
     let done =
-    rw (toZ-ofZ w64 (s .args .node) (s .fits .node)) at (c .before .before .leave .ensures) in
+    rw (toZ-ofZ w64 (s .args .node) (s .fits .node)) at (call .leave .ensures) in
     (toZ-ofZ w64 _ (sfits-of (c .answer-number .ok)) ∙ c .answer-number .ensures ∙ ap exported (done .0), done .1)
 
 pub hds-leave-spec : {M : Type 1} → statement M

@@ -53,9 +53,11 @@ negated-requires c κs = search needs
 
 returns : tie.Need-returns
 returns c =
-    let s = c .before .before .before .before .before in
-    let e = c .before .before .found .given .1 in
-    let h = promised (c .before .before .before .before) in
+    let found = c .before .before in
+    let look = found .before .before in
+    let s = look .before in
+    let e = found .found .given .1 in
+    let h = promised look in
     let fits = c .before .known-told .given in (
       number-of-node e h,
       three
@@ -67,9 +69,11 @@ returns c =
 
 returns-2 : tie.Need-returns-2
 returns-2 c =
-    let s = c .before .before .before .before .before in
-    let e = c .before .before .found2 .given .1 in
-    let h = promised (c .before .before .before .before) in (
+    let found = c .before .before in
+    let look = found .before .before in
+    let s = look .before in
+    let e = found .found2 .given .1 in
+    let h = promised look in (
       toZ-ofZ w64 _ (sfits-of (c .negated .ok)) ∙ c .negated .ensures ∙ number-of-refusal e h,
       buffer-of-refusal (s .args .seen .now) e h,
     )

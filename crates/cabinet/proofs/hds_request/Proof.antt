@@ -18,9 +18,10 @@ same-length c = search needs
 
 returns : tie.Need-returns
 returns c =
-    let s = c .before .before .before .before in
+    let call = c .before .before in
+    let s = call .before .before in
     let done =
-    rw (toZ-ofZ w64 (s .args .client) (s .fits .client), toZ-ofZ w64 (s .args .tag) (s .fits .tag), toZ-ofZ w64 (s .args .size) (s .fits .size)) at (c .before .before .request .ensures) in
+    rw (toZ-ofZ w64 (s .args .client) (s .fits .client), toZ-ofZ w64 (s .args .tag) (s .fits .tag), toZ-ofZ w64 (s .args .size) (s .fits .size)) at (call .request .ensures) in
     (toZ-ofZ w64 _ (sfits-of (c .answer-number .ok)) ∙ c .answer-number .ensures ∙ ap exported (done .0), done .1)
 
 pub hds-request-spec : {M : Type 1} → statement M

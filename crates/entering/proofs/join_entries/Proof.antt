@@ -1,10 +1,12 @@
 -- `entering::join_entries` meets its contract. The invariant: the entries so far are joined, and none was refused.
 use Prim.Native.Nat.{_+_, _≤_, _-_}
-use mathlib.Core.Path.{_≡_, refl, sym, _∙_}
+use mathlib.Core.Path.{_≡_, refl, sym, ap, _∙_}
+use mathlib.Core.List.{List}
 use native.Mathlib.Omega.{arith}
 use lib.ListN.{length}
+use lib.IntN.{ℤ}
 use Rattle.layout.specs.Format.{planIn}
-use Rattle.planlaws.specs.Reading.{afterEntries, entriesRefusal}
+use Rattle.planlaws.specs.Reading.{entryRefusal, afterEntry, afterEntries, entriesRefusal}
 use Rattle.layout.proofs.Codec.{formed-facts}
 use Rattle.planlaws.proofs.Accepted.{after-none, after-next, entries-none, entries-next, entries-stay}
 use borrow.Author.Needs.{needs}
@@ -18,17 +20,27 @@ Inv-loop table₀ s n i₀ table i =
 abbrev μ-loop : tie.MeasureT-loop
 μ-loop table₀ s n i₀ table i = n - i
 
+-- What the entries up to the one just joined give.
+so-far : (c : tie.After-join-entry Inv-loop μ-loop) → let at = c .before .before .before in let x = at .before .before .args in c .join-entry .result ≡ entriesRefusal (x .table .now) (planIn (x .s .now)) (at .loop .i + 1)
+so-far c =
+    let at = c .before .before .before in
+    let p = planIn (at .before .before .args .s .now) in
+    c .join-entry .ensures .0
+    ∙ ap (λ (u : List ℤ). entryRefusal u (p .entry (at .loop .i))) (at .loop .inv .2)
+    ∙ sym (entries-next _ p (at .loop .i) (at .loop .inv .1))
+
 loop-holds : tie.Need-loop-holds Inv-loop μ-loop
 loop-holds c = (omega arith, entries-none _ _, sym (after-none _ _), refl)
 
 join-entry-requires : tie.Need-join-entry-requires Inv-loop μ-loop
 join-entry-requires c κs =
-    let start = c .before .before .before .before in (
+    let at = c .before .before in
+    let start = at .before .before in (
       omega arith,
       omega arith,
       omega arith,
       omega arith,
-      formed-facts (start .args .s .now) (start .pre .0) .kind (c .before .before .loop .i) (omega arith),
+      formed-facts (start .args .s .now) (start .pre .0) .kind (at .loop .i) (omega arith),
     )
 
 same-length : tie.Need-same-length Inv-loop μ-loop
@@ -36,12 +48,10 @@ same-length c = search needs
 
 returns : tie.Need-returns Inv-loop μ-loop
 returns c =
-    let at = c .before .before .before .before .before in
-    let start = at .before .before in
-    let t = start .args .table .now in
-    let p = planIn (start .args .s .now) in
-    let here : c .before .before .join-entry .result ≡ entriesRefusal t p (at .loop .i + 1) = cc (entries-next t p (at .loop .i) (at .loop .inv .1)) in (
-      here ∙ sym (entries-stay t p (at .loop .i + 1) (start .args .n) (omega arith) (λ z. c .if1 .taken (here ∙ z))),
+    let call = c .before .before in
+    let at = call .before .before .before in
+    let here = so-far call in (
+      here ∙ sym (entries-stay _ _ (at .loop .i + 1) (at .before .before .args .n) (omega arith) (λ z. c .if1 .taken (here ∙ z))),
       (omega arith, λ z. absurd (c .if1 .taken z)),
     )
 
@@ -53,19 +63,23 @@ loop-less c = search needs
 
 loop-again : tie.Need-loop-again Inv-loop μ-loop
 loop-again c =
-    let at = c .before .before .before .before .before in
-    let start = at .before .before in
-    let t = start .args .table .now in
-    let p = planIn (start .args .s .now) in
-    (omega arith, cc (entries-next t p (at .loop .i) (at .loop .inv .1)), cc (after-next t p (at .loop .i)), search needs)
+    let call = c .before .before in
+    let at = call .before .before .before in
+    let p = planIn (at .before .before .args .s .now) in (
+      omega arith,
+      sym (so-far call) ∙ c .if1 .left,
+      call .join-entry .ensures .1 .1 ∙ ap (λ (u : List ℤ). afterEntry u (p .entry (at .loop .i))) (at .loop .inv .2) ∙ sym (after-next _ p (at .loop .i)),
+      search needs,
+    )
 
 same-length-2 : tie.Need-same-length-2 Inv-loop μ-loop
 same-length-2 c = search needs
 
 returns-2 : tie.Need-returns-2 Inv-loop μ-loop
 returns-2 c =
-    let end : c .before .loop .i ≡ c .before .before .before .args .n = omega arith in
-    (cc, (omega arith, λ z. (cc)))
+    let at = c .before in
+    let end : at .loop .i ≡ at .before .before .args .n = omega arith in
+    (sym (at .loop .inv .1) ∙ ap (entriesRefusal _ _) end, (omega arith, λ z. at .loop .inv .2 ∙ ap (afterEntries _ _) end))
 
 pub join-entries-spec : {M : Type 1} → statement M
 join-entries-spec =

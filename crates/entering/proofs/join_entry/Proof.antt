@@ -1,6 +1,7 @@
 -- `entering::join_entry` meets its contract.
-use native.Mathlib.Omega.{arith}
+use mathlib.Core.Path.{ap, _∙_}
 use Rattle.layout.specs.Format.{planIn}
+use Rattle.planlaws.specs.Reading.{entryRefusal, afterEntry}
 use borrow.Author.Needs.{needs}
 use Rattle.entering.proofs.join_entry.Statement.{statement}
 use Rattle.entering.proofs.join_entry.Tie as tie
@@ -16,7 +17,10 @@ same-length c = search needs
 
 returns : tie.Need-returns
 unfolding planIn
-returns c = (cc, (omega arith, cc))
+returns c =
+    let joined = c .before .join-node .ensures in
+    let node = c .before .before .node-at .ensures .0 in
+    (joined .0 ∙ ap (entryRefusal _) node, (joined .1 .0, joined .1 .1 ∙ ap (afterEntry _) node))
 
 pub join-entry-spec : {M : Type 1} → statement M
 join-entry-spec = tie.close (tie.spec node-at-requires join-node-requires same-length returns)

@@ -8,6 +8,10 @@ use borrow.Author.Needs.{needs}
 use Rattle.entering.proofs.join_node.Statement.{statement}
 use Rattle.entering.proofs.join_node.Tie as tie
 
+-- Back from where the share is known to the start.
+abbrev start : tie.After-share-in → tie.Start
+start c = c .before .before .before .before
+
 held-by-requires : tie.Need-held-by-requires
 held-by-requires c κs = search needs
 
@@ -22,7 +26,9 @@ share-in-requires c κs = search needs
 
 join-numbers-requires : tie.Need-join-numbers-requires
 join-numbers-requires c κs =
-    let share : c .before .share-in .result ≡ shareIn (heldBy (c .before .before .before .before .before .args .node .sort)) = cc in
+    let given = c .before in
+    let held = given .before .before .before .held-by .ensures in
+    let share : given .share-in .result ≡ shareIn (heldBy (start given .args .node .sort)) = given .share-in .ensures ∙ ap shareIn held in
     (omega arith, omega arith, omega arith, omega arith, omega arith, omega arith)
 
 same-length : tie.Need-same-length
@@ -36,9 +42,9 @@ returns c =
     let kind = given .before .weighted-in .ensures .0 in
     let number = given .before .before .sort-number .ensures .0 in
     let held = given .before .before .before .held-by .ensures in
-    let start = given .before .before .before .before in
-    let x = start .args .node .sort in
-    let same = join-by (start .args .table .now) (entryBy (start .args .node)) (number ∙ sym (sort-in-kind x)) (kind ∙ ap weightedIn held ∙ sym (share-in-kind x)) (given .share-in .ensures ∙ ap shareIn held) (joined .0) (joined .1 .1) in
+    let args = start given .args in
+    let x = args .node .sort in
+    let same = join-by (args .table .now) (entryBy (args .node)) (number ∙ sym (sort-in-kind x)) (kind ∙ ap weightedIn held ∙ sym (share-in-kind x)) (given .share-in .ensures ∙ ap shareIn held) (joined .0) (joined .1 .1) in
     (same .0, (joined .1 .0, same .1))
 
 pub join-node-spec : {M : Type 1} → statement M

@@ -40,9 +40,10 @@ returns : tie.Need-returns
 unfolding joinAnswer
 returns c =
     let w = c .before .before .before in
-    let node = toZ-ofZ w64 _ (sfits-of (w .before .before .before .before .before .whole .ok)) ∙ w .before .before .before .before .before .whole .ensures in
-    let parent = toZ-ofZ w64 _ (sfits-of (w .before .before .before .before .whole2 .ok)) ∙ w .before .before .before .before .whole2 .ensures in
-    let sort = toZ-ofZ w64 _ (sfits-of (w .before .before .before .whole3 .ok)) ∙ w .before .before .before .whole3 .ensures in
+    let third = w .before .before .before in
+    let node = toZ-ofZ w64 _ (sfits-of (third .before .before .whole .ok)) ∙ third .before .before .whole .ensures in
+    let parent = toZ-ofZ w64 _ (sfits-of (third .before .whole2 .ok)) ∙ third .before .whole2 .ensures in
+    let sort = toZ-ofZ w64 _ (sfits-of (third .whole3 .ok)) ∙ third .whole3 .ensures in
     let kind = toZ-ofZ w64 _ (sfits-of (w .before .before .whole4 .ok)) ∙ w .before .before .whole4 .ensures in
     let share = toZ-ofZ w64 _ (sfits-of (w .before .whole5 .ok)) ∙ w .before .whole5 .ensures in
     let depth = toZ-ofZ w64 _ (sfits-of (w .whole6 .ok)) ∙ w .whole6 .ensures in

@@ -45,8 +45,8 @@ add-standing-of c = search needs
 
 standing-of-requires-2 : tie.Need-standing-of-requires-2 Inv-loop μ-loop
 standing-of-requires-2 c κs =
-    let start = c .before .before .before .before in
-    let each = start .pre .4 (c .before .before .loop .i + 1) (omega arith) in
+    let at = c .before .before in
+    let each = at .before .before .pre .4 (at .loop .i + 1) (omega arith) in
     (omega arith, omega arith, omega arith, each .0, each .1)
 
 add-i : tie.Need-add-i Inv-loop μ-loop

@@ -1,13 +1,27 @@
 -- `entering::standing_of` meets its contract.
-use mathlib.Core.Path.{_≡_}
+use Prim.Native.Nat.{ℕ}
+use mathlib.Core.Path.{_≡_, ap, _∙_}
 use native.Mathlib.Omega.{arith}
 use Rattle.table.specs.Tree.{treeOf}
 use Rattle.layout.specs.Bytes.{byteAt}
-use Rattle.layout.specs.Format.{entryAt, entryIn, planIn}
+use Rattle.layout.specs.Format.{entryIn, planIn}
 use Rattle.planlaws.specs.Reading.{standing}
 use borrow.Author.Needs.{needs}
 use Rattle.entering.proofs.standing_of.Statement.{statement}
 use Rattle.entering.proofs.standing_of.Tie as tie
+
+-- Back from where the node is read to the start.
+abbrev start : tie.After-byte → tie.Start
+start c = c .before .before .before
+
+-- The node of the entry, and its level.
+node : (c : tie.After-byte) → c .byte .result ≡ planIn (start c .args .s .now) .entry (start c .args .i) .node
+unfolding planIn entryIn
+node c = c .byte .ensures .0 ∙ ap (byteAt _) (c .before .entry-at .ensures)
+
+level : (c : tie.After-natural) → let x = start (c .before) .args in c .natural .result ≡ treeOf (x .table .now) .level (planIn (x .s .now) .entry (x .i) .node)
+unfolding treeOf
+level c = c .natural .ensures ∙ ap (λ (k : ℕ). treeOf (start (c .before) .args .table .now) .level k) (node (c .before))
 
 entry-at-requires : tie.Need-entry-at-requires
 entry-at-requires c κs = search needs
@@ -16,29 +30,17 @@ byte-requires : tie.Need-byte-requires
 byte-requires c κs = search needs
 
 natural-requires : tie.Need-natural-requires
-unfolding planIn entryIn
-natural-requires c κs =
-    let start = c .before .before .before in
-    let node : c .byte .result ≡ byteAt (start .args .s .now) (entryAt (start .args .i)) = cc in
-    (omega arith, omega arith, omega arith)
+natural-requires c κs = (start c .pre .0, omega (arith, node c), omega arith)
 
 mul-result : tie.Need-mul-result
-unfolding planIn entryIn treeOf
-mul-result c =
-    let start = c .before .before .before .before in
-    let level : c .natural .result ≡ treeOf (start .args .table .now) .level (byteAt (start .args .s .now) (entryAt (start .args .i))) = cc in
-    omega arith
+mul-result c = omega (arith, level c)
 
 add-result : tie.Need-add-result
-unfolding planIn entryIn treeOf
-add-result c =
-    let start = c .before .before .before .before in
-    let level : c .natural .result ≡ treeOf (start .args .table .now) .level (byteAt (start .args .s .now) (entryAt (start .args .i))) = cc in
-    omega arith
+add-result c = omega (arith, level c, node (c .before))
 
 returns : tie.Need-returns
-unfolding planIn entryIn treeOf standing
-returns c = cc
+unfolding standing
+returns c = omega (arith, level c, node (c .before))
 
 pub standing-of-spec : {M : Type 1} → statement M
 standing-of-spec =

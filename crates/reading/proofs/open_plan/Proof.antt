@@ -36,10 +36,11 @@ same-length c = search needs
 returns : tie.Need-returns
 unfolding openAnswer openedFor planIn
 returns c =
-    let w = c .before .before .before .before in
+    let call = c .before .before in
+    let w = call .before .before in
     let rate = toZ-ofZ w64 _ (sfits-of (w .before .before .whole .ok)) ∙ w .before .before .whole .ensures ∙ ap pos (w .before .before .before .four .ensures .0) in
     let depth = toZ-ofZ w64 _ (sfits-of (w .whole2 .ok)) ∙ w .whole2 .ensures ∙ ap pos (w .before .four2 .ensures .0) in
-    let opened = rw (rate, depth) at (c .before .before .open .ensures) in
+    let opened = rw (rate, depth) at (call .open .ensures) in
     (c .number-told .ensures .0 ∙ ap numberTold (opened .0) ∙ number-outcome _ done, (c .number-told .ensures .1, opened .1))
 
 pub open-plan-spec : {M : Type 1} → statement M

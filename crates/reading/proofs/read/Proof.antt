@@ -16,8 +16,15 @@ use Rattle.planlaws.proofs.Stages.{wrong-length, check-any}
 use Rattle.reading.proofs.read.Statement.{statement}
 use Rattle.reading.proofs.read.Tie as tie
 
+-- Back from the table built to the start, and from the copy to where the plan was accepted.
+abbrev start : tie.After-build → tie.Start
+start c = c .before .before .before .before
+
+abbrev accepted : tie.After-copy → tie.Else2
+accepted c = c .before .before .before
+
 -- The table of zeros gives the number of the lent table.
-number : (c : tie.After-build) → c .build .result ≡ planRefusal (c .before .before .before .before .args .table .now) (c .before .before .before .before .args .s .now)
+number : (c : tie.After-build) → c .build .result ≡ planRefusal (start c .args .table .now) (start c .args .s .now)
 unfolding checkAnswer blank
 number c = c .build .ensures .0 ∙ check-any _ _ (c .before .before .if1 .left)
 
@@ -27,8 +34,8 @@ answered-requires c κs = search needs
 returns : tie.Need-returns
 unfolding planAnswer planTable
 returns c =
-    let start = c .before .before .before in
-    let one = wrong-length (start .args .table .now) (start .args .s .now) (c .before .if1 .taken) in (
+    let args = c .before .before .before .args in
+    let one = wrong-length (args .table .now) (args .s .now) (c .before .if1 .taken) in (
       c .answered .ensures ∙ ap (λ (n : ℕ). outcome n done) (sym one),
       sym (kept-old _ _ _ (omega (arith, one))),
     )
@@ -62,14 +69,15 @@ same-length c = search needs
 returns-3 : tie.Need-returns-3
 unfolding told planAnswer blank
 returns-3 c =
-    let built = c .before .before .before .before .before .before in
-    let start = built .before .before .before .before in
-    let zero = sym (number built) ∙ c .before .before .before .before .if2 .left in (
+    let past = accepted (c .before) in
+    let built = past .before .before in
+    let args = start built .args in
+    let zero = sym (number built) ∙ past .if2 .left in (
       sym (outcome-accepted _ _ zero),
       c .before .copy .ensures
-          ∙ built .build .ensures .1 .1 (c .before .before .before .before .if2 .left)
-          ∙ sym (plan-table blank (start .args .s .now) (sym (built .build .ensures .0) ∙ c .before .before .before .before .if2 .left))
-          ∙ sym (plan-table-any (start .args .table .now) blank (start .args .s .now) (built .before .before .if1 .left ∙ sym (length-replicate tableLength (pos 0))) zero),
+          ∙ built .build .ensures .1 .1 (past .if2 .left)
+          ∙ sym (plan-table blank (args .s .now) (sym (built .build .ensures .0) ∙ past .if2 .left))
+          ∙ sym (plan-table-any (args .table .now) blank (args .s .now) (built .before .before .if1 .left ∙ sym (length-replicate tableLength (pos 0))) zero),
     )
 
 pub read-spec : {M : Type 1} → statement M

@@ -30,10 +30,11 @@ same-length c = search needs
 returns-2 : tie.Need-returns-2
 unfolding rate
 returns-2 c =
-    let natural = c .before .before .before .before in
+    let put = c .before .before in
+    let natural = put .before .before in
     let class = natural .before in
     let here = class .before in
-    append-as _ _ _ _ _ _ (line-of _ _ _ _ (sym (here .before .there .ensures) ∙ not-false _ (here .if1 .left)) (class .is-class .ensures) (natural .natural .ensures)) (c .before .before .put-node .ensures)
+    append-as _ _ _ _ _ _ (line-of _ _ _ _ (sym (here .before .there .ensures) ∙ not-false _ (here .if1 .left)) (class .is-class .ensures) (natural .natural .ensures)) (put .put-node .ensures)
 
 pub put-line-spec : {M : Type 1} → statement M
 put-line-spec =

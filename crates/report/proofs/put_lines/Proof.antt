@@ -38,11 +38,12 @@ loop-less c = search needs
 
 loop-again : tie.Need-loop-again Inv-loop μ-loop
 loop-again c =
-    let at = c .before .before .before .before .before in
+    let call = c .before .before in
+    let at = call .before .before .before in
     let t = at .before .before .args .table .now in
     let k = at .loop .k in (
       omega arith,
-      append-as _ _ _ _ _ _ (sym (bytes-next k (line t))) (append-more _ _ _ _ _ _ _ _ (omega (arith, lines-short t k)) (at .loop .inv .1) (c .before .before .put-line .ensures)),
+      append-as _ _ _ _ _ _ (sym (bytes-next k (line t))) (append-more _ _ _ _ _ _ _ _ (omega (arith, lines-short t k)) (at .loop .inv .1) (call .put-line .ensures)),
       search needs,
     )
 

@@ -7,29 +7,39 @@ use borrow.Author.Needs.{needs}
 use Rattle.report.proofs.put_node.Statement.{statement}
 use Rattle.report.proofs.put_node.Tie as tie
 
+-- Back from each piece to the one before: the rate, the sort, the number and the start.
+abbrev rating : tie.After-put-text-arg2 → tie.After-put-decimal2
+rating c = c .before .before .before .before
+
+abbrev sort : tie.After-put-decimal2 → tie.After-put-sort
+sort c = c .before .before .before .before
+
+abbrev number : tie.After-put-sort → tie.After-put-decimal
+number c = c .before .before .before .before
+
+abbrev start : tie.After-put-decimal → tie.Start
+start c = c .before .before .before
+
 put-decimal-requires : tie.Need-put-decimal-requires
 put-decimal-requires c κs = search needs
 
 put-sort-requires : tie.Need-put-sort-requires
 put-sort-requires c κs =
-    let number = c .before .before .before in
-    omega (arith, decimal-short (number .before .before .before .args .node))
+    let first = c .before .before .before in
+    omega (arith, decimal-short (start first .args .node))
 
 put-decimal-requires-2 : tie.Need-put-decimal-requires-2
 put-decimal-requires-2 c κs =
-    let sort = c .before .before .before in
-    let start = sort .before .before .before .before .before .before .before .args in
-    omega (arith, decimal-short (start .node), sort-short (start .class))
+    let x = start (number (c .before .before .before)) .args in
+    omega (arith, decimal-short (x .node), sort-short (x .class))
 
 slice-aggregate-put-text : tie.Need-slice-aggregate-put-text
 slice-aggregate-put-text c = search needs
 
 put-text-requires : tie.Need-put-text-requires
 put-text-requires c κs =
-    let rating = c .before .before .before .before in
-    let sort = rating .before .before .before .before in
-    let start = sort .before .before .before .before .before .before .before .args in
-    omega (arith, decimal-short (start .node), sort-short (start .class), decimal-short (start .rate))
+    let x = start (number (sort (rating c))) .args in
+    omega (arith, decimal-short (x .node), sort-short (x .class), decimal-short (x .rate))
 
 same-length : tie.Need-same-length
 same-length c = search needs
@@ -38,10 +48,10 @@ returns : tie.Need-returns
 unfolding ascii
 returns c =
     let end = c .before .before in
-    let rating = end .before .before .before .before .before in
-    let sort = rating .before .before .before .before in
-    let number = sort .before .before .before .before in
-    node-appended _ _ _ _ _ _ _ _ _ _ _ _ _ (number .before .before .before .pre) (number .put-decimal .ensures) (sort .put-sort .ensures) (rating .put-decimal2 .ensures) (end .put-text .ensures)
+    let third = rating (end .before) in
+    let second = sort third in
+    let first = number second in
+    node-appended _ _ _ _ _ _ _ _ _ _ _ _ _ (start first .pre) (first .put-decimal .ensures) (second .put-sort .ensures) (third .put-decimal2 .ensures) (end .put-text .ensures)
 
 pub put-node-spec : {M : Type 1} → statement M
 put-node-spec =

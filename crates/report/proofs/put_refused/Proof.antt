@@ -7,6 +7,16 @@ use borrow.Author.Needs.{needs}
 use Rattle.report.proofs.put_refused.Statement.{statement}
 use Rattle.report.proofs.put_refused.Tie as tie
 
+-- Back from each piece to the one before: the number, the word and the start.
+abbrev number : tie.After-put-text-arg4 → tie.After-put-decimal
+number c = c .before .before .before .before
+
+abbrev word : tie.After-put-decimal → tie.After-put-text
+word c = c .before .before .before .before
+
+abbrev start : tie.After-put-text → tie.Start
+start c = c .before .before .before .before
+
 slice-aggregate-put-text : tie.Need-slice-aggregate-put-text
 slice-aggregate-put-text c = search needs
 
@@ -21,9 +31,7 @@ slice-aggregate-put-text-2 c = search needs
 
 put-text-requires-2 : tie.Need-put-text-requires-2
 put-text-requires-2 c κs =
-    let number = c .before .before .before .before in
-    let word = number .before .before .before .before in
-    omega (arith, decimal-short (word .before .before .before .before .args .number))
+    omega (arith, decimal-short (start (word (number c)) .args .number))
 
 same-length : tie.Need-same-length
 same-length c = search needs
@@ -32,10 +40,10 @@ returns : tie.Need-returns
 unfolding refusedLine ascii
 returns c =
     let end = c .before .before in
-    let number = end .before .before .before .before .before in
-    let word = number .before .before .before .before in
-    let n = word .before .before .before .before .args .number in
-    append-more _ _ _ _ _ _ _ _ (omega arith) (word .put-text .ensures) (append-more _ _ _ _ _ _ _ _ (omega (arith, decimal-short n)) (number .put-decimal .ensures) (end .put-text2 .ensures))
+    let second = number (end .before) in
+    let first = word second in
+    let n = start first .args .number in
+    append-more _ _ _ _ _ _ _ _ (omega arith) (first .put-text .ensures) (append-more _ _ _ _ _ _ _ _ (omega (arith, decimal-short n)) (second .put-decimal .ensures) (end .put-text2 .ensures))
 
 pub put-refused-spec : {M : Type 1} → statement M
 put-refused-spec =

@@ -24,14 +24,18 @@ same-length c = search needs
 
 returns : tie.Need-returns
 unfolding sortText ascii
-returns c = append-as _ _ _ _ _ _ (sym (cond-true _ _ _ (c .before .before .before .before .before .if1 .taken))) (c .before .before .put-text .ensures)
+returns c =
+    let put = c .before .before in
+    append-as _ _ _ _ _ _ (sym (cond-true _ _ _ (put .before .before .before .if1 .taken))) (put .put-text .ensures)
 
 same-length-2 : tie.Need-same-length-2
 same-length-2 c = search needs
 
 returns-2 : tie.Need-returns-2
 unfolding sortText ascii
-returns-2 c = append-as _ _ _ _ _ _ (sym (cond-false _ _ _ (c .before .before .before .before .before .if1 .left))) (c .before .before .put-text2 .ensures)
+returns-2 c =
+    let put = c .before .before in
+    append-as _ _ _ _ _ _ (sym (cond-false _ _ _ (put .before .before .before .if1 .left))) (put .put-text2 .ensures)
 
 pub put-sort-spec : {M : Type 1} → statement M
 put-sort-spec =

@@ -12,7 +12,7 @@ use Rattle.report.proofs.report.Statement.{statement}
 use Rattle.report.proofs.report.Tie as tie
 
 -- The number of the refusal, or 0.
-number : (c : tie.After-number-told) → c .number-told .result ≡ checkAnswer (c .before .before .before .before .before .args .contents .now)
+number : (c : tie.After-number-told) → let read = c .before .before in c .number-told .result ≡ checkAnswer (read .before .before .before .args .contents .now)
 unfolding blank
 number c = c .number-told .ensures .0 ∙ ap numberTold (c .before .before .read .ensures .0) ∙ told-check _
 
@@ -37,8 +37,9 @@ put-refused-requires c κs = search needs
 returns : tie.Need-returns
 unfolding blank
 returns c =
-    let told = c .before .before .before .before in
-    let put = append-as _ _ _ _ _ _ (ap linesOf (told .before .before .read .ensures .1) ∙ accepted-report _ (sym (number told) ∙ c .before .before .before .if1 .taken)) (c .put-lines .ensures) in
+    let test = c .before .before .before in
+    let told = test .before in
+    let put = append-as _ _ _ _ _ _ (ap linesOf (told .before .before .read .ensures .1) ∙ accepted-report _ (sym (number told) ∙ test .if1 .taken)) (c .put-lines .ensures) in
     (appended-counts _ _ _ _ put, (put .behind ∙ zero-add _, put .bytes))
 
 returns-2 : tie.Need-returns-2

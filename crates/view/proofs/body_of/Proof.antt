@@ -41,12 +41,13 @@ listed-at-requires c κs = (right (c .before .before .before), omega arith)
 
 returns-2 : tie.Need-returns-2 Inv-loop μ-loop
 returns-2 c =
-    let turn = c .before .before .before .before in
+    let found = c .before in
+    let turn = found .before .before .before in
     let loop = turn .before .before .loop in
     let n = turn .before .before .before .count-in .result in
     let within : loop .i < n = omega arith in
     body-told _ (loop .i) _ (turn .listed-at .ensures .1)
-    ∙ ap accepted (sym (listed-here _ _ (loop .i) n within (sym (turn .listed-at .ensures .0 .node) ∙ c .before .if2 .taken)))
+    ∙ ap accepted (sym (listed-here _ _ (loop .i) n within (sym (turn .listed-at .ensures .0 .node) ∙ found .if2 .taken)))
     ∙ loop .inv .1
 
 add-i : tie.Need-add-i Inv-loop μ-loop

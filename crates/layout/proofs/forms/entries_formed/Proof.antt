@@ -30,8 +30,8 @@ loop-less c = search needs
 
 loop-again : tie.Need-loop-again Inv-loop μ-loop
 loop-again c =
-    let at = c .before .before .loop in
-    (omega arith, all-grows (at .i) (entryFormed (c .before .before .before .before .args .s .now)) _ _ (at .inv .1) (c .entry-formed .ensures))
+    let at = c .before .before in
+    (omega arith, all-grows (at .loop .i) (entryFormed (at .before .before .args .s .now)) _ _ (at .loop .inv .1) (c .entry-formed .ensures))
 
 returns : tie.Need-returns Inv-loop μ-loop
 returns c =

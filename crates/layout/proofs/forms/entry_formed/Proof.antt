@@ -27,10 +27,11 @@ byte-requires c κs = search needs
 returns : tie.Need-returns
 unfolding entryFormed entryIn
 returns c =
-    let start = c .before .before .before .before .before in
+    let placed = c .before .before .before in
+    let start = placed .before .before in
     let s = start .args .s .now in
     let i = start .args .i in
-    let body = c .before .before .before .body-at .ensures ∙ ap (λ (n : ℕ). bodyAt n i) (start .pre .0) in
+    let body = placed .body-at .ensures ∙ ap (λ (n : ℕ). bodyAt n i) (start .pre .0) in
     let entry = c .before .before .entry-at .ensures in
     joined-as
     (same-tests (ap₂ eqb (c .before .pair .ensures .0 ∙ ap (λ (a : ℕ). le2 s (a + entryOffsetAt)) entry) body)

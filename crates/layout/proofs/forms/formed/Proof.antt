@@ -36,11 +36,13 @@ entries-formed-requires c κs = search needs
 
 returns-4 : tie.Need-returns-4
 returns-4 c =
-    let start = c .before .before .before .before .before .before .before in
+    let past = c .before in
+    let counted = past .before .before .before in
+    let start = counted .before .before .before in
     let s = start .args .s .now in
     let few : countIn s ≤ lastCount = omega arith in
     let long : length s ≡ planLength (countIn s) = omega arith in
-    c .entries-formed .ensures ∙ ap (λ (n : ℕ). allBelow n (entryFormed s)) (c .before .before .before .before .count-in .ensures) ∙ sym (formed-rest s few long)
+    c .entries-formed .ensures ∙ ap (λ (n : ℕ). allBelow n (entryFormed s)) (counted .count-in .ensures) ∙ sym (formed-rest s few long)
 
 pub formed-spec : {M : Type 1} → statement M
 formed-spec =

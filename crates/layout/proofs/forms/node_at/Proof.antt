@@ -40,31 +40,39 @@ add-four c = search needs
 four-requires : tie.Need-four-requires
 four-requires c κs = search needs
 
--- The body stands where the count in the bytes has it, and the kind is the one there.
-body : (c : tie.After-body-at) → let start = c .before .before .before in c .body-at .result ≡ bodyAt (countIn (start .args .s .now)) (start .args .i)
-body c = let start = c .before .before .before in c .body-at .ensures ∙ ap (λ (n : ℕ). bodyAt n (start .args .i)) (start .pre .0)
+-- Back from where the kind is read to where the body was placed, and from there to the start.
+abbrev placed : tie.After-byte3 → tie.After-body-at
+placed c = c .before .before .before
 
-kind : (c : tie.After-byte3) → let start = c .before .before .before .before .before .before in c .byte3 .result ≡ entryIn (start .args .s .now) (start .args .i) .kind
+abbrev start : tie.After-body-at → tie.Start
+start c = c .before .before .before
+
+-- The body stands where the count in the bytes has it, and the kind is the one there.
+body : (c : tie.After-body-at) → c .body-at .result ≡ bodyAt (countIn (start c .args .s .now)) (start c .args .i)
+body c = c .body-at .ensures ∙ ap (λ (n : ℕ). bodyAt n (start c .args .i)) (start c .pre .0)
+
+kind : (c : tie.After-byte3) → let x = start (placed c) .args in c .byte3 .result ≡ entryIn (x .s .now) (x .i) .kind
 unfolding entryIn
-kind c = c .byte3 .ensures .0 ∙ ap (byteAt _) (body (c .before .before .before))
+kind c = c .byte3 .ensures .0 ∙ ap (byteAt _) (body (placed c))
 
 sort-of-requires : tie.Need-sort-of-requires
-sort-of-requires c κs = omega (arith, kind (c .before .before), c .before .before .before .before .before .before .before .before .pre .4)
+sort-of-requires c κs = let read = c .before .before in omega (arith, kind read, start (placed read) .pre .4)
 
 returns : tie.Need-returns
 unfolding entryBy entryIn
 returns c =
-    let s = c .before .before .before .before .before .before .before .before .before .args .s .now in
-    let entry = c .before .before .before .before .before .before .before .entry-at .ensures in
-    let at-body = body (c .before .before .before .before .before .before) in
-    let number = c .before .before .before .before .before .byte in
-    let parent = c .before .before .before .before .byte2 in
+    let read = c .before .before .before in
+    let s = start (placed read) .args .s .now in
+    let entry = placed read .before .entry-at .ensures in
+    let at-body = body (placed read) in
+    let number = read .before .before .byte in
+    let parent = read .before .byte2 in
     let share = c .before .before .pair in
     let depth = c .before .four in (
       same-entry _ _
           (number .ensures .0 ∙ ap (byteAt s) entry)
           (parent .ensures .0 ∙ ap (λ (a : ℕ). byteAt s (a + entryParentAt)) entry)
-          (c .sort-of .ensures .0 ∙ kind (c .before .before .before))
+          (c .sort-of .ensures .0 ∙ kind read)
           (c .sort-of .ensures .1 ∙ share .ensures .0 ∙ ap (λ (a : ℕ). le2 s (a + bodyShareAt)) at-body)
           (depth .ensures .0 ∙ ap (λ (a : ℕ). le4 s (a + bodyDepthAt)) at-body),
       (number .ensures .1, parent .ensures .1, omega (arith, c .sort-of .ensures .1, share .ensures .1), depth .ensures .1),

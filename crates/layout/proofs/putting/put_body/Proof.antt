@@ -28,17 +28,27 @@ put-four-requires c κs = search needs
 same-length : tie.Need-same-length
 same-length c = search needs
 
+-- Back from the last call to the one before, and from that to the first.
+abbrev second : tie.After-put-four → tie.After-put-pair
+second c = c .before .before .before .before
+
+abbrev first : tie.After-put-pair → tie.After-put-byte
+first c = c .before .before .before .before
+
 returns : tie.Need-returns
 unfolding bytes4 bytes2
 returns c =
-    let start = c .before .before .before .before .before .before .before .before .before .before .before .before .before in
+    let last = c .before .before in
+    let middle = second last in
+    let front = first middle in
+    let start = front .before .before .before in
     let x = start .args in
     let b = x .buffer .now in
     written-after b (x .a) (x .a + bodyDepthAt) (x .kind ∷ bytes2 (x .share)) (bytes4 (x .depth)) (omega (arith, start .pre .0)) refl
-    (c .before .before .put-four .ensures)
+    (last .put-four .ensures)
     (written-after b (x .a) (x .a + bodyShareAt) (x .kind ∷ []) (bytes2 (x .share)) (omega (arith, start .pre .0)) refl
-    (c .before .before .before .before .before .before .put-pair .ensures)
-    (c .before .before .before .before .before .before .before .before .before .before .put-byte .ensures))
+    (middle .put-pair .ensures)
+    (front .put-byte .ensures))
 
 pub put-body-spec : {M : Type 1} → statement M
 put-body-spec =

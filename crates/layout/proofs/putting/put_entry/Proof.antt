@@ -28,17 +28,27 @@ put-pair-requires c κs = search needs
 same-length : tie.Need-same-length
 same-length c = search needs
 
+-- Back from the last call to the one before, and from that to the first.
+abbrev second : tie.After-put-pair → tie.After-put-byte2
+second c = c .before .before .before .before
+
+abbrev first : tie.After-put-byte2 → tie.After-put-byte
+first c = c .before .before .before .before
+
 returns : tie.Need-returns
 unfolding bytes2
 returns c =
-    let start = c .before .before .before .before .before .before .before .before .before .before .before .before .before in
+    let last = c .before .before in
+    let middle = second last in
+    let front = first middle in
+    let start = front .before .before .before in
     let x = start .args in
     let b = x .buffer .now in
     written-after b (x .a) (x .a + entryOffsetAt) (x .node ∷ x .parent ∷ []) (bytes2 (x .offset)) (omega (arith, start .pre .0)) refl
-    (c .before .before .put-pair .ensures)
+    (last .put-pair .ensures)
     (written-after b (x .a) (x .a + entryParentAt) (x .node ∷ []) (x .parent ∷ []) (omega (arith, start .pre .0)) refl
-    (c .before .before .before .before .before .before .put-byte2 .ensures)
-    (c .before .before .before .before .before .before .before .before .before .before .put-byte .ensures))
+    (middle .put-byte2 .ensures)
+    (front .put-byte .ensures))
 
 pub put-entry-spec : {M : Type 1} → statement M
 put-entry-spec =

@@ -20,14 +20,20 @@ put-pair-requires-2 c κs = search needs
 same-length : tie.Need-same-length
 same-length c = search needs
 
+-- Back from the last call to the first.
+abbrev first : tie.After-put-pair2 → tie.After-put-pair
+first c = c .before .before .before .before
+
 returns : tie.Need-returns
 unfolding bytes4 bytes2
 returns c =
-    let start = c .before .before .before .before .before .before .before .before .before in
+    let last = c .before .before in
+    let front = first last in
+    let start = front .before .before .before in
     let x = start .args in
     written-after (x .buffer .now) (x .a) (x .a + 2) (bytes2 (x .n)) (bytes2 (x .n / pairValues)) (omega (arith, start .pre)) refl
-    (c .before .before .put-pair2 .ensures)
-    (c .before .before .before .before .before .before .put-pair .ensures)
+    (last .put-pair2 .ensures)
+    (front .put-pair .ensures)
 
 pub put-four-spec : {M : Type 1} → statement M
 put-four-spec =

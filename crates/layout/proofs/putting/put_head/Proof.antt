@@ -21,17 +21,27 @@ put-byte-requires c κs = search needs
 same-length : tie.Need-same-length
 same-length c = search needs
 
+-- Back from the last call to the one before, and from that to the first.
+abbrev second : tie.After-put-byte → tie.After-put-four2
+second c = c .before .before .before .before
+
+abbrev first : tie.After-put-four2 → tie.After-put-four
+first c = c .before .before .before .before
+
 returns : tie.Need-returns
 unfolding bytes4 bytes2
 returns c =
-    let start = c .before .before .before .before .before .before .before .before .before .before .before .before .before in
+    let last = c .before .before in
+    let middle = second last in
+    let front = first middle in
+    let start = front .before .before .before in
     let x = start .args in
     let b = x .buffer .now in
     written-after b 0 countAt (bytes4 (x .rate) ++ bytes4 (x .depth)) (x .count ∷ []) (omega (arith, start .pre .0)) refl
-    (c .before .before .put-byte .ensures)
+    (last .put-byte .ensures)
     (written-after b 0 rootDepthAt (bytes4 (x .rate)) (bytes4 (x .depth)) (omega (arith, start .pre .0)) refl
-    (c .before .before .before .before .before .before .put-four2 .ensures)
-    (c .before .before .before .before .before .before .before .before .before .before .put-four .ensures))
+    (middle .put-four2 .ensures)
+    (front .put-four .ensures))
 
 pub put-head-spec : {M : Type 1} → statement M
 put-head-spec =

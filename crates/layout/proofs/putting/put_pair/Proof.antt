@@ -21,14 +21,20 @@ put-byte-requires-2 c κs = search needs
 same-length : tie.Need-same-length
 same-length c = search needs
 
+-- Back from the last call to the first.
+abbrev first : tie.After-put-byte2 → tie.After-put-byte
+first c = c .before .before .before .before
+
 returns : tie.Need-returns
 unfolding bytes2
 returns c =
-    let start = c .before .before .before .before .before .before .before .before .before in
+    let last = c .before .before in
+    let front = first last in
+    let start = front .before .before .before in
     let x = start .args in
     written-after (x .buffer .now) (x .a) (x .a + 1) (x .n % byteValues ∷ []) (x .n / byteValues % byteValues ∷ []) (omega (arith, start .pre)) refl
-    (c .before .before .put-byte2 .ensures)
-    (c .before .before .before .before .before .before .put-byte .ensures)
+    (last .put-byte2 .ensures)
+    (front .put-byte .ensures)
 
 pub put-pair-spec : {M : Type 1} → statement M
 put-pair-spec =

@@ -30,9 +30,10 @@ same-length c = search needs
 
 returns : tie.Need-returns
 returns c =
-    let digits = c .before .before .before .before .before in
+    let put = c .before .before in
+    let digits = put .before .before .before in
     let start = digits .before .before .before .args in
-    append-as _ _ _ _ _ _ (digits .decimal .ensures .1 .1 ∙ fewest-decimal (start .n) (digits .decimal .result) (small digits) (digits .decimal .ensures .1 .0)) (c .before .before .put-text .ensures)
+    append-as _ _ _ _ _ _ (digits .decimal .ensures .1 .1 ∙ fewest-decimal (start .n) (digits .decimal .result) (small digits) (digits .decimal .ensures .1 .0)) (put .put-text .ensures)
 
 pub put-decimal-spec : {M : Type 1} → statement M
 put-decimal-spec =

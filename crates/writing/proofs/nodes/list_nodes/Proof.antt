@@ -62,7 +62,7 @@ counted-requires : tie.Need-counted-requires Inv-loop μ-loop
 counted-requires c κs = search needs
 
 add-count : tie.Need-add-count Inv-loop μ-loop
-add-count c = omega (arith, order-few (treeOf (c .before .before .before .before .args .table .now)) (c .before .before .before .loop .m))
+add-count c = let at = c .before .before .before in omega (arith, order-few (treeOf (at .before .args .table .now)) (at .loop .m))
 
 add-m : tie.Need-add-m Inv-loop μ-loop
 add-m c = search needs

@@ -26,7 +26,7 @@ loop-holds c =
     (omega arith, sym (pieces-none bodyLength (bodyBytes p) (length-body p) (c .before .args .buffer .now) (entryAt (c .before .args .n))), refl)
 
 put-body-requires : tie.Need-put-body-requires Inv-loop μ-loop
-put-body-requires c κs = let start = c .before .before .before .before in (start .pre .0, omega arith, omega arith)
+put-body-requires c κs = let at = c .before .before in (at .before .before .pre .0, omega arith, omega arith)
 
 add-i : tie.Need-add-i Inv-loop μ-loop
 add-i c = search needs
@@ -36,10 +36,11 @@ loop-less c = search needs
 
 loop-again : tie.Need-loop-again Inv-loop μ-loop
 loop-again c =
-    let at = c .before .before .before .before .before in
+    let call = c .before .before in
+    let at = call .before .before .before in
     let start = at .before .before in
     let p = planOf (start .args .table .now) in
-    (omega arith, pieces-next bodyLength (bodyBytes p) (length-body p) _ (entryAt (start .args .n)) (at .loop .i) _ _ _ (omega arith) (omega arith) (at .loop .inv .1) (c .before .before .put-body .ensures), search needs)
+    (omega arith, pieces-next bodyLength (bodyBytes p) (length-body p) _ (entryAt (start .args .n)) (at .loop .i) _ _ _ (omega arith) (omega arith) (at .loop .inv .1) (call .put-body .ensures), search needs)
 
 same-length : tie.Need-same-length Inv-loop μ-loop
 same-length c = search needs

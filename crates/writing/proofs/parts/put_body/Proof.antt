@@ -7,6 +7,13 @@ use borrow.Author.Needs.{needs}
 use Rattle.writing.proofs.parts.put_body.Statement.{statement}
 use Rattle.writing.proofs.parts.put_body.Tie as tie
 
+-- Back from where kind and share are known to the node, and from the node to the start.
+abbrev node : tie.After-share-in → tie.After-node-of
+node c = c .before .before .before
+
+abbrev start : tie.After-node-of → tie.Start
+start c = c .before .before .before
+
 mul-node-of : tie.Need-mul-node-of
 mul-node-of c = search needs
 
@@ -26,7 +33,7 @@ share-in-requires : tie.Need-share-in-requires
 share-in-requires c κs = search needs
 
 body-at-requires : tie.Need-body-at-requires
-body-at-requires c κs = let few = listed-few _ _ _ (c .before .before .before .before .before .before .before .pre .0) in (omega arith, omega arith)
+body-at-requires c κs = let few = listed-few _ _ _ (start (node (c .before)) .pre .0) in (omega arith, omega arith)
 
 put-body-requires : tie.Need-put-body-requires
 put-body-requires c κs = search needs
@@ -38,8 +45,8 @@ returns : tie.Need-returns
 returns c =
     let placed = c .before .before .before in
     let made = placed .before .before in
-    let start = made .before .before .before .before .before .before in
-    body-written _ _ _ (start .pre .0) _ _ _ _ _ _ _ (start .pre .1) (made .before .before .before .node-of .ensures .0) (made .before .before .kind-in .ensures .0) (made .share-in .ensures ∙ ap shareIn (made .before .held-by .ensures)) (placed .body-at .ensures) (c .before .before .put-body .ensures)
+    let pre = start (node made) .pre in
+    body-written _ _ _ (pre .0) _ _ _ _ _ _ _ (pre .1) (node made .node-of .ensures .0) (made .before .before .kind-in .ensures .0) (made .share-in .ensures ∙ ap shareIn (made .before .held-by .ensures)) (placed .body-at .ensures) (c .before .before .put-body .ensures)
 
 pub put-body-spec : {M : Type 1} → statement M
 put-body-spec =

@@ -18,7 +18,7 @@ body-at-requires : tie.Need-body-at-requires
 body-at-requires c κs = let few = listed-few _ _ _ (c .before .before .before .pre .0) in (omega arith, omega arith)
 
 entry-at-requires : tie.Need-entry-at-requires
-entry-at-requires c κs = omega (arith, listed-few _ _ _ (c .before .before .before .before .before .pre .0))
+entry-at-requires c κs = let node = c .before .before in omega (arith, listed-few _ _ _ (node .before .before .before .pre .0))
 
 put-entry-requires : tie.Need-put-entry-requires
 put-entry-requires c κs = search needs
@@ -30,8 +30,9 @@ returns : tie.Need-returns
 returns c =
     let placed = c .before .before .before in
     let made = placed .before .before in
-    let start = made .before .before .before .before in
-    entry-written _ _ _ (start .pre .0) _ _ _ _ _ _ (start .pre .1) (made .before .node-of .ensures .0) (omega (arith, made .body-at .ensures)) (placed .entry-at .ensures) (c .before .before .put-entry .ensures)
+    let node = made .before in
+    let start = node .before .before .before in
+    entry-written _ _ _ (start .pre .0) _ _ _ _ _ _ (start .pre .1) (node .node-of .ensures .0) (omega (arith, made .body-at .ensures)) (placed .entry-at .ensures) (c .before .before .put-entry .ensures)
 
 pub put-entry-spec : {M : Type 1} → statement M
 put-entry-spec =

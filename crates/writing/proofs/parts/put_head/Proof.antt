@@ -18,7 +18,8 @@ natural-requires-2 c κs = search needs
 put-head-requires : tie.Need-put-head-requires
 unfolding planOf
 put-head-requires c κs =
-    let start = c .before .before .before .before in
+    let read = c .before in
+    let start = read .before .before .before in
     (omega arith, omega (arith, start .pre .1, order-short (treeOf (start .args .table .now))))
 
 same-length : tie.Need-same-length

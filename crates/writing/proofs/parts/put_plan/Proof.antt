@@ -19,14 +19,21 @@ put-bodies-requires c κs = search needs
 same-length : tie.Need-same-length
 same-length c = search needs
 
+-- Back from the bodies to the entries, and from these to the head.
+abbrev entries : tie.After-put-bodies → tie.After-put-entries
+entries c = c .before .before .before .before
+
+abbrev head : tie.After-put-entries → tie.After-put-head
+head c = c .before .before .before .before
+
 returns : tie.Need-returns
 unfolding planBytes
 returns c =
     let last = c .before .before in
-    let middle = last .before .before .before .before in
-    let head = middle .before .before .before .before in
-    let start = head .before .before .before in
-    plan-written (planOf (start .args .table .now)) _ _ _ _ _ (listed-count _ _ _ (start .pre .0)) (omega (arith, start .pre .1)) (head .put-head .ensures) (middle .put-entries .ensures) (last .put-bodies .ensures)
+    let middle = entries last in
+    let front = head middle in
+    let start = front .before .before .before in
+    plan-written (planOf (start .args .table .now)) _ _ _ _ _ (listed-count _ _ _ (start .pre .0)) (omega (arith, start .pre .1)) (front .put-head .ensures) (middle .put-entries .ensures) (last .put-bodies .ensures)
 
 pub put-plan-spec : {M : Type 1} → statement M
 put-plan-spec =
