@@ -61,7 +61,7 @@ module _ (t : List ℤ) (xs : List ℕ) (n : ℕ) (h : Listed t xs n) where
   node-body i node hi e = ap (λ (x : Entry). x .kind ∷ bytes2 (x .share) ++ bytes4 (x .depth)) (e ∙ listed-entry i hi)
 
   pub entry-written : (b r : List ℕ) (i a offset : ℕ) (node : Node) → i < n → entryBy node ≡ entryOf (treeOf t) (getD xs i 0) → offset ≡ bodyAt n i → a ≡ entryAt i → r ≡ written b a (node .number ∷ node .parent ∷ bytes2 offset) → r ≡ written b (entryAt i) (entryBytes (planOf t) i)
-  entry-written b r i a offset node hi e at here h = cc (node-entry i node hi e)
+  entry-written b r i a offset node hi e at here h = rw (at, here, node-entry i node hi e) at h
 
   pub body-written : (b r : List ℕ) (i a kind share : ℕ) (node : Node) → i < n → entryBy node ≡ entryOf (treeOf t) (getD xs i 0) → kind ≡ kindIn (node .sort) → share ≡ shareIn (heldBy (node .sort)) → a ≡ bodyAt n i → r ≡ written b a (kind ∷ bytes2 share ++ bytes4 (node .depth)) → r ≡ written b (bodyAt n i) (bodyBytes (planOf t) i)
-  body-written b r i a kind share node hi e k s here h = cc (node-body i node hi e)
+  body-written b r i a kind share node hi e k s here h = rw (k, s, here, node-body i node hi e) at h

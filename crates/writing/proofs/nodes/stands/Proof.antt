@@ -1,10 +1,10 @@
 -- `writing::nodes::stands` meets its contract: the tests together.
-use mathlib.Core.Bool.{not, _&&_}
-use mathlib.Core.List.{[], _∷_}
-use Prim.Native.Nat.{_/_, _%_}
+use Prim.Native.Nat.{ℕ, _/_}
+use mathlib.Core.Path.{refl, ap}
+use mathlib.Core.Bool.{not}
 use lib.Dec.{eqb}
-use Rattle.numbers.proofs.Every.{every-two, every-next}
-use Rattle.table.specs.Limits.{nodes, root}
+use Rattle.numbers.proofs.Every.{joined-as, same-tests, last-test}
+use Rattle.table.specs.Limits.{nodes, unused}
 use Rattle.table.specs.Tree.{treeOf, there}
 use Rattle.planlaws.specs.Writing.{stands}
 use borrow.Author.Needs.{needs}
@@ -20,11 +20,10 @@ natural-requires-2 c κs = search needs
 returns : tie.Need-returns
 unfolding stands there treeOf
 returns c =
-    let a = c .before .before .args in
-    let k = a .m % nodes in
-    let tree = treeOf (a .table .now) in
-    let up = eqb (tree .level k) (a .m / nodes) in
-    cc (every-next (there tree k) (not (eqb k root)) (up ∷ []), every-two (there tree k && not (eqb k root)) up)
+    let m = c .before .before .args .m in
+    joined-as
+    (same-tests (ap (λ (n : ℕ). not (eqb n unused)) (c .before .natural .ensures))
+    (same-tests refl (last-test (ap (λ (n : ℕ). eqb n (m / nodes)) (c .natural2 .ensures)))))
 
 pub stands-spec : {M : Type 1} → statement M
 stands-spec = tie.close (tie.spec natural-requires natural-requires-2 returns)
