@@ -8,6 +8,7 @@ use lib.Dec.{eqb, leb}
 use Rattle.numbers.specs.Tests.{every}
 use Rattle.numbers.specs.Below.{allBelow}
 use Rattle.layout.specs.Kinds.{clientWeighted}
+use Rattle.table.specs.Limits.{lastNode}
 use Rattle.layout.specs.Bytes.{byteAt, le2, le4, bytes2, bytes4, bytesBelow}
 
 -- What a plan says of one node: its entry's node and parent, and its body's kind, share and depth.
@@ -37,7 +38,7 @@ bodyLength = 7
 
 -- The greatest count and the greatest kind.
 abbrev pub lastCount : ℕ
-lastCount = 63
+lastCount = lastNode
 
 abbrev pub lastKind : ℕ
 lastKind = clientWeighted

@@ -1,5 +1,7 @@
 // The bytes of a plan file: what a plan says of a node, and reading and putting it. Document 01, "Same tree, and the plan
 // file".
+use table::Table;
+
 pub mod bodies;
 pub mod bytes;
 pub mod forms;
@@ -36,7 +38,7 @@ impl Format {
 
     pub const BODY: usize = 7;
 
-    pub const LAST_COUNT: usize = 63;
+    pub const LAST_COUNT: usize = Table::NODES - 1;
 
     // Places of the head.
     pub const DISK_RATE: usize = 0;
