@@ -24,11 +24,11 @@ use Rattle.table.proofs.Refusals.{none-first, outcome-refused}
 use Rattle.treelaws.proofs.Children.{class-there}
 use Rattle.treelaws.proofs.Floors.{grounds, node-floor}
 use Rattle.bounds.specs.Events.{Call, join, leave, changeShare, changeRate, request, tick, tableAfter, answerOf, eventOf, events, tableAfterAll}
-use Rattle.bounds.specs.Observer.{Observer, observedAll}
-use Rattle.bounds.specs.Counts.{accepts, leaves, staysThroughout}
+use Rattle.bounds.specs.Observer.{Observer, observed, observedAll}
+use Rattle.bounds.specs.Counts.{accepts, leaves, grainsOver, chargedOver, staysThroughout}
 use Rattle.bounds.specs.Demand.{Bounds}
 use Rattle.bounds.proofs.Simulation.{Agrees, Steps}
-use Rattle.bounds.proofs.Telescope.{agrees-all, ClassOver, class-over, all-over, client-over}
+use Rattle.bounds.proofs.Telescope.{agrees-all, ClassOver, class-over, client-over}
 
 -- A node that is there has a number below 64.
 pub there-below : (t : List ℤ) (k : ℕ) → length t ≡ tableLength → there (treeOf t) k ≡ true → k < nodes
@@ -89,6 +89,14 @@ client-depth t k f e =
     let depth = f .limits k (there-below t k (f .long) here) here .depth in
     omega (arith, within-parts 1 greatestDepth (place t k depthAt) depth)
 
+-- Every entry of a stretch is charged to the root, whatever it names.
+pub all-charged : Steps → (t : List ℤ) (o : Observer) (calls : List Call) → Agrees t o → chargedOver o root (events t calls) ≡ grainsOver (events t calls)
+unfolding events chargedOver grainsOver
+all-charged laws t o [] a = refl
+all-charged laws t o (call ∷ calls) a =
+    let rest = all-charged laws (tableAfter t call) (observed o (eventOf t call)) calls (laws .agrees t o call a) in
+    omega (arith, laws .all t o call a, rest)
+
 -- The balance of a class before and after a stretch that it is joined throughout: at most its depth, and at least four
 -- depths below zero.
 record ClassEnds (t u : List ℤ) (o : Observer) (c : ℕ) : Type 0 where
@@ -136,7 +144,7 @@ module _ (laws : Steps) (t : List ℤ) (o : Observer) (a : Agrees t o) (calls : 
             (over .end);
         disk =
             let ends = class-ends root (rw (← a .tree) (root-class t f)) root-over in
-            omega (arith, root-over .line, ends .before, ends .after, all-over laws t o calls a);
+            omega (arith, root-over .line, ends .before, ends .after, all-charged laws t o calls a);
         classes = λ c e h.
             let over = class-over laws t o calls a c e h in
             let ends = class-ends c e over in

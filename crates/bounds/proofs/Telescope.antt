@@ -11,12 +11,12 @@ use borrow.Author.Tests.{not-true}
 use lib.IntN.{ℤ}
 use Rattle.numbers.specs.Whole.{plus, minus}
 use Rattle.numbers.proofs.Every.{head-holds, rest-hold}
-use Rattle.table.specs.Limits.{root, grainScale}
+use Rattle.table.specs.Limits.{grainScale}
 use Rattle.table.specs.Places.{balance}
 use Rattle.table.specs.Tree.{isClass, isClient}
 use Rattle.bounds.specs.Events.{Call, tableAfter, eventOf, events, tableAfterAll}
 use Rattle.bounds.specs.Observer.{Observer, observed, observedAll}
-use Rattle.bounds.specs.Counts.{ratesOver, grainsOver, dispatchedOver, chargedOver, waitsThroughout, staysThroughout}
+use Rattle.bounds.specs.Counts.{ratesOver, dispatchedOver, chargedOver, waitsThroughout, staysThroughout}
 use Rattle.bounds.proofs.Simulation.{Agrees, Steps}
 
 pub agrees-all : Steps → (t : List ℤ) (o : Observer) (calls : List Call) → Agrees t o → Agrees (tableAfterAll t calls) (observedAll o (events t calls))
@@ -41,14 +41,6 @@ class-over laws t o (call ∷ calls) a c e h =
     let first = laws .class t o call a c e (not-true _ (head-holds _ _ h)) in
     let rest = class-over laws (tableAfter t call) (observed o (eventOf t call)) calls (laws .agrees t o call a) c (first .class) (head-holds _ _ (rest-hold _ _ h)) in
     record { class = rest .class; depth = rest .depth ∙ first .depth; line = omega (arith, first .line, rest .line) }
-
--- All grains of a stretch are charged to the root.
-pub all-over : Steps → (t : List ℤ) (o : Observer) (calls : List Call) → Agrees t o → chargedOver o root (events t calls) ≡ grainsOver (events t calls)
-unfolding events chargedOver grainsOver
-all-over laws t o [] a = refl
-all-over laws t o (call ∷ calls) a =
-    let rest = all-over laws (tableAfter t call) (observed o (eventOf t call)) calls (laws .agrees t o call a) in
-    omega (arith, laws .all t o call a, rest)
 
 -- A waiting client over a stretch.
 pub record ClientOver (t : List ℤ) (o : Observer) (calls : List Call) (k : ℕ) : Type 0 where

@@ -13,7 +13,7 @@ use Rattle.suppliers.proofs.next_client.Statement.{statement}
 use Rattle.suppliers.proofs.next_client.Tie as tie
 
 abbrev Inv-clients : tie.InvT-clients
-Inv-clients table best₀ k₀ best k = (k ≤ nodes) × (best ≤ nobody) × (best ≡ forBelow k (better table) nodes)
+Inv-clients table best₀ k₀ best k = (k ≤ nodes) × (best ≤ nobody) × (best ≡ forBelow k (better table) nobody)
 
 abbrev μ-clients : tie.MeasureT-clients
 μ-clients table best₀ k₀ best k = nodes - k
