@@ -1,6 +1,6 @@
 -- What a caller sees of two controllers that break their promise: one whose ticks list nothing, and one that dispatches
 -- everything in the first tick. Document 01, "Slips that the paper itself invites".
-use Prim.Native.Nat.{ℕ, zero, suc}
+use Prim.Native.Nat.{ℕ, zero, suc, _-_}
 use mathlib.Core.List.{List, [], _∷_}
 use lib.IntN.{ℤ, pos}
 use Rattle.table.specs.Limits.{root, client, weighted, mostWaiting}
@@ -12,18 +12,20 @@ use Rattle.bounds.specs.Observer.{Observer, start, observedAll}
 unfoldable pub clientJoins : Event
 clientJoins = record { call = join (pos 1) (pos root) (pos client) (pos weighted) (pos 1) (pos 1); answer = accepted (pos 0 ∷ []); list = [] }
 
--- It asks for one token, n times.
+-- It asks for one token n times; the last arrival number is as many as may wait.
 unfoldable pub asks : ℕ → List Event
 asks zero = []
-asks (suc n) = record { call = request (pos 1) (pos 0) (pos 1); answer = accepted (pos (suc n) ∷ []); list = [] } ∷ asks n
+asks (suc n) = record { call = request (pos 1) (pos 0) (pos 1); answer = accepted (pos (mostWaiting - n) ∷ []); list = [] } ∷ asks n
 
--- A tick that dispatches n of them, and names as supplier of each node 2, which is not there.
+-- Entries of n dispatches of these requests. They name as supplier node 2, which is not there.
 unfoldable pub entriesOfOne : ℕ → List ℤ
 entriesOfOne zero = []
 entriesOfOne (suc n) = pos 1 ∷ pos 0 ∷ pos 1 ∷ pos 2 ∷ entriesOfOne n
 
+-- A tick that is lent a list with room for all that wait, and answers that n were dispatched. The list holds such entries
+-- before and after it.
 unfoldable pub dispatches : ℕ → Event
-dispatches n = record { call = tick []; answer = accepted (pos n ∷ []); list = entriesOfOne n }
+dispatches n = record { call = tick (entriesOfOne mostWaiting); answer = accepted (pos n ∷ []); list = entriesOfOne mostWaiting }
 
 -- A disk of 1000 grains a tick and depth 1, with client 1 and as many requests as may wait at it.
 unfoldable pub before : Observer
