@@ -14,16 +14,16 @@ pub fn in_order(table: &[i64]) -> bool
     if table.len() != Table::LENGTH {
         return false;
     }
+    let header = places::header_in_order(table);
     let root = places::root_in_order(table);
     let each = records::records_in_order(table);
-    if !(root & each) {
+    if !(header & root & each) {
         return false;
     }
     if !classes::classes_cover(table) {
         return false;
     }
-    let header = places::header_in_order(table);
     let rates = rates::rates_in_order(table);
     let queues = queues::queues_in_order(table);
-    header & rates & queues
+    rates & queues
 }

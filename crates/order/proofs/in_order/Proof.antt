@@ -9,7 +9,7 @@ use lib.IntN.{ℤ}
 use Rattle.numbers.proofs.Tests.{same-truth, and-true, and-left, and-right}
 use Rattle.table.specs.Limits.{tableLength}
 use Rattle.table.specs.Tree.{treeOf, eachClass}
-use Rattle.table.specs.Order.{rootInOrder, inOrder}
+use Rattle.table.specs.Order.{headerInOrder, rootInOrder, inOrder}
 use Rattle.records.specs.Record.{recordsInOrder}
 use Rattle.order.specs.Cover.{classCovers}
 use Rattle.order.proofs.Verdict.{stages, from-stages, out-of-order, can-be-rated, waiting-small}
@@ -19,7 +19,7 @@ use Rattle.order.proofs.in_order.Tie as tie
 
 -- From the test of the records back to that of the length, and the table.
 abbrev measured : tie.After-records-in-order → tie.Else1
-measured c = c .before .before
+measured c = c .before .before .before
 
 abbrev table : tie.After-records-in-order → List ℤ
 table c = measured c .before .args .table .now
@@ -28,14 +28,17 @@ table c = measured c .before .args .table .now
 long : (c : tie.Else2) → length (table (c .before)) ≡ tableLength
 long c = measured (c .before) .if1 .left
 
-shaped : (c : tie.Else2) → (c .before .before .root-in-order .result && c .before .records-in-order .result) ≡ true
+shaped : (c : tie.Else2) → (c .before .before .before .header-in-order .result && c .before .before .root-in-order .result && c .before .records-in-order .result) ≡ true
 shaped c = not-false _ (c .if2 .left)
 
+header : (c : tie.Else2) → headerInOrder (table (c .before)) ≡ true
+header c = sym (c .before .before .before .header-in-order .ensures) ∙ and-left (c .before .before .before .header-in-order .result) _ (and-left _ (c .before .records-in-order .result) (shaped c))
+
 root : (c : tie.Else2) → rootInOrder (table (c .before)) ≡ true
-root c = sym (c .before .before .root-in-order .ensures) ∙ and-left (c .before .before .root-in-order .result) _ (shaped c)
+root c = sym (c .before .before .root-in-order .ensures) ∙ and-right (c .before .before .before .header-in-order .result) _ (and-left _ (c .before .records-in-order .result) (shaped c))
 
 records : (c : tie.Else2) → recordsInOrder (table (c .before)) ≡ true
-records c = sym (c .before .records-in-order .ensures) ∙ and-right (c .before .before .root-in-order .result) _ (shaped c)
+records c = sym (c .before .records-in-order .ensures) ∙ and-right (c .before .before .before .header-in-order .result && c .before .before .root-in-order .result) _ (shaped c)
 
 covered : (c : tie.Else3) → let t = table (c .before .before .before) in eachClass (treeOf t) (classCovers t) ≡ true
 covered c = sym (c .before .classes-cover .ensures) ∙ not-false _ (c .if3 .left)
@@ -45,6 +48,9 @@ returns c =
     let t = c .before .args .table .now in
     out-of-order t (eqb (length t) tableLength) (λ s. eq-eqb (length t) tableLength (s .long)) (ne-eqb (length t) tableLength (c .if1 .taken))
 
+header-in-order-requires : tie.Need-header-in-order-requires
+header-in-order-requires c κs = search needs
+
 root-in-order-requires : tie.Need-root-in-order-requires
 root-in-order-requires c κs = search needs
 
@@ -53,10 +59,11 @@ records-in-order-requires c κs = search needs
 
 returns-2 : tie.Need-returns-2
 returns-2 c =
+    let header = c .before .before .before .header-in-order in
     let root = c .before .before .root-in-order in
     let each = c .before .records-in-order in
-    out-of-order _ (root .result && each .result)
-    (λ s. and-true (root .result) (each .result) (root .ensures ∙ s .root) (each .ensures ∙ s .records))
+    out-of-order _ (header .result && root .result && each .result)
+    (λ s. and-true (header .result && root .result) (each .result) (and-true (header .result) (root .result) (header .ensures ∙ s .header) (root .ensures ∙ s .root)) (each .ensures ∙ s .records))
     (not-true _ (c .if2 .taken))
 
 classes-cover-requires : tie.Need-classes-cover-requires
@@ -65,38 +72,27 @@ classes-cover-requires c κs = (long c, records c)
 returns-3 : tie.Need-returns-3
 returns-3 c = out-of-order _ (c .before .classes-cover .result) (λ s. c .before .classes-cover .ensures ∙ s .classes) (not-true _ (c .if3 .taken))
 
-header-in-order-requires : tie.Need-header-in-order-requires
-header-in-order-requires c κs = long (c .before .before)
-
 rates-in-order-requires : tie.Need-rates-in-order-requires
-rates-in-order-requires c κs =
-    let past = c .before in
-    let shaped = past .before .before in
-    can-be-rated _ (long shaped) (root shaped) (records shaped) (covered past)
+rates-in-order-requires c κs = can-be-rated _ (long (c .before .before)) (root (c .before .before)) (records (c .before .before)) (covered c)
 
 queues-in-order-requires : tie.Need-queues-in-order-requires
-queues-in-order-requires c κs =
-    let past = c .before .before in
-    let shaped = past .before .before in
-    (long shaped, waiting-small _ (records shaped))
+queues-in-order-requires c κs = (long (c .before .before .before), waiting-small _ (records (c .before .before .before)))
 
--- The last three tests, in whichever order the code joins them.
+-- The last two tests, in whichever order the code joins them.
 returns-4 : tie.Need-returns-4
 returns-4 c =
-    let past = c .before .before .before in
+    let past = c .before .before in
     let shaped = past .before .before in
-    let header = c .before .before .header-in-order in
     let rates = c .before .rates-in-order in
     let queues = c .queues-in-order in
     same-truth _ (inOrder (table (shaped .before)))
     (λ h.
-    let is-header : header .result ≡ true = search (and-left, and-right, h) in
     let are-rates : rates .result ≡ true = search (and-left, and-right, h) in
     let are-queues : queues .result ≡ true = search (and-left, and-right, h) in
     from-stages _
     (record {
       long = long shaped;
-      header = sym (header .ensures) ∙ is-header;
+      header = header shaped;
       root = root shaped;
       records = records shaped;
       classes = covered past;
@@ -105,22 +101,21 @@ returns-4 c =
     }))
     (λ h.
     let s = stages _ h in
-    let is-header = header .ensures ∙ s .header in
     let are-rates = rates .ensures ∙ s .rates in
     let are-queues = queues .ensures ∙ s .queues in
-    search (and-true, is-header, are-rates, are-queues))
+    search (and-true, are-rates, are-queues))
 
 pub in-order-spec : {M : Type 1} → statement M
 in-order-spec =
     tie.close
     (tie.spec
     returns
+    header-in-order-requires
     root-in-order-requires
     records-in-order-requires
     returns-2
     classes-cover-requires
     returns-3
-    header-in-order-requires
     rates-in-order-requires
     queues-in-order-requires
     returns-4)
