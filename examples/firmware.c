@@ -9,49 +9,42 @@
 
 #include "hds.h"
 
+#define TABLE table, HDS_TABLE_LENGTH
+#define LIST list, HDS_LONGEST_LIST
+
 static int64_t table[HDS_TABLE_LENGTH];
 static int64_t list[HDS_LONGEST_LIST];
 
 static void answer(const char *call, int64_t number)
 {
     if (number < 0)
-        printf("%s: refused %" PRId64 "\n", call, -number);
+        printf("%s: refused %" PRId64 ", %s\n", call, -number, hds_refusal_name(-number));
     else
         printf("%s: %" PRId64 "\n", call, number);
 }
 
-static int64_t join(int64_t node, int64_t parent, int64_t sort, int64_t kind, int64_t share, int64_t depth)
-{
-    return hds_join(table, HDS_TABLE_LENGTH, node, parent, sort, kind, share, depth);
-}
-
-static int64_t request(int64_t client, int64_t tag, int64_t size)
-{
-    return hds_request(table, HDS_TABLE_LENGTH, client, tag, size);
-}
-
 static void look(int64_t node)
 {
-    int64_t seen[3];
-    int64_t number = hds_look(table, HDS_TABLE_LENGTH, node, seen);
+    int64_t seen[HDS_SEEN_LENGTH];
+    int64_t number = hds_look(TABLE, node, seen);
 
     if (number < 0)
         answer("look", number);
     else
-        printf("node %" PRId64 ": rate %" PRId64 ", balance %" PRId64 ", waiting %" PRId64 "\n", node, seen[0], seen[1],
-               seen[2]);
+        printf("node %" PRId64 ": rate %" PRId64 ", balance %" PRId64 ", waiting %" PRId64 "\n", node,
+               seen[HDS_SEEN_RATE], seen[HDS_SEEN_BALANCE], seen[HDS_SEEN_WAITING]);
 }
 
 static void tick(void)
 {
-    int64_t count = hds_tick(table, HDS_TABLE_LENGTH, list, HDS_LONGEST_LIST);
+    int64_t count = hds_tick(TABLE, LIST);
 
     answer("tick", count);
     for (int64_t i = 0; i < count; i++) {
         const int64_t *entry = list + HDS_ENTRY_LENGTH * i;
 
-        printf("  client %" PRId64 ", tag %" PRId64 ", size %" PRId64 ", supplier %" PRId64 "\n", entry[0], entry[1],
-               entry[2], entry[3]);
+        printf("  client %" PRId64 ", tag %" PRId64 ", size %" PRId64 ", supplier %" PRId64 "\n", entry[HDS_ENTRY_CLIENT],
+               entry[HDS_ENTRY_TAG], entry[HDS_ENTRY_SIZE], entry[HDS_ENTRY_SUPPLIER]);
     }
 }
 
@@ -68,12 +61,12 @@ static void plans(void)
     bad[13] = 4; /* no kind */
     printf("check good: %" PRIu32 "\n", hds_plan_check(good, sizeof good));
     printf("check bad: %" PRIu32 "\n", hds_plan_check(bad, sizeof bad));
-    answer("read bad", hds_plan_read(table, HDS_TABLE_LENGTH, bad, sizeof bad));
-    answer("read good", hds_plan_read(table, HDS_TABLE_LENGTH, good, sizeof good));
+    answer("read bad", hds_plan_read(TABLE, bad, sizeof bad));
+    answer("read good", hds_plan_read(TABLE, good, sizeof good));
     look(0);
     look(5);
-    answer("write, short buffer", hds_plan_write(table, HDS_TABLE_LENGTH, buffer, sizeof good - 1));
-    answer("write", hds_plan_write(table, HDS_TABLE_LENGTH, buffer, sizeof buffer));
+    answer("write, short buffer", hds_plan_write(TABLE, buffer, sizeof good - 1));
+    answer("write", hds_plan_write(TABLE, buffer, sizeof buffer));
     printf("%s\n", memcmp(buffer, good, sizeof good) == 0 ? "the same bytes" : "other bytes");
 }
 
@@ -84,23 +77,23 @@ int main(void)
     /* The disk: 1000 grains a tick, 40 tokens. Suite 1 has half of it; its streams 2 and 3 share that by weight. */
     look(0);
     plans();
-    answer("open", hds_open(table, HDS_TABLE_LENGTH, 1000, 40));
-    answer("join suite 1", join(1, 0, HDS_CLASS, HDS_FIXED, 5000, 20));
-    answer("join stream 2", join(2, 1, HDS_CLIENT, HDS_WEIGHTED, 3, 10));
-    answer("join stream 3", join(3, 1, HDS_CLIENT, HDS_WEIGHTED, 2, 10));
-    answer("join backup 4", join(4, 0, HDS_CLIENT, HDS_WEIGHTED, 1, 16));
-    answer("join 4 again", join(4, 0, HDS_CLIENT, HDS_WEIGHTED, 1, 4));
-    answer("join 5, too deep", join(5, 0, HDS_CLIENT, HDS_WEIGHTED, 1, 5));
+    answer("open", hds_open(TABLE, 1000, 40));
+    answer("join suite 1", hds_join_class(TABLE, 1, 0, hds_fixed(5000), 20));
+    answer("join stream 2", hds_join_client(TABLE, 2, 1, hds_weighted(3), 10));
+    answer("join stream 3", hds_join_client(TABLE, 3, 1, hds_weighted(2), 10));
+    answer("join backup 4", hds_join_client(TABLE, 4, 0, hds_weighted(1), 16));
+    answer("join 4 again", hds_join_client(TABLE, 4, 0, hds_weighted(1), 4));
+    answer("join 5, too deep", hds_join_client(TABLE, 5, 0, hds_weighted(1), 5));
     for (int64_t node = 0; node <= 5; node++)
         look(node);
 
     /* Stream 2 asks for 1, the backup for 1, stream 3 for 2. */
-    answer("request at 2", request(2, 201, 1));
-    answer("request at 4", request(4, 401, 1));
-    answer("request at 3", request(3, 301, 2));
-    answer("request at suite 1", request(1, 101, 1));
-    answer("request too large", request(2, 202, 11));
-    answer("tick, short list", hds_tick(table, HDS_TABLE_LENGTH, list, 11));
+    answer("request at 2", hds_request(TABLE, 2, 201, 1));
+    answer("request at 4", hds_request(TABLE, 4, 401, 1));
+    answer("request at 3", hds_request(TABLE, 3, 301, 2));
+    answer("request at suite 1", hds_request(TABLE, 1, 101, 1));
+    answer("request too large", hds_request(TABLE, 2, 202, 11));
+    answer("tick, short list", hds_tick(TABLE, list, 11));
     for (int i = 0; i < 4; i++)
         tick();
     for (int64_t node = 0; node <= 4; node++)
@@ -109,14 +102,14 @@ int main(void)
     /* A change of shares is a change of the tree, and changing back undoes it. */
     for (int i = 0; i < HDS_TABLE_LENGTH; i++)
         before[i] = table[i];
-    answer("change share of 4", hds_change_share(table, HDS_TABLE_LENGTH, 4, HDS_FIXED, 2000));
-    answer("change rate", hds_change_rate(table, HDS_TABLE_LENGTH, 2000));
+    answer("change share of 4", hds_set_share(TABLE, 4, hds_fixed(2000)));
+    answer("change rate", hds_change_rate(TABLE, 2000));
     look(4);
-    answer("same", hds_same(before, HDS_TABLE_LENGTH, table, HDS_TABLE_LENGTH));
-    answer("change share of 4", hds_change_share(table, HDS_TABLE_LENGTH, 4, HDS_WEIGHTED, 1));
-    answer("change rate", hds_change_rate(table, HDS_TABLE_LENGTH, 1000));
-    answer("same", hds_same(before, HDS_TABLE_LENGTH, table, HDS_TABLE_LENGTH));
-    answer("leave suite 1", hds_leave(table, HDS_TABLE_LENGTH, 1));
-    answer("leave backup 4", hds_leave(table, HDS_TABLE_LENGTH, 4));
+    answer("same", hds_same(before, HDS_TABLE_LENGTH, TABLE));
+    answer("change share of 4", hds_set_share(TABLE, 4, hds_weighted(1)));
+    answer("change rate", hds_change_rate(TABLE, 1000));
+    answer("same", hds_same(before, HDS_TABLE_LENGTH, TABLE));
+    answer("leave suite 1", hds_leave(TABLE, 1));
+    answer("leave backup 4", hds_leave(TABLE, 4));
     return 0;
 }

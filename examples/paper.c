@@ -23,12 +23,10 @@
 enum {
     DISK_MB_PER_SECOND = 18,
     TOKENS_PER_MB = 1000,
-    GRAINS_PER_TOKEN = 1000,
     TICKS_PER_SECOND = 200,
-    DISK_RATE = DISK_MB_PER_SECOND * TOKENS_PER_MB * GRAINS_PER_TOKEN / TICKS_PER_SECOND,
+    DISK_RATE = DISK_MB_PER_SECOND * TOKENS_PER_MB * HDS_GRAIN_SCALE / TICKS_PER_SECOND,
     REQUEST_TOKENS = 16,
-    MOST_WAITING = 8,
-    QUEUE_TOKENS = MOST_WAITING * REQUEST_TOKENS,
+    QUEUE_TOKENS = HDS_MOST_WAITING * REQUEST_TOKENS,
     PHASE_SECONDS = 60,
     PHASE_TICKS = PHASE_SECONDS * TICKS_PER_SECOND,
     MOST_PHASES = 6
@@ -40,19 +38,15 @@ enum { GREEDY = -1 };
 /* Requests are not told apart here, so all have one tag. */
 enum { TAG = 0 };
 
-/* The places that are used here: in an entry of the dispatch list, and in what a look shows. */
-enum { ENTRY_CLIENT = 0, ENTRY_SIZE = 2 };
-enum { SEEN_RATE = 0, SEEN_LENGTH = 3 };
-
 /* The nodes of all experiments. The disk is the root. */
-enum { DISK = 0, STREAM_1 = 1, STREAM_2 = 2, STREAM_3 = 3, CLASS_A = 4, CLASS_B = 5, NODES = 6 };
+enum { DISK = HDS_ROOT, STREAM_1 = 1, STREAM_2 = 2, STREAM_3 = 3, CLASS_A = 4, CLASS_B = 5, NODES = 6 };
 enum { FIRST_STREAM = STREAM_1, LAST_STREAM = STREAM_3 };
 
 /* A class or a stream with a fixed share, in ten-thousandths of its parent's. */
 struct member {
     int64_t node;
     int64_t parent;
-    int64_t sort;
+    enum hds_sort sort;
     int64_t share;
     int64_t depth;
 };
@@ -92,7 +86,7 @@ static const struct experiment experiments[] = {
         .disk_depth = 3 * QUEUE_TOKENS,
         .tree = {{CLASS_A, DISK, HDS_CLASS, 5000, QUEUE_TOKENS},
                  {CLASS_B, DISK, HDS_CLASS, 5000, 2 * QUEUE_TOKENS},
-                 {STREAM_1, CLASS_A, HDS_CLIENT, 10000, QUEUE_TOKENS},
+                 {STREAM_1, CLASS_A, HDS_CLIENT, HDS_WHOLE_SHARE, QUEUE_TOKENS},
                  {STREAM_2, CLASS_B, HDS_CLIENT, 6500, QUEUE_TOKENS},
                  {STREAM_3, CLASS_B, HDS_CLIENT, 3500, QUEUE_TOKENS}},
         .phases = {{"all greedy", {[STREAM_1] = GREEDY, [STREAM_2] = GREEDY, [STREAM_3] = GREEDY}}},
@@ -104,12 +98,15 @@ static const struct experiment experiments[] = {
                  {CLASS_B, DISK, HDS_CLASS, 5000, QUEUE_TOKENS},
                  {STREAM_1, CLASS_A, HDS_CLIENT, 8000, QUEUE_TOKENS},
                  {STREAM_2, CLASS_A, HDS_CLIENT, 2000, QUEUE_TOKENS},
-                 {STREAM_3, CLASS_B, HDS_CLIENT, 10000, QUEUE_TOKENS}},
+                 {STREAM_3, CLASS_B, HDS_CLIENT, HDS_WHOLE_SHARE, QUEUE_TOKENS}},
         .phases = {{"0-60 s: stream 1", {[STREAM_1] = GREEDY}},
                    {"60-120 s: 1 and 2", {[STREAM_1] = GREEDY, [STREAM_2] = GREEDY}},
                    {"120-180 s: all", {[STREAM_1] = GREEDY, [STREAM_2] = GREEDY, [STREAM_3] = GREEDY}}},
     },
 };
+
+#define TABLE table, HDS_TABLE_LENGTH
+#define LIST list, HDS_LONGEST_LIST
 
 static int64_t table[HDS_TABLE_LENGTH];
 static int64_t list[HDS_LONGEST_LIST];
@@ -118,7 +115,7 @@ static int64_t list[HDS_LONGEST_LIST];
 static int64_t accepted(const char *call, int64_t answer)
 {
     if (answer < 0) {
-        fprintf(stderr, "%s: refused %" PRId64 "\n", call, -answer);
+        fprintf(stderr, "%s: refused %" PRId64 ", %s\n", call, -answer, hds_refusal_text(-answer));
         exit(EXIT_FAILURE);
     }
     return answer;
@@ -126,16 +123,21 @@ static int64_t accepted(const char *call, int64_t answer)
 
 static void build(const struct experiment *experiment)
 {
-    accepted("open", hds_open(table, HDS_TABLE_LENGTH, DISK_RATE, experiment->disk_depth));
-    for (const struct member *member = experiment->tree; member->node != DISK; member++)
-        accepted("join", hds_join(table, HDS_TABLE_LENGTH, member->node, member->parent, member->sort, HDS_FIXED,
-                                  member->share, member->depth));
+    accepted("open", hds_open(TABLE, DISK_RATE, experiment->disk_depth));
+    for (const struct member *member = experiment->tree; member->node != DISK; member++) {
+        struct hds_share share = hds_fixed(member->share);
+
+        if (member->sort == HDS_CLASS)
+            accepted("join", hds_join_class(TABLE, member->node, member->parent, share, member->depth));
+        else
+            accepted("join", hds_join_client(TABLE, member->node, member->parent, share, member->depth));
+    }
 }
 
 /* One request of a stream. Answers false where the queue is full. */
 static bool ask(int64_t stream)
 {
-    int64_t answer = hds_request(table, HDS_TABLE_LENGTH, stream, TAG, REQUEST_TOKENS);
+    int64_t answer = hds_request(TABLE, stream, TAG, REQUEST_TOKENS);
 
     if (answer == -HDS_QUEUE_FULL)
         return false;
@@ -188,12 +190,12 @@ static void ask_in_turn(int64_t credit[NODES], bool rising)
 /* One tick. What was dispatched for a stream, in tokens, is added to what was sent for it. */
 static void tick(int64_t sent[NODES])
 {
-    int64_t count = accepted("tick", hds_tick(table, HDS_TABLE_LENGTH, list, HDS_LONGEST_LIST));
+    int64_t count = accepted("tick", hds_tick(TABLE, LIST));
 
     for (int64_t i = 0; i < count; i++) {
         const int64_t *entry = list + HDS_ENTRY_LENGTH * i;
 
-        sent[entry[ENTRY_CLIENT]] += entry[ENTRY_SIZE];
+        sent[entry[HDS_ENTRY_CLIENT]] += entry[HDS_ENTRY_SIZE];
     }
 }
 
@@ -227,12 +229,12 @@ static void print_part(int64_t part, int64_t whole)
 /* Prints a line for a stream: what it has reserved, and the tokens sent for it as MB/s and as part of all. */
 static void print_stream(const struct phase *phase, int64_t stream, int64_t tokens, int64_t all_tokens)
 {
-    int64_t seen[SEEN_LENGTH];
+    int64_t seen[HDS_SEEN_LENGTH];
     int64_t hundredths = rounded(tokens * 100, (int64_t)TOKENS_PER_MB * PHASE_SECONDS);
 
-    accepted("look", hds_look(table, HDS_TABLE_LENGTH, stream, seen));
+    accepted("look", hds_look(TABLE, stream, seen));
     printf("%-18s  %6" PRId64, phase->name, stream);
-    print_part(seen[SEEN_RATE], DISK_RATE);
+    print_part(seen[HDS_SEEN_RATE], DISK_RATE);
     printf("  %5" PRId64 ".%02" PRId64, hundredths / 100, hundredths % 100);
     print_part(tokens, all_tokens);
     printf("\n");

@@ -1,25 +1,44 @@
 /*
- * Hierarchical disk sharing: the calls on an account table, for C.
+ * Hierarchical disk sharing: the calls on an account table, for C and C++.
  *
- * Link with libcabinet.a, which `rt staticlib cabinet` writes to
- * target/staticlib/, and for hds_plan_check with libplan.a, which
- * `rt staticlib plan` writes there.
+ * Link with libcabinet.a, which `rt staticlib cabinet` writes to target/staticlib/, and for hds_plan_check with libplan.a,
+ * which `rt staticlib plan` writes there. docs/MANUAL.md explains what the calls do, with examples; docs/PLAN.md has the
+ * bytes of a plan.
  *
- * The caller lends an account table, HDS_TABLE_LENGTH signed numbers, and keeps
- * it between the calls. A slice is given as a pointer and a length in numbers.
- * Tables of any length and contents and arguments of any size are safe: a call
- * that cannot be done is refused, and leaves every lent buffer as it came.
- * Buffers of one call must not overlap, and a pointer must not be null, also
- * where the length is 0.
+ * ANSWERS. Each call answers 0 or more where it is accepted, else the negated number of the first cause that turns it back:
+ * -HDS_NOT_THERE is "node or parent not there".
  *
- * A call answers 0 or more where it is accepted, else the negated number of the
- * first cause that turns it back: -HDS_NOT_THERE is "node or parent not there".
+ *     !! hds_plan_check alone answers the number itself: 0 for a good plan, HDS_PLAN_WRONG and not -HDS_PLAN_WRONG for a
+ *     !! wrong one. Testing its answer for "below 0" accepts every plan.
  *
- * Units: depths and sizes are in tokens (1 KiB), rates in grains (a thousandth
- * of a token) per tick, balances in grains.
+ * A refused call leaves every lent buffer as it came. Tables, lists and plans of any length and contents and arguments of
+ * any size are safe. Only these are the caller's to see to: a pointer is not null, also where the length is 0; it points to
+ * as many numbers (or bytes) as the length says; the buffers of one call do not overlap.
+ *
+ * UNITS. Depths and sizes are in tokens (1 KiB), rates in grains (a thousandth of a token) per tick, balances in grains.
+ *
+ * THE TABLE is HDS_TABLE_LENGTH signed 64-bit numbers that the caller lends to each call and keeps between the calls. It holds
+ * no pointers, and the calls keep nothing outside it: a copy of it is a table like the first.
+ *   In memory    an array of int64_t, aligned to 8 bytes.
+ *   On disk      its HDS_TABLE_BYTES bytes as they are, each number low byte first. There is no checksum: the calls test that a
+ *                table is in order, not that it is the one that was stored.
+ *   One writer   While a call that may write a table runs, no other call on that table may. Calls that only read it (look,
+ *                same, plan write) may run side by side, and so may calls on different tables.
+ *   A stop       A call judges first and writes last. A program stopped in the middle of a call leaves the table with a part of
+ *                what the call writes. Every call is safe on such a table, but not every such table is found out of order (a
+ *                tick may have raised some balances and not others). Where a table must outlive a stop, make the call on a
+ *                copy and take the copy in its place when the call has returned.
+ *   STACK        No call uses the heap, or recursion. HDS_STACK_TICK and its like below say how much stack each needs.
  */
 #ifndef HDS_H
 #define HDS_H
+
+#if !defined(__x86_64__) || defined(__ILP32__) || defined(_WIN32)
+#error "hds.h: the archives are for x86-64 with 64-bit pointers and the System V calling convention"
+#endif
+#if defined(__BYTE_ORDER__) && __BYTE_ORDER__ != __ORDER_LITTLE_ENDIAN__
+#error "hds.h: the archives are for low byte first"
+#endif
 
 #include <stddef.h>
 #include <stdint.h>
@@ -28,91 +47,316 @@
 extern "C" {
 #endif
 
-/* Numbers in an account table. */
+/*
+ * The version of this header and of the archives that come with it. The first number rises when what a call takes or answers, or
+ * what a table holds, changes; the second when something is added. Nothing compares them at run time.
+ */
+#define HDS_VERSION_MAJOR 1
+#define HDS_VERSION_MINOR 0
+#define HDS_VERSION "1.0"
+
+/* The table: a header, then a record for each node. */
 #define HDS_TABLE_LENGTH 2568
+#define HDS_TABLE_BYTES 20544
+#define HDS_HEADER_LENGTH 8
+#define HDS_RECORD_LENGTH 40
+#define HDS_NODES 64
 
-/* Numbers of one entry of a dispatch list: client, tag, size, supplier. */
+/* Node numbers: 0 is the root, the others are the caller's choice. */
+#define HDS_ROOT 0
+#define HDS_LAST_NODE 63
+
+/* The lowest level of a class, and of any node. The root's level is 0. */
+#define HDS_LAST_CLASS_LEVEL 3
+#define HDS_LAST_LEVEL 4
+
+/* The greatest of each; the least share, depth, rate and size is 1. */
+#define HDS_WHOLE_SHARE 10000
+#define HDS_GREATEST_DEPTH 1000000
+#define HDS_GREATEST_RATE 1000000000
+#define HDS_GREATEST_COUNT 9000000000000000000
+#define HDS_MOST_WAITING 8
+
+/* Grains in a token. */
+#define HDS_GRAIN_SCALE 1000
+
+/*
+ * Where things stand, for one who reads a table: table[HDS_PLACE(node, HDS_RATE_AT)] is a node's rate, and
+ * table[HDS_PLACE(node, HDS_WAITING_PLACE(i) + HDS_TAG_AT)] the tag of its waiting request i, 0 being the oldest.
+ * table[HDS_COUNT_AT] counts the accepted requests. To write a table in any other way than by the calls is to risk
+ * HDS_NOT_IN_ORDER, or a balance that nobody granted.
+ */
+#define HDS_PLACE(node, place) (HDS_HEADER_LENGTH + HDS_RECORD_LENGTH * (node) + (place))
+#define HDS_WAITING_PLACE(i) (HDS_QUEUE_AT + HDS_REQUEST_LENGTH * (i))
+#define HDS_COUNT_AT 0
+#define HDS_SORT_AT 0
+#define HDS_PARENT_AT 1
+#define HDS_LEVEL_AT 2
+#define HDS_KIND_AT 3
+#define HDS_SHARE_AT 4
+#define HDS_DEPTH_AT 5
+#define HDS_RATE_AT 6
+#define HDS_BALANCE_AT 7
+#define HDS_WAITING_AT 8
+#define HDS_SPARE_AT 9
+#define HDS_SPARE_LENGTH 7
+#define HDS_QUEUE_AT 16
+#define HDS_QUEUE_LENGTH 24
+#define HDS_REQUEST_LENGTH 3
+#define HDS_TAG_AT 0
+#define HDS_SIZE_AT 1
+#define HDS_ARRIVAL_AT 2
+
+/* A dispatch list: HDS_ENTRY_LENGTH numbers for each request that goes. One of HDS_LONGEST_LIST numbers is long enough for
+   every tick: 63 clients, each with 8 requests waiting. */
 #define HDS_ENTRY_LENGTH 4
-
-/* A list of this many numbers is long enough for every tick: 63 clients, each with 8 requests waiting. */
 #define HDS_LONGEST_LIST 2016
+#define HDS_ENTRY_CLIENT 0
+#define HDS_ENTRY_TAG 1
+#define HDS_ENTRY_SIZE 2
+#define HDS_ENTRY_SUPPLIER 3
 
-/* Sorts of node, and kinds of share. */
-enum hds_sort { HDS_CLASS = 1, HDS_CLIENT = 2 };
+/* What look shows. */
+#define HDS_SEEN_LENGTH 3
+#define HDS_SEEN_RATE 0
+#define HDS_SEEN_BALANCE 1
+#define HDS_SEEN_WAITING 2
+
+/* Bytes of the plan of n nodes below the root, and of the longest. */
+#define HDS_PLAN_LENGTH(n) (9 + 11 * (n))
+#define HDS_LONGEST_PLAN 702
+
+/*
+ * The stack that a call needs at most, in bytes, return address included, whatever the arguments. The tests hold these to the
+ * archives, by the frames in the machine code and by measuring. Plan read and plan check have a table of their own on the stack.
+ * Not counted is what memcpy and memset of the C library take, and a dynamic linker that looks for them at the first call.
+ */
+#define HDS_STACK_OPEN 1024
+#define HDS_STACK_JOIN 10240
+#define HDS_STACK_LEAVE 10240
+#define HDS_STACK_CHANGE_SHARE 10240
+#define HDS_STACK_CHANGE_RATE 10240
+#define HDS_STACK_REQUEST 10240
+#define HDS_STACK_TICK 10240
+#define HDS_STACK_LOOK 10240
+#define HDS_STACK_SAME 10240
+#define HDS_STACK_PLAN_READ 32768
+#define HDS_STACK_PLAN_WRITE 10240
+#define HDS_STACK_PLAN_CHECK 32768
+
+/* Sorts of node; 0 in a table is a record that is not used. Kinds of share. */
+enum hds_sort { HDS_UNUSED = 0, HDS_CLASS = 1, HDS_CLIENT = 2 };
 enum hds_kind { HDS_FIXED = 0, HDS_WEIGHTED = 1 };
 
-/* The causes of refusal. */
-enum hds_refusal {
-    HDS_NOT_IN_ORDER = 1,       /* the table is not HDS_TABLE_LENGTH long, or (save for open and plan reading) not in order */
-    HDS_OUTSIDE_LIMITS = 2,     /* a number outside its limits; an unknown sort or kind */
-    HDS_NOT_THERE = 3,          /* node or parent not there */
-    HDS_IN_USE = 4,             /* joining number in use */
-    HDS_WRONG_NODE = 5,         /* parent is a client; request at a class; leave or change share of the root */
-    HDS_LEVEL_TOO_LOW = 6,      /* joining class under level 3 */
-    HDS_SHARES_ABOVE = 7,       /* fixed shares above 10,000 */
-    HDS_DEPTH_ABOVE = 8,        /* children's depths above the class's; size above the client's depth */
-    HDS_NOT_EMPTY = 9,          /* leaving node has children or waiting requests */
-    HDS_IN_DEBT = 10,           /* leaving class has a balance below 0 */
-    HDS_QUEUE_FULL = 11,        /* client has 8 waiting */
-    HDS_COUNT_AT_END = 12,      /* the count of accepted requests is at its end */
-    HDS_BUFFER_SHORT = 13,      /* list shorter than 4 x all waiting, or buffer shorter than the plan */
-    HDS_PLAN_WRONG = 14,        /* plan length, count, offset or kind wrong */
-    HDS_PLAN_OUT_OF_ORDER = 15  /* plan entries out of order */
-};
+/* The causes of refusal: name, number, what it means. */
+#define HDS_REFUSALS(X)                                                                                                  \
+    X(HDS_NOT_IN_ORDER, 1, "the table is not 2568 numbers long, or it is not in order")                                  \
+    X(HDS_OUTSIDE_LIMITS, 2, "a number is outside its limits, or the sort or kind is unknown")                           \
+    X(HDS_NOT_THERE, 3, "the node or the parent is not there")                                                           \
+    X(HDS_IN_USE, 4, "the joining number is in use")                                                                     \
+    X(HDS_WRONG_NODE, 5, "the parent is a client, the request is at a class, or the node is the root")                   \
+    X(HDS_LEVEL_TOO_LOW, 6, "a class cannot join under a class of level 3")                                              \
+    X(HDS_SHARES_ABOVE, 7, "the fixed shares of the class would be above 10000")                                         \
+    X(HDS_DEPTH_ABOVE, 8, "the children's depths would be above the class's, or the size is above the client's depth")   \
+    X(HDS_NOT_EMPTY, 9, "the leaving node has children or waiting requests")                                             \
+    X(HDS_IN_DEBT, 10, "the leaving class has a balance below 0")                                                        \
+    X(HDS_QUEUE_FULL, 11, "the client has 8 requests waiting")                                                           \
+    X(HDS_COUNT_AT_END, 12, "the count of accepted requests is at its end")                                              \
+    X(HDS_BUFFER_SHORT, 13, "the list is shorter than 4 numbers for each waiting request, or the buffer than the plan")  \
+    X(HDS_PLAN_WRONG, 14, "the plan's length, count, an offset or a kind is wrong")                                      \
+    X(HDS_PLAN_OUT_OF_ORDER, 15, "the plan's entries do not stand by level, then by number")
 
-/* Zeroes the table and makes the root, node 0: rate 1 to 1,000,000,000, depth 1 to 1,000,000. Answers 0. */
+#define HDS_REFUSAL_CASE(name, number, text) name = number,
+enum hds_refusal { HDS_REFUSALS(HDS_REFUSAL_CASE) };
+#undef HDS_REFUSAL_CASE
+
+#define HDS_LAST_REFUSAL 15
+
+/*
+ * The name and the meaning of a refusal's number, 1 to HDS_LAST_REFUSAL: give -answer for the answer of a call, and the answer
+ * itself for that of hds_plan_check. For every other number "no refusal".
+ */
+static inline const char *hds_refusal_name(int64_t number)
+{
+#define HDS_REFUSAL_CASE(name, value, text) \
+    case value:                             \
+        return #name;
+    switch (number) {
+        HDS_REFUSALS(HDS_REFUSAL_CASE)
+    default:
+        return "no refusal";
+    }
+#undef HDS_REFUSAL_CASE
+}
+
+static inline const char *hds_refusal_text(int64_t number)
+{
+#define HDS_REFUSAL_CASE(name, value, text) \
+    case value:                             \
+        return text;
+    switch (number) {
+        HDS_REFUSALS(HDS_REFUSAL_CASE)
+    default:
+        return "no refusal";
+    }
+#undef HDS_REFUSAL_CASE
+}
+
+/*
+ * The calls. "Refused" lists the causes in the order in which they are judged; the first that holds is answered.
+ */
+
+/*
+ * Zeroes the table, whatever it holds, and makes the root with balance 0: rate 1 to 1,000,000,000, depth 1 to 1,000,000.
+ * Answers 0. Refused:
+ *   HDS_NOT_IN_ORDER      the table's length (its contents are not judged)
+ *   HDS_OUTSIDE_LIMITS    rate or depth
+ */
 int64_t hds_open(int64_t *table, size_t table_length, int64_t rate, int64_t depth);
 
 /*
- * Joins a node, 1 to 63, under a class, with balance 0: an hds_sort, an hds_kind, share 1 to 10,000 (ten
- * thousandths where fixed, else a weight), depth 1 to 1,000,000. Renews all rates. Answers 0.
+ * Joins a node, 1 to 63, under a class, with balance 0: an hds_sort, an hds_kind, share 1 to 10,000 (ten-thousandths of the
+ * class's rate where fixed, else a weight), depth 1 to 1,000,000. Renews all rates. Answers 0. hds_join_class and
+ * hds_join_client below cannot exchange sort, kind and share. Refused:
+ *   HDS_NOT_IN_ORDER      the table
+ *   HDS_OUTSIDE_LIMITS    node, parent, sort, kind, share or depth
+ *   HDS_NOT_THERE         no node has the parent's number
+ *   HDS_IN_USE            a node has the joining number
+ *   HDS_WRONG_NODE        the parent is a client
+ *   HDS_LEVEL_TOO_LOW     a class under a class of level 3
+ *   HDS_SHARES_ABOVE      the fixed shares under the parent would be above 10,000
+ *   HDS_DEPTH_ABOVE       the depths of the parent's children would be above its own
  */
 int64_t hds_join(int64_t *table, size_t table_length, int64_t node, int64_t parent, int64_t sort, int64_t kind,
                  int64_t share, int64_t depth);
 
-/* Takes a node out and renews all rates. Answers 0. */
+/*
+ * Takes a node out and renews all rates. Answers 0. Refused:
+ *   HDS_NOT_IN_ORDER      the table
+ *   HDS_OUTSIDE_LIMITS    node not 0 to 63
+ *   HDS_NOT_THERE         no node has this number
+ *   HDS_WRONG_NODE        the node is the root
+ *   HDS_NOT_EMPTY         the node has children or waiting requests
+ *   HDS_IN_DEBT           the node is a class with a balance below 0
+ */
 int64_t hds_leave(int64_t *table, size_t table_length, int64_t node);
 
-/* Gives a node a kind and a share and renews all rates. Answers 0. */
+/*
+ * Gives a node a kind and a share and renews all rates. Answers 0. hds_set_share below cannot exchange kind and share. Refused:
+ *   HDS_NOT_IN_ORDER      the table
+ *   HDS_OUTSIDE_LIMITS    node not 0 to 63, kind or share
+ *   HDS_NOT_THERE         no node has this number
+ *   HDS_WRONG_NODE        the node is the root
+ *   HDS_SHARES_ABOVE      the fixed shares under its parent would be above 10,000
+ */
 int64_t hds_change_share(int64_t *table, size_t table_length, int64_t node, int64_t kind, int64_t share);
 
-/* Gives the disk a rate, 1 to 1,000,000,000, and renews all rates. Answers 0. */
+/*
+ * Gives the disk a rate, 1 to 1,000,000,000, and renews all rates. Answers 0. Refused:
+ *   HDS_NOT_IN_ORDER      the table
+ *   HDS_OUTSIDE_LIMITS    rate
+ */
 int64_t hds_change_rate(int64_t *table, size_t table_length, int64_t rate);
 
-/* A request of a client, with any tag and a size of 1 to its depth. Answers its arrival number, 1 or more. */
+/*
+ * A request of a client, with any tag and a size of 1 to its depth. Answers its arrival number, 1 or more. Refused:
+ *   HDS_NOT_IN_ORDER      the table
+ *   HDS_OUTSIDE_LIMITS    client not 0 to 63, or size below 1
+ *   HDS_NOT_THERE         no node has this number
+ *   HDS_WRONG_NODE        the node is a class
+ *   HDS_DEPTH_ABOVE       the size is above the client's depth
+ *   HDS_QUEUE_FULL        the client has 8 requests waiting
+ *   HDS_COUNT_AT_END      HDS_GREATEST_COUNT requests were accepted since open
+ */
 int64_t hds_request(int64_t *table, size_t table_length, int64_t client, int64_t tag, int64_t size);
 
 /*
- * One tick: balances grow, and waiting requests go as far as balances allow. Answers how many were dispatched;
- * the list gets HDS_ENTRY_LENGTH numbers for each, and stays untouched beyond them.
+ * One tick: balances grow, and waiting requests go as far as balances allow. Answers how many were dispatched; the list gets
+ * HDS_ENTRY_LENGTH numbers for each, and stays untouched beyond them. Refused:
+ *   HDS_NOT_IN_ORDER      the table
+ *   HDS_BUFFER_SHORT      the list is shorter than HDS_ENTRY_LENGTH numbers for each waiting request of all clients
  */
 int64_t hds_tick(int64_t *table, size_t table_length, int64_t *list, size_t list_length);
 
-/* Shows a node: seen[0] its rate, seen[1] its balance, seen[2] how many of its requests wait. Answers 0. */
-int64_t hds_look(const int64_t *table, size_t table_length, int64_t node, int64_t seen[3]);
+/*
+ * Shows a node: its rate, its balance and how many of its requests wait, at seen[HDS_SEEN_RATE] and so on. Answers 0. Refused:
+ *   HDS_NOT_IN_ORDER      the table
+ *   HDS_OUTSIDE_LIMITS    node not 0 to 63
+ *   HDS_NOT_THERE         no node has this number
+ */
+int64_t hds_look(const int64_t *table, size_t table_length, int64_t node, int64_t seen[HDS_SEEN_LENGTH]);
 
-/* Whether two tables have the same tree and disk rate. Answers 1 for yes, 0 for no. */
+/*
+ * Whether two tables have the same tree and disk rate, whatever their balances and requests. Answers 1 for yes, 0 for no. Refused:
+ *   HDS_NOT_IN_ORDER      either table
+ */
 int64_t hds_same(const int64_t *first, size_t first_length, const int64_t *second, size_t second_length);
 
 /*
- * Plan files. docs/PLAN.md has the format with a worked example. The length is 9 + 11 x nodes but for the root.
- */
-
-/* Bytes of the longest plan, that of 63 nodes below the root. */
-#define HDS_LONGEST_PLAN 702
-
-/*
- * Reads a plan: opens the table and joins the plan's entries in turn. The table may hold anything before. Answers 0.
+ * Reads a plan: opens the table and joins the plan's entries in turn. The table may hold anything before. Answers 0. Refused:
+ *   HDS_NOT_IN_ORDER      the table's length (its contents are not judged)
+ *   HDS_PLAN_WRONG        the plan's length, count, an offset or a kind
+ *   HDS_OUTSIDE_LIMITS to HDS_DEPTH_ABOVE    as open refuses the disk's rate and depth, then as join refuses the first entry
+ *                         that it refuses
+ *   HDS_PLAN_OUT_OF_ORDER all entries can be joined, but do not stand by level, then by number
  */
 int64_t hds_plan_read(int64_t *table, size_t table_length, const uint8_t *plan, size_t plan_length);
 
 /*
- * Writes the plan of a table into a buffer, and nothing beyond it. Answers the plan's length in bytes.
+ * Writes the plan of a table into a buffer, and nothing beyond it. Answers the plan's length in bytes. Refused:
+ *   HDS_NOT_IN_ORDER      the table
+ *   HDS_BUFFER_SHORT      the buffer is shorter than the plan
  */
 int64_t hds_plan_write(const int64_t *table, size_t table_length, uint8_t *buffer, size_t buffer_length);
 
-/* Checks a plan: 0 or an hds_refusal, the one that reading it into a table of HDS_TABLE_LENGTH numbers gives. */
+/*
+ * Checks a plan without a table. !! Answers 0 or the refusal's number itself, NOT negated: the one that reading the plan into a
+ * table of HDS_TABLE_LENGTH numbers gives. Refused:
+ *   HDS_PLAN_WRONG        the plan's length, count, an offset or a kind
+ *   HDS_OUTSIDE_LIMITS to HDS_DEPTH_ABOVE    as open and join refuse
+ *   HDS_PLAN_OUT_OF_ORDER the entries do not stand by level, then by number
+ */
 uint32_t hds_plan_check(const uint8_t *plan, size_t plan_length);
+
+/*
+ * The same calls with types that a compiler tells apart: a share is made by hds_fixed or hds_weighted, and the sort is in the
+ * call's name. They answer as the calls above.
+ */
+struct hds_share {
+    enum hds_kind kind;
+    int64_t share;
+};
+
+/* A fixed part of the class's rate, in ten-thousandths: hds_fixed(2500) is a quarter. */
+static inline struct hds_share hds_fixed(int64_t ten_thousandths)
+{
+    struct hds_share share = {HDS_FIXED, ten_thousandths};
+    return share;
+}
+
+/* A part, by weight, of what the fixed shares leave. */
+static inline struct hds_share hds_weighted(int64_t weight)
+{
+    struct hds_share share = {HDS_WEIGHTED, weight};
+    return share;
+}
+
+static inline int64_t hds_join_class(int64_t *table, size_t table_length, int64_t node, int64_t parent,
+                                     struct hds_share share, int64_t depth)
+{
+    return hds_join(table, table_length, node, parent, HDS_CLASS, share.kind, share.share, depth);
+}
+
+static inline int64_t hds_join_client(int64_t *table, size_t table_length, int64_t node, int64_t parent,
+                                      struct hds_share share, int64_t depth)
+{
+    return hds_join(table, table_length, node, parent, HDS_CLIENT, share.kind, share.share, depth);
+}
+
+static inline int64_t hds_set_share(int64_t *table, size_t table_length, int64_t node, struct hds_share share)
+{
+    return hds_change_share(table, table_length, node, share.kind, share.share);
+}
 
 #ifdef __cplusplus
 }

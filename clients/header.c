@@ -1,0 +1,74 @@
+/*
+ * What include/hds.h itself computes: names and texts of the refusals, and the calls with types of their own beside the plain
+ * ones. It is compiled as C and as C++. Prints what fails, then 'N passed, 0 failed'.
+ */
+#include <stdio.h>
+#include <string.h>
+
+#include "hds.h"
+
+#define TABLE table, HDS_TABLE_LENGTH
+#define PLAIN plain, HDS_TABLE_LENGTH
+
+static int64_t table[HDS_TABLE_LENGTH], plain[HDS_TABLE_LENGTH];
+static int passed, failed;
+
+static void check(int holds, const char *what)
+{
+    if (!holds)
+        printf("header: %s\n", what);
+    *(holds ? &passed : &failed) += 1;
+}
+
+/* Both tables were treated alike: same answers, same numbers. */
+static void alike(int64_t one, int64_t two, const char *what)
+{
+    check(one == two && memcmp(table, plain, sizeof table) == 0, what);
+}
+
+static void refusals(void)
+{
+    check(strcmp(hds_refusal_name(1), "HDS_NOT_IN_ORDER") == 0, "name of 1");
+    check(strcmp(hds_refusal_name(10), "HDS_IN_DEBT") == 0, "name of 10");
+    check(strcmp(hds_refusal_name(HDS_LAST_REFUSAL), "HDS_PLAN_OUT_OF_ORDER") == 0, "name of the last");
+    for (int64_t number = 1; number <= HDS_LAST_REFUSAL; number++) {
+        int differ = 1;
+
+        for (int64_t before = 0; before < number; before++)
+            differ &= strcmp(hds_refusal_name(before), hds_refusal_name(number)) != 0 &&
+                      strcmp(hds_refusal_text(before), hds_refusal_text(number)) != 0;
+        check(differ, "two refusals have one name or text");
+    }
+    static const int64_t others[] = {INT64_MIN, -HDS_NOT_IN_ORDER, 0, HDS_LAST_REFUSAL + 1, INT64_MAX};
+    for (size_t i = 0; i < sizeof others / sizeof *others; i++) {
+        check(strcmp(hds_refusal_name(others[i]), "no refusal") == 0, "name of another number");
+        check(strcmp(hds_refusal_text(others[i]), "no refusal") == 0, "text of another number");
+    }
+}
+
+static void typed_calls(void)
+{
+    alike(hds_open(TABLE, 1000, 40), hds_open(PLAIN, 1000, 40), "open");
+    alike(hds_join_class(TABLE, 1, 0, hds_fixed(5000), 20), hds_join(PLAIN, 1, 0, HDS_CLASS, HDS_FIXED, 5000, 20),
+          "hds_join_class, fixed");
+    alike(hds_join_class(TABLE, 2, 1, hds_weighted(2), 10), hds_join(PLAIN, 2, 1, HDS_CLASS, HDS_WEIGHTED, 2, 10),
+          "hds_join_class, weighted");
+    alike(hds_join_client(TABLE, 3, 2, hds_fixed(7), 4), hds_join(PLAIN, 3, 2, HDS_CLIENT, HDS_FIXED, 7, 4),
+          "hds_join_client, fixed");
+    alike(hds_join_client(TABLE, 4, 2, hds_weighted(9), 5), hds_join(PLAIN, 4, 2, HDS_CLIENT, HDS_WEIGHTED, 9, 5),
+          "hds_join_client, weighted");
+    alike(hds_set_share(TABLE, 3, hds_weighted(8)), hds_change_share(PLAIN, 3, HDS_WEIGHTED, 8), "hds_set_share");
+    alike(hds_set_share(TABLE, 1, hds_fixed(10001)), hds_change_share(PLAIN, 1, HDS_FIXED, 10001), "hds_set_share, refused");
+}
+
+int main(void)
+{
+    char version[16];
+
+    snprintf(version, sizeof version, "%d.%d", HDS_VERSION_MAJOR, HDS_VERSION_MINOR);
+    check(strcmp(version, HDS_VERSION) == 0, "version");
+    refusals();
+    typed_calls();
+    printf("%d passed, %d failed\n", passed, failed);
+    return failed != 0;
+}
