@@ -58,7 +58,19 @@ static void typed_calls(void)
     alike(hds_join_client(TABLE, 4, 2, hds_weighted(9), 5), hds_join(PLAIN, 4, 2, HDS_CLIENT, HDS_WEIGHTED, 9, 5),
           "hds_join_client, weighted");
     alike(hds_set_share(TABLE, 3, hds_weighted(8)), hds_change_share(PLAIN, 3, HDS_WEIGHTED, 8), "hds_set_share");
+    static const struct hds_share constants[] = {HDS_FIXED_SHARE(6), HDS_WEIGHTED_SHARE(3)};
+    alike(hds_set_share(TABLE, 4, constants[0]), hds_change_share(PLAIN, 4, HDS_FIXED, 6), "HDS_FIXED_SHARE");
+    alike(hds_set_share(TABLE, 4, constants[1]), hds_change_share(PLAIN, 4, HDS_WEIGHTED, 3), "HDS_WEIGHTED_SHARE");
     alike(hds_set_share(TABLE, 1, hds_fixed(10001)), hds_change_share(PLAIN, 1, HDS_FIXED, 10001), "hds_set_share, refused");
+}
+
+static void plan_judge(void)
+{
+    static uint8_t plan[HDS_LONGEST_PLAN];
+    int64_t length = hds_plan_write(TABLE, plan, sizeof plan);
+
+    check(hds_plan_judge(plan, (size_t)length) == 0, "hds_plan_judge, accepted");
+    check(hds_plan_judge(plan, (size_t)length - 1) == -HDS_PLAN_WRONG, "hds_plan_judge, refused");
 }
 
 int main(void)
@@ -69,6 +81,7 @@ int main(void)
     check(strcmp(version, HDS_VERSION) == 0, "version");
     refusals();
     typed_calls();
+    plan_judge();
     printf("%d passed, %d failed\n", passed, failed);
     return failed != 0;
 }

@@ -1,34 +1,39 @@
 /*
  * Hierarchical disk sharing: the calls on an account table, for C and C++.
  *
- * Link with libcabinet.a, which `rt staticlib cabinet` writes to target/staticlib/, and for hds_plan_check with libplan.a,
- * which `rt staticlib plan` writes there. docs/MANUAL.md explains what the calls do, with examples; docs/PLAN.md has the
- * bytes of a plan.
+ * docs/MANUAL.md explains what the calls do, with examples; docs/PLAN.md has the bytes of a plan; examples/firmware.c is a whole
+ * client.
  *
  * ANSWERS. Each call answers 0 or more where it is accepted, else the negated number of the first cause that turns it back:
  * -HDS_NOT_THERE is "node or parent not there".
  *
  *     !! hds_plan_check alone answers the number itself: 0 for a good plan, HDS_PLAN_WRONG and not -HDS_PLAN_WRONG for a
- *     !! wrong one. Testing its answer for "below 0" accepts every plan.
+ *     !! wrong one, as a uint32_t. Testing it for "below 0", or negating it without a cast, accepts every plan.
+ *     !! hds_plan_judge, below, answers as all other calls do.
  *
- * A refused call leaves every lent buffer as it came. Tables, lists and plans of any length and contents and arguments of
- * any size are safe. Only these are the caller's to see to: a pointer is not null, also where the length is 0; it points to
- * as many numbers (or bytes) as the length says; the buffers of one call do not overlap.
+ * A refused call leaves every lent buffer as it came. Tables, lists and plans of any length and contents and arguments of any
+ * size are safe. Only these are the caller's to see to: a pointer is not null, also where the length is 0; it points to as many
+ * numbers (or bytes) as the length says; the buffers of one call do not overlap.
  *
  * UNITS. Depths and sizes are in tokens (1 KiB), rates in grains (a thousandth of a token) per tick, balances in grains.
  *
- * THE TABLE is HDS_TABLE_LENGTH signed 64-bit numbers that the caller lends to each call and keeps between the calls. It holds
- * no pointers, and the calls keep nothing outside it: a copy of it is a table like the first.
+ * THE TABLE is HDS_TABLE_LENGTH signed 64-bit numbers that the caller lends to each call and keeps between the calls. It
+ * holds no pointers, and the calls keep nothing outside it: a copy of it is a table like the first.
  *   In memory    an array of int64_t, aligned to 8 bytes.
- *   On disk      its HDS_TABLE_BYTES bytes as they are, each number low byte first. There is no checksum: the calls test that a
- *                table is in order, not that it is the one that was stored.
+ *   On disk      its HDS_TABLE_BYTES bytes as they are, each number low byte first. There is no checksum: the calls test
+ *                that a table is in order, not that it is the one that was stored.
  *   One writer   While a call that may write a table runs, no other call on that table may. Calls that only read it (look,
- *                same, plan write) may run side by side, and so may calls on different tables.
- *   A stop       A call judges first and writes last. A program stopped in the middle of a call leaves the table with a part of
- *                what the call writes. Every call is safe on such a table, but not every such table is found out of order (a
- *                tick may have raised some balances and not others). Where a table must outlive a stop, make the call on a
- *                copy and take the copy in its place when the call has returned.
- *   STACK        No call uses the heap, or recursion. HDS_STACK_TICK and its like below say how much stack each needs.
+ *                same, plan write) may run side by side, and so may calls on different tables. An interrupt or signal handler
+ *                counts as another thread.
+ *   A stop       A call judges before it writes, so a refused one has written nothing. A program that is stopped in an
+ *                accepted call leaves the table with a part of what the call writes: after a tick, some balances raised and
+ *                others not, and requests gone that stand only in the list. Every call is safe on such a table, and most such
+ *                tables pass as in order. Where a table must outlive a stop, make the call on a copy and then point to the
+ *                copy; the manual has the steps.
+ *
+ * LINKING. libcabinet.a has all calls but hds_plan_check, which is in libplan.a; `rt staticlib cabinet` and `rt staticlib plan`
+ * write them to target/staticlib/. They need memcpy and memset and nothing else, have no data of their own, use no heap, no
+ * recursion, no floating point, no red zone and no registers beyond SSE2, and can stand at any address.
  */
 #ifndef HDS_H
 #define HDS_H
@@ -70,7 +75,7 @@ extern "C" {
 #define HDS_LAST_CLASS_LEVEL 3
 #define HDS_LAST_LEVEL 4
 
-/* The greatest of each; the least share, depth, rate and size is 1. */
+/* The greatest of each. The least share, depth, size and disk rate is 1; another node's rate can be 0. */
 #define HDS_WHOLE_SHARE 10000
 #define HDS_GREATEST_DEPTH 1000000
 #define HDS_GREATEST_RATE 1000000000
@@ -123,13 +128,14 @@ extern "C" {
 #define HDS_SEEN_WAITING 2
 
 /* Bytes of the plan of n nodes below the root, and of the longest. */
-#define HDS_PLAN_LENGTH(n) (9 + 11 * (n))
+#define HDS_PLAN_LENGTH(n) ((size_t)(9 + 11 * (n)))
 #define HDS_LONGEST_PLAN 702
 
 /*
  * The stack that a call needs at most, in bytes, return address included, whatever the arguments. The tests hold these to the
- * archives, by the frames in the machine code and by measuring. Plan read and plan check have a table of their own on the stack.
- * Not counted is what memcpy and memset of the C library take, and a dynamic linker that looks for them at the first call.
+ * archives, by the frames in the machine code and by measuring. Plan read and plan check have a table of their own on the
+ * stack. To be added are what memcpy and memset take, a dynamic linker that looks for them at the first call (none with
+ * `-z now`), and signal handlers on the same stack.
  */
 #define HDS_STACK_OPEN 1024
 #define HDS_STACK_JOIN 10240
@@ -143,6 +149,7 @@ extern "C" {
 #define HDS_STACK_PLAN_READ 32768
 #define HDS_STACK_PLAN_WRITE 10240
 #define HDS_STACK_PLAN_CHECK 32768
+#define HDS_STACK_MOST 32768
 
 /* Sorts of node; 0 in a table is a record that is not used. Kinds of share. */
 enum hds_sort { HDS_UNUSED = 0, HDS_CLASS = 1, HDS_CLIENT = 2 };
@@ -173,8 +180,8 @@ enum hds_refusal { HDS_REFUSALS(HDS_REFUSAL_CASE) };
 #define HDS_LAST_REFUSAL 15
 
 /*
- * The name and the meaning of a refusal's number, 1 to HDS_LAST_REFUSAL: give -answer for the answer of a call, and the answer
- * itself for that of hds_plan_check. For every other number "no refusal".
+ * The name and the meaning of a refusal's number, 1 to HDS_LAST_REFUSAL, for logs: give -answer for the answer of a call, and
+ * the answer itself for that of hds_plan_check. For every other number "no refusal".
  */
 static inline const char *hds_refusal_name(int64_t number)
 {
@@ -216,8 +223,8 @@ int64_t hds_open(int64_t *table, size_t table_length, int64_t rate, int64_t dept
 
 /*
  * Joins a node, 1 to 63, under a class, with balance 0: an hds_sort, an hds_kind, share 1 to 10,000 (ten-thousandths of the
- * class's rate where fixed, else a weight), depth 1 to 1,000,000. Renews all rates. Answers 0. hds_join_class and
- * hds_join_client below cannot exchange sort, kind and share. Refused:
+ * class's rate where fixed, else a weight), depth 1 to 1,000,000. Renews all rates. Answers 0. With hds_join_class and
+ * hds_join_client, below, a compiler tells sort, kind and share apart. Refused:
  *   HDS_NOT_IN_ORDER      the table
  *   HDS_OUTSIDE_LIMITS    node, parent, sort, kind, share or depth
  *   HDS_NOT_THERE         no node has the parent's number
@@ -242,7 +249,7 @@ int64_t hds_join(int64_t *table, size_t table_length, int64_t node, int64_t pare
 int64_t hds_leave(int64_t *table, size_t table_length, int64_t node);
 
 /*
- * Gives a node a kind and a share and renews all rates. Answers 0. hds_set_share below cannot exchange kind and share. Refused:
+ * Gives a node a kind and a share and renews all rates. Answers 0. hds_set_share, below, takes both as one. Refused:
  *   HDS_NOT_IN_ORDER      the table
  *   HDS_OUTSIDE_LIMITS    node not 0 to 63, kind or share
  *   HDS_NOT_THERE         no node has this number
@@ -266,7 +273,7 @@ int64_t hds_change_rate(int64_t *table, size_t table_length, int64_t rate);
  *   HDS_WRONG_NODE        the node is a class
  *   HDS_DEPTH_ABOVE       the size is above the client's depth
  *   HDS_QUEUE_FULL        the client has 8 requests waiting
- *   HDS_COUNT_AT_END      HDS_GREATEST_COUNT requests were accepted since open
+ *   HDS_COUNT_AT_END      HDS_GREATEST_COUNT requests were accepted since the table was opened
  */
 int64_t hds_request(int64_t *table, size_t table_length, int64_t client, int64_t tag, int64_t size);
 
@@ -310,34 +317,44 @@ int64_t hds_plan_read(int64_t *table, size_t table_length, const uint8_t *plan, 
 int64_t hds_plan_write(const int64_t *table, size_t table_length, uint8_t *buffer, size_t buffer_length);
 
 /*
- * Checks a plan without a table. !! Answers 0 or the refusal's number itself, NOT negated: the one that reading the plan into a
- * table of HDS_TABLE_LENGTH numbers gives. Refused:
+ * Checks a plan without a table. !! Answers 0 or the refusal's number itself, NOT negated: the one that reading the plan into
+ * a table of HDS_TABLE_LENGTH numbers gives. Refused:
  *   HDS_PLAN_WRONG        the plan's length, count, an offset or a kind
  *   HDS_OUTSIDE_LIMITS to HDS_DEPTH_ABOVE    as open and join refuse
  *   HDS_PLAN_OUT_OF_ORDER the entries do not stand by level, then by number
  */
 uint32_t hds_plan_check(const uint8_t *plan, size_t plan_length);
 
+/* Checks a plan as hds_plan_check does, and answers as all other calls do: 0 or the negated number. */
+static inline int64_t hds_plan_judge(const uint8_t *plan, size_t plan_length)
+{
+    return -(int64_t)hds_plan_check(plan, plan_length);
+}
+
 /*
- * The same calls with types that a compiler tells apart: a share is made by hds_fixed or hds_weighted, and the sort is in the
- * call's name. They answer as the calls above.
+ * Join and change share with types that a compiler tells apart: a share is made by hds_fixed or hds_weighted, and the sort is in
+ * the call's name. They answer as the calls above.
  */
 struct hds_share {
     enum hds_kind kind;
     int64_t share;
 };
 
+/* The same for a constant table of shares: struct hds_share share = HDS_FIXED_SHARE(2500). */
+#define HDS_FIXED_SHARE(ten_thousandths) {HDS_FIXED, (ten_thousandths)}
+#define HDS_WEIGHTED_SHARE(weight) {HDS_WEIGHTED, (weight)}
+
 /* A fixed part of the class's rate, in ten-thousandths: hds_fixed(2500) is a quarter. */
 static inline struct hds_share hds_fixed(int64_t ten_thousandths)
 {
-    struct hds_share share = {HDS_FIXED, ten_thousandths};
+    struct hds_share share = HDS_FIXED_SHARE(ten_thousandths);
     return share;
 }
 
 /* A part, by weight, of what the fixed shares leave. */
 static inline struct hds_share hds_weighted(int64_t weight)
 {
-    struct hds_share share = {HDS_WEIGHTED, weight};
+    struct hds_share share = HDS_WEIGHTED_SHARE(weight);
     return share;
 }
 
