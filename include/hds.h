@@ -11,19 +11,20 @@
  *     !! wrong one, as a uint32_t. Testing it for "below 0", or negating it without a cast, accepts every plan.
  *     !! hds_plan_judge, below, answers as all other calls do.
  *
- * A refused call leaves every lent buffer as it came. Tables, lists and plans of any length and contents and arguments of any
- * size are safe. Only these are the caller's to see to: a pointer is not null, also where the length is 0; it points to as many
- * numbers (or bytes) as the length says; the buffers of one call do not overlap.
+ * A refused call leaves every buffer as it came. Tables, lists and plans of any length and contents and arguments of any size
+ * are safe. These are the caller's to see to: a pointer is not null, also where the length is 0; it is aligned and points to as
+ * many numbers (or bytes) as the length says, to HDS_SEEN_LENGTH for look; the buffers of one call do not overlap; one call at
+ * a time writes a buffer; the stack is deep enough.
  *
- * UNITS. Depths and sizes are in tokens (1 KiB), rates in grains (a thousandth of a token) per tick, balances in grains.
+ * UNITS. A token is 1 KiB, 1000 grains a token. Tokens: depths, sizes. Grains: balances. Grains per tick: rates.
  *
- * THE TABLE is HDS_TABLE_LENGTH signed 64-bit numbers that the caller lends to each call and keeps between the calls. It
- * holds no pointers, and the calls keep nothing outside it: a copy of it is a table like the first.
+ * THE TABLE is HDS_TABLE_LENGTH numbers of 64 bits that the caller hands to each call and keeps between the calls. It holds no
+ * pointers, and the calls keep nothing outside it: a copy of it is a table like the first.
  *   In memory    an array of int64_t, aligned to 8 bytes.
  *   On disk      its HDS_TABLE_BYTES bytes as they are, each number low byte first. There is no checksum: the calls test
  *                that a table is in order, not that it is the one that was stored.
  *   One writer   While a call that may write a table runs, no other call on that table may. Calls that only read it (look,
- *                same, plan write) may run side by side, and so may calls on different tables. An interrupt or signal handler
+ *                same, plan write) may run side by side, and so may calls on different buffers. An interrupt or signal handler
  *                counts as another thread.
  *   A stop       A call judges before it writes, so a refused one has written nothing. A program that is stopped in an
  *                accepted call leaves the table with a part of what the call writes: after a tick, some balances raised and
@@ -32,7 +33,7 @@
  *                copy; the manual has the steps.
  *
  * LINKING. libcabinet.a has all calls but hds_plan_check, which is in libplan.a; `rt staticlib cabinet` and `rt staticlib plan`
- * write them to target/staticlib/. They need memcpy and memset and nothing else, have no data of their own, use no heap, no
+ * write them to target/staticlib/. They need memcpy and memset and nothing else, have no data that is written, use no heap, no
  * recursion, no floating point, no red zone and no registers beyond SSE2, and can stand at any address.
  */
 #ifndef HDS_H
@@ -127,8 +128,11 @@ extern "C" {
 #define HDS_SEEN_BALANCE 1
 #define HDS_SEEN_WAITING 2
 
-/* Bytes of the plan of n nodes below the root, and of the longest. */
-#define HDS_PLAN_LENGTH(n) ((size_t)(9 + 11 * (n)))
+/* Bytes of a plan's head, of an entry and of a body; of the plan of n nodes below the root, and of the longest. */
+#define HDS_PLAN_HEAD 9
+#define HDS_PLAN_ENTRY 4
+#define HDS_PLAN_BODY 7
+#define HDS_PLAN_LENGTH(n) ((size_t)(HDS_PLAN_HEAD + (HDS_PLAN_ENTRY + HDS_PLAN_BODY) * (n)))
 #define HDS_LONGEST_PLAN 702
 
 /*
@@ -214,7 +218,7 @@ static inline const char *hds_refusal_text(int64_t number)
  */
 
 /*
- * Zeroes the table, whatever it holds, and makes the root with balance 0: rate 1 to 1,000,000,000, depth 1 to 1,000,000.
+ * Clears the table, whatever it holds, and puts in the root with an empty bucket: rate 1 to 1,000,000,000, depth 1 to 1,000,000.
  * Answers 0. Refused:
  *   HDS_NOT_IN_ORDER      the table's length (its contents are not judged)
  *   HDS_OUTSIDE_LIMITS    rate or depth

@@ -1,6 +1,6 @@
 /*
- * How much stack each call uses. Each is made on a stack of its own that was filled with a pattern, on tables of several shapes;
- * the lowest place that no longer has the pattern is the depth. It must be within the call's HDS_STACK_ bound, and the bound not
+ * How much stack each call uses. Each is made on a stack of its own that was filled with a pattern, on tables of several shapes, accepted
+ * on one of them at least; the lowest place that no longer has the pattern is the depth. It must be within the call's HDS_STACK_ bound, and the bound not
  * far above it. Prints a line for each call, then 'N passed, 0 failed'.
  */
 #define _XOPEN_SOURCE 700
@@ -23,16 +23,17 @@ static uint8_t plan[HDS_LONGEST_PLAN], longest[HDS_LONGEST_PLAN];
 static _Alignas(16) unsigned char stack[STACK_BYTES];
 static ucontext_t here, there;
 static const unsigned char *top;
-static void (*measured_call)(void);
+static int64_t (*measured_call)(void);
+static int64_t answer;
 
 static void run(void)
 {
     top = __builtin_frame_address(0);
-    measured_call();
+    answer = measured_call();
 }
 
 /* The bytes of stack that a call uses. */
-static int64_t used(void (*call)(void))
+static int64_t used(int64_t (*call)(void))
 {
     const unsigned char *lowest = stack;
 
@@ -79,6 +80,11 @@ static void half_full(void)
     grow(32, 4);
 }
 
+static void idle(void)
+{
+    grow(HDS_LAST_NODE - 1, 0);
+}
+
 static void all_but_one(void)
 {
     grow(HDS_LAST_NODE - 1, HDS_MOST_WAITING - 1);
@@ -89,71 +95,71 @@ static void full(void)
     grow(HDS_LAST_NODE, HDS_MOST_WAITING);
 }
 
-static void (*const shapes[])(void) = {nothing, root_alone, half_full, all_but_one, full};
+static void (*const shapes[])(void) = {nothing, root_alone, half_full, idle, all_but_one, full};
 
-static void open_call(void)
+static int64_t open_call(void)
 {
-    hds_open(TABLE, 1000, 40);
+    return hds_open(TABLE, 1000, 40);
 }
 
-static void join_call(void)
+static int64_t join_call(void)
 {
-    hds_join(TABLE, HDS_LAST_NODE, 3, HDS_CLIENT, HDS_WEIGHTED, 1, 1000);
+    return hds_join(TABLE, HDS_LAST_NODE, 3, HDS_CLIENT, HDS_WEIGHTED, 1, 1000);
 }
 
-static void leave_call(void)
+static int64_t leave_call(void)
 {
-    hds_leave(TABLE, HDS_LAST_NODE - 1);
+    return hds_leave(TABLE, HDS_LAST_NODE - 1);
 }
 
-static void change_share_call(void)
+static int64_t change_share_call(void)
 {
-    hds_change_share(TABLE, 2, HDS_FIXED, 4000);
+    return hds_change_share(TABLE, 2, HDS_FIXED, 4000);
 }
 
-static void change_rate_call(void)
+static int64_t change_rate_call(void)
 {
-    hds_change_rate(TABLE, 1000);
+    return hds_change_rate(TABLE, 1000);
 }
 
-static void request_call(void)
+static int64_t request_call(void)
 {
-    hds_request(TABLE, HDS_LAST_NODE - 1, HIGHEST_TAG, 1000);
+    return hds_request(TABLE, HDS_LAST_NODE - 1, HIGHEST_TAG, 1000);
 }
 
-static void tick_call(void)
+static int64_t tick_call(void)
 {
-    hds_tick(TABLE, LIST);
+    return hds_tick(TABLE, LIST);
 }
 
-static void look_call(void)
+static int64_t look_call(void)
 {
-    hds_look(TABLE, HDS_LAST_NODE - 1, seen);
+    return hds_look(TABLE, HDS_LAST_NODE - 1, seen);
 }
 
-static void same_call(void)
+static int64_t same_call(void)
 {
-    hds_same(TABLE, other, HDS_TABLE_LENGTH);
+    return hds_same(TABLE, other, HDS_TABLE_LENGTH);
 }
 
-static void plan_read_call(void)
+static int64_t plan_read_call(void)
 {
-    hds_plan_read(TABLE, longest, sizeof longest);
+    return hds_plan_read(TABLE, longest, sizeof longest);
 }
 
-static void plan_write_call(void)
+static int64_t plan_write_call(void)
 {
-    hds_plan_write(TABLE, plan, sizeof plan);
+    return hds_plan_write(TABLE, plan, sizeof plan);
 }
 
-static void plan_check_call(void)
+static int64_t plan_check_call(void)
 {
-    hds_plan_check(longest, sizeof longest);
+    return hds_plan_judge(longest, sizeof longest);
 }
 
 static const struct {
     const char *name;
-    void (*call)(void);
+    int64_t (*call)(void);
     int64_t bound;
 } calls[] = {
     {"open", open_call, HDS_STACK_OPEN},
@@ -181,13 +187,15 @@ int main(void)
         return 1;
     for (size_t i = 0; i < count; i++) {
         int64_t most = 0;
+        int accepted = 0;
 
         for (size_t j = 0; j < sizeof shapes / sizeof *shapes; j++) {
             shapes[j]();
             int64_t bytes = used(calls[i].call);
             most = bytes > most ? bytes : most;
+            accepted |= answer >= 0;
         }
-        int kept = most <= calls[i].bound && calls[i].bound <= 2 * most + SLACK;
+        int kept = accepted && most <= calls[i].bound && calls[i].bound <= 2 * most + SLACK;
         failed += !kept;
         printf("%-12s %6" PRId64 " bytes of stack, bound %6" PRId64 "%s\n", calls[i].name, most, calls[i].bound,
                kept ? "" : ", WRONG");

@@ -20,17 +20,18 @@ static void check(int holds, const char *what)
     *(holds ? &passed : &failed) += 1;
 }
 
-/* Both tables were treated alike: same answers, same numbers. */
-static void alike(int64_t one, int64_t two, const char *what)
+/* Both tables were treated alike: the same expected answer, the same numbers. */
+static void alike(int64_t one, int64_t two, int64_t expected, const char *what)
 {
-    check(one == two && memcmp(table, plain, sizeof table) == 0, what);
+    check(one == expected && two == expected && memcmp(table, plain, sizeof table) == 0, what);
 }
 
 static void refusals(void)
 {
-    check(strcmp(hds_refusal_name(1), "HDS_NOT_IN_ORDER") == 0, "name of 1");
-    check(strcmp(hds_refusal_name(10), "HDS_IN_DEBT") == 0, "name of 10");
+    check(strcmp(hds_refusal_name(HDS_NOT_IN_ORDER), "HDS_NOT_IN_ORDER") == 0, "name of the first");
+    check(strcmp(hds_refusal_name(HDS_IN_DEBT), "HDS_IN_DEBT") == 0, "name of 10");
     check(strcmp(hds_refusal_name(HDS_LAST_REFUSAL), "HDS_PLAN_OUT_OF_ORDER") == 0, "name of the last");
+    check(strstr(hds_refusal_text(HDS_IN_DEBT), "below 0") != NULL, "text of 10");
     for (int64_t number = 1; number <= HDS_LAST_REFUSAL; number++) {
         int differ = 1;
 
@@ -48,20 +49,21 @@ static void refusals(void)
 
 static void typed_calls(void)
 {
-    alike(hds_open(TABLE, 1000, 40), hds_open(PLAIN, 1000, 40), "open");
-    alike(hds_join_class(TABLE, 1, 0, hds_fixed(5000), 20), hds_join(PLAIN, 1, 0, HDS_CLASS, HDS_FIXED, 5000, 20),
+    alike(hds_open(TABLE, 1000, 40), hds_open(PLAIN, 1000, 40), 0, "open");
+    alike(hds_join_class(TABLE, 1, 0, hds_fixed(5000), 20), hds_join(PLAIN, 1, 0, HDS_CLASS, HDS_FIXED, 5000, 20), 0,
           "hds_join_class, fixed");
-    alike(hds_join_class(TABLE, 2, 1, hds_weighted(2), 10), hds_join(PLAIN, 2, 1, HDS_CLASS, HDS_WEIGHTED, 2, 10),
+    alike(hds_join_class(TABLE, 2, 1, hds_weighted(2), 10), hds_join(PLAIN, 2, 1, HDS_CLASS, HDS_WEIGHTED, 2, 10), 0,
           "hds_join_class, weighted");
-    alike(hds_join_client(TABLE, 3, 2, hds_fixed(7), 4), hds_join(PLAIN, 3, 2, HDS_CLIENT, HDS_FIXED, 7, 4),
+    alike(hds_join_client(TABLE, 3, 2, hds_fixed(7), 4), hds_join(PLAIN, 3, 2, HDS_CLIENT, HDS_FIXED, 7, 4), 0,
           "hds_join_client, fixed");
-    alike(hds_join_client(TABLE, 4, 2, hds_weighted(9), 5), hds_join(PLAIN, 4, 2, HDS_CLIENT, HDS_WEIGHTED, 9, 5),
+    alike(hds_join_client(TABLE, 4, 2, hds_weighted(9), 5), hds_join(PLAIN, 4, 2, HDS_CLIENT, HDS_WEIGHTED, 9, 5), 0,
           "hds_join_client, weighted");
-    alike(hds_set_share(TABLE, 3, hds_weighted(8)), hds_change_share(PLAIN, 3, HDS_WEIGHTED, 8), "hds_set_share");
+    alike(hds_set_share(TABLE, 3, hds_weighted(8)), hds_change_share(PLAIN, 3, HDS_WEIGHTED, 8), 0, "hds_set_share");
     static const struct hds_share constants[] = {HDS_FIXED_SHARE(6), HDS_WEIGHTED_SHARE(3)};
-    alike(hds_set_share(TABLE, 4, constants[0]), hds_change_share(PLAIN, 4, HDS_FIXED, 6), "HDS_FIXED_SHARE");
-    alike(hds_set_share(TABLE, 4, constants[1]), hds_change_share(PLAIN, 4, HDS_WEIGHTED, 3), "HDS_WEIGHTED_SHARE");
-    alike(hds_set_share(TABLE, 1, hds_fixed(10001)), hds_change_share(PLAIN, 1, HDS_FIXED, 10001), "hds_set_share, refused");
+    alike(hds_set_share(TABLE, 4, constants[0]), hds_change_share(PLAIN, 4, HDS_FIXED, 6), 0, "HDS_FIXED_SHARE");
+    alike(hds_set_share(TABLE, 4, constants[1]), hds_change_share(PLAIN, 4, HDS_WEIGHTED, 3), 0, "HDS_WEIGHTED_SHARE");
+    alike(hds_set_share(TABLE, 1, hds_fixed(10001)), hds_change_share(PLAIN, 1, HDS_FIXED, 10001), -HDS_OUTSIDE_LIMITS,
+          "hds_set_share, refused");
 }
 
 static void plan_judge(void)
