@@ -1,40 +1,41 @@
 /*
  * Hierarchical disk sharing: the calls on an account table, for C and C++.
  *
- * docs/MANUAL.md explains what the calls do, with examples; docs/PLAN.md has the bytes of a plan; examples/firmware.c is a whole
- * client.
+ * docs/MANUAL.md explains what the calls do, with examples; docs/PLAN.md has the bytes of a plan; examples/firmware.c
+ * is a whole program.
  *
- * ANSWERS. Each call answers 0 or more where it is accepted, else the negated number of the first cause that turns it back:
- * -HDS_NOT_THERE is "node or parent not there".
+ * ANSWERS. Each call answers 0 or more where it is accepted, else the negated number of the first cause that turns it
+ * back: -HDS_NOT_THERE is "node or parent not there".
  *
- *     !! hds_plan_check alone answers the number itself: 0 for a good plan, HDS_PLAN_WRONG and not -HDS_PLAN_WRONG for a
- *     !! wrong one, as a uint32_t. Testing it for "below 0", or negating it without a cast, accepts every plan.
+ *     !! hds_plan_check alone answers the number itself: 0 for a good plan, HDS_PLAN_WRONG and not -HDS_PLAN_WRONG
+ *     !! for a wrong one, as a uint32_t. Testing it for "below 0", or negating it without a cast, accepts every plan.
  *     !! hds_plan_judge, below, answers as all other calls do.
  *
- * A refused call leaves every buffer as it came. Tables, lists and plans of any length and contents and arguments of any size
- * are safe. These are the caller's to see to: a pointer is not null, also where the length is 0; it is aligned and points to as
- * many numbers (or bytes) as the length says, to HDS_SEEN_LENGTH for look; the buffers of one call do not overlap; one call at
- * a time writes a buffer; the stack is deep enough.
+ * A refused call leaves every buffer as it came. Tables, lists and plans of any length and contents and arguments of
+ * any size are safe. These are the caller's to see to: a pointer is not null, also where the length is 0; it is
+ * aligned and points to as many numbers (or bytes) as the length says, to HDS_SEEN_LENGTH for look; the buffers of
+ * one call do not overlap; one call at a time writes a buffer; the stack is deep enough.
  *
  * UNITS. A token is 1 KiB, 1000 grains a token. Tokens: depths, sizes. Grains: balances. Grains per tick: rates.
  *
- * THE TABLE is HDS_TABLE_LENGTH numbers of 64 bits that the caller hands to each call and keeps between the calls. It holds no
- * pointers, and the calls keep nothing outside it: a copy of it is a table like the first.
+ * THE TABLE is HDS_TABLE_LENGTH numbers of 64 bits that the caller hands to each call and keeps between the calls. It
+ * holds no pointers, and the calls keep nothing outside it: a copy of it is a table like the first.
  *   In memory    an array of int64_t, aligned to 8 bytes.
- *   On disk      its HDS_TABLE_BYTES bytes as they are, each number low byte first. There is no checksum: the calls test
- *                that a table is in order, not that it is the one that was stored.
- *   One writer   While a call that may write a table runs, no other call on that table may. Calls that only read it (look,
- *                same, plan write) may run side by side, and so may calls on different buffers. An interrupt or signal handler
- *                counts as another thread.
- *   A stop       A call judges before it writes, so a refused one has written nothing. A program that is stopped in an
- *                accepted call leaves the table with a part of what the call writes: after a tick, some balances raised and
- *                others not, and requests gone that stand only in the list. Every call is safe on such a table, and most such
- *                tables pass as in order. Where a table must outlive a stop, make the call on a copy and then point to the
- *                copy; the manual has the steps.
+ *   On disk      its HDS_TABLE_BYTES bytes as they are, each number low byte first. There is no checksum: the calls
+ *                test that a table is in order, not that it is the one that was stored.
+ *   One writer   While a call that may write a table runs, no other call on that table may. Calls that only read it
+ *                (look, same, plan write) may run side by side, and so may calls on different buffers. An interrupt
+ *                or signal handler counts as another thread.
+ *   A stop       A call judges before it writes, so a refused one has written nothing. A program that is stopped in
+ *                an accepted call leaves the table with a part of what the call writes: after a tick, some balances
+ *                raised and others not, and requests gone that stand only in the list. Every call is safe on such a
+ *                table, and most such tables pass as in order. Where a table must outlive a stop, make the call on a
+ *                copy and then point to the copy; the manual has the steps.
  *
- * LINKING. libcabinet.a has all calls but hds_plan_check, which is in libplan.a; `rt staticlib cabinet` and `rt staticlib plan`
- * write them to target/staticlib/. They need memcpy and memset and nothing else, have no data that is written, use no heap, no
- * recursion, no floating point, no red zone and no registers beyond SSE2, and can stand at any address.
+ * LINKING. libcabinet.a has all calls but hds_plan_check, which is in libplan.a; `rt staticlib cabinet` and
+ * `rt staticlib plan` write them to target/staticlib/. They need memcpy and memset and nothing else, have no data that is
+ * written, use no heap, no recursion, no floating point, no red zone and no registers beyond SSE2, and can stand at
+ * any address.
  */
 #ifndef HDS_H
 #define HDS_H
@@ -54,8 +55,8 @@ extern "C" {
 #endif
 
 /*
- * The version of this header and of the archives that come with it. The first number rises when what a call takes or answers, or
- * what a table holds, changes; the second when something is added. Nothing compares them at run time.
+ * The version of this header and of the archives that come with it. The first number rises when what a call takes or
+ * answers, or what a table holds, changes; the second when something is added. Nothing compares them at run time.
  */
 #define HDS_VERSION_MAJOR 1
 #define HDS_VERSION_MINOR 0
@@ -113,8 +114,10 @@ extern "C" {
 #define HDS_SIZE_AT 1
 #define HDS_ARRIVAL_AT 2
 
-/* A dispatch list: HDS_ENTRY_LENGTH numbers for each request that goes. One of HDS_LONGEST_LIST numbers is long enough for
-   every tick: 63 clients, each with 8 requests waiting. */
+/*
+ * A dispatch list: HDS_ENTRY_LENGTH numbers for each request that goes. One of HDS_LONGEST_LIST numbers is long enough
+ * for every tick: 63 clients, each with 8 requests waiting.
+ */
 #define HDS_ENTRY_LENGTH 4
 #define HDS_LONGEST_LIST 2016
 #define HDS_ENTRY_CLIENT 0
@@ -136,10 +139,10 @@ extern "C" {
 #define HDS_LONGEST_PLAN 702
 
 /*
- * The stack that a call needs at most, in bytes, return address included, whatever the arguments. The tests hold these to the
- * archives, by the frames in the machine code and by measuring. Plan read and plan check have a table of their own on the
- * stack. To be added are what memcpy and memset take, a dynamic linker that looks for them at the first call (none with
- * `-z now`), and signal handlers on the same stack.
+ * The stack that a call needs at most, in bytes, return address included, whatever the arguments. The tests hold
+ * these to the archives, by the frames in the machine code and by measuring. Plan read and plan check have a table of
+ * their own on the stack. To be added are what memcpy and memset take, a dynamic linker that looks for them at the
+ * first call (none with `-z now`), and signal handlers on the same stack.
  */
 #define HDS_STACK_OPEN 1024
 #define HDS_STACK_JOIN 10240
@@ -184,8 +187,8 @@ enum hds_refusal { HDS_REFUSALS(HDS_REFUSAL_CASE) };
 #define HDS_LAST_REFUSAL 15
 
 /*
- * The name and the meaning of a refusal's number, 1 to HDS_LAST_REFUSAL, for logs: give -answer for the answer of a call, and
- * the answer itself for that of hds_plan_check. For every other number "no refusal".
+ * The name and the meaning of a refusal's number, 1 to HDS_LAST_REFUSAL, for logs: give -answer for the answer of a
+ * call, and the answer itself for that of hds_plan_check. For every other number "no refusal".
  */
 static inline const char *hds_refusal_name(int64_t number)
 {
@@ -218,17 +221,17 @@ static inline const char *hds_refusal_text(int64_t number)
  */
 
 /*
- * Clears the table, whatever it holds, and puts in the root with an empty bucket: rate 1 to 1,000,000,000, depth 1 to 1,000,000.
- * Answers 0. Refused:
+ * Clears the table, whatever it holds, and puts in the root with an empty bucket: rate 1 to 1,000,000,000, depth 1 to
+ * 1,000,000. Answers 0. Refused:
  *   HDS_NOT_IN_ORDER      the table's length (its contents are not judged)
  *   HDS_OUTSIDE_LIMITS    rate or depth
  */
 int64_t hds_open(int64_t *table, size_t table_length, int64_t rate, int64_t depth);
 
 /*
- * Joins a node, 1 to 63, under a class, with balance 0: an hds_sort, an hds_kind, share 1 to 10,000 (ten-thousandths of the
- * class's rate where fixed, else a weight), depth 1 to 1,000,000. Renews all rates. Answers 0. With hds_join_class and
- * hds_join_client, below, a compiler tells sort, kind and share apart. Refused:
+ * Joins a node, 1 to 63, under a class, with balance 0: an hds_sort, an hds_kind, share 1 to 10,000 (ten-thousandths
+ * of the class's rate where fixed, else a weight), depth 1 to 1,000,000. Renews all rates. Answers 0. With
+ * hds_join_class and hds_join_client, below, a compiler tells sort, kind and share apart. Refused:
  *   HDS_NOT_IN_ORDER      the table
  *   HDS_OUTSIDE_LIMITS    node, parent, sort, kind, share or depth
  *   HDS_NOT_THERE         no node has the parent's number
@@ -282,15 +285,16 @@ int64_t hds_change_rate(int64_t *table, size_t table_length, int64_t rate);
 int64_t hds_request(int64_t *table, size_t table_length, int64_t client, int64_t tag, int64_t size);
 
 /*
- * One tick: balances grow, and waiting requests go as far as balances allow. Answers how many were dispatched; the list gets
- * HDS_ENTRY_LENGTH numbers for each, and stays untouched beyond them. Refused:
+ * One tick: balances grow, and waiting requests go as far as balances allow. Answers how many were dispatched; the
+ * list gets HDS_ENTRY_LENGTH numbers for each, and stays untouched beyond them. Refused:
  *   HDS_NOT_IN_ORDER      the table
  *   HDS_BUFFER_SHORT      the list is shorter than HDS_ENTRY_LENGTH numbers for each waiting request of all clients
  */
 int64_t hds_tick(int64_t *table, size_t table_length, int64_t *list, size_t list_length);
 
 /*
- * Shows a node: its rate, its balance and how many of its requests wait, at seen[HDS_SEEN_RATE] and so on. Answers 0. Refused:
+ * Shows a node: its rate, its balance and how many of its requests wait, at seen[HDS_SEEN_RATE] and so on. Answers 0.
+ * Refused:
  *   HDS_NOT_IN_ORDER      the table
  *   HDS_OUTSIDE_LIMITS    node not 0 to 63
  *   HDS_NOT_THERE         no node has this number
@@ -298,17 +302,19 @@ int64_t hds_tick(int64_t *table, size_t table_length, int64_t *list, size_t list
 int64_t hds_look(const int64_t *table, size_t table_length, int64_t node, int64_t seen[HDS_SEEN_LENGTH]);
 
 /*
- * Whether two tables have the same tree and disk rate, whatever their balances and requests. Answers 1 for yes, 0 for no. Refused:
+ * Whether two tables have the same tree and disk rate, whatever their balances and requests. Answers 1 for yes, 0 for
+ * no. Refused:
  *   HDS_NOT_IN_ORDER      either table
  */
 int64_t hds_same(const int64_t *first, size_t first_length, const int64_t *second, size_t second_length);
 
 /*
- * Reads a plan: opens the table and joins the plan's entries in turn. The table may hold anything before. Answers 0. Refused:
+ * Reads a plan: opens the table and joins the plan's entries in turn. The table may hold anything before. Answers 0.
+ * Refused:
  *   HDS_NOT_IN_ORDER      the table's length (its contents are not judged)
  *   HDS_PLAN_WRONG        the plan's length, count, an offset or a kind
- *   HDS_OUTSIDE_LIMITS to HDS_DEPTH_ABOVE    as open refuses the disk's rate and depth, then as join refuses the first entry
- *                         that it refuses
+ *   HDS_OUTSIDE_LIMITS to HDS_DEPTH_ABOVE    as open refuses the disk's rate and depth, then as join refuses the
+ *                         first entry that it refuses
  *   HDS_PLAN_OUT_OF_ORDER all entries can be joined, but do not stand by level, then by number
  */
 int64_t hds_plan_read(int64_t *table, size_t table_length, const uint8_t *plan, size_t plan_length);
@@ -321,8 +327,8 @@ int64_t hds_plan_read(int64_t *table, size_t table_length, const uint8_t *plan, 
 int64_t hds_plan_write(const int64_t *table, size_t table_length, uint8_t *buffer, size_t buffer_length);
 
 /*
- * Checks a plan without a table. !! Answers 0 or the refusal's number itself, NOT negated: the one that reading the plan into
- * a table of HDS_TABLE_LENGTH numbers gives. Refused:
+ * Checks a plan without a table. !! Answers 0 or the refusal's number itself, NOT negated: the one that reading the
+ * plan into a table of HDS_TABLE_LENGTH numbers gives. Refused:
  *   HDS_PLAN_WRONG        the plan's length, count, an offset or a kind
  *   HDS_OUTSIDE_LIMITS to HDS_DEPTH_ABOVE    as open and join refuse
  *   HDS_PLAN_OUT_OF_ORDER the entries do not stand by level, then by number
@@ -336,8 +342,8 @@ static inline int64_t hds_plan_judge(const uint8_t *plan, size_t plan_length)
 }
 
 /*
- * Join and change share with types that a compiler tells apart: a share is made by hds_fixed or hds_weighted, and the sort is in
- * the call's name. They answer as the calls above.
+ * Join and change share with types that a compiler tells apart: a share is made by hds_fixed or hds_weighted, and the
+ * sort is in the call's name. They answer as the calls above.
  */
 struct hds_share {
     enum hds_kind kind;
