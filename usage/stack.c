@@ -1,7 +1,8 @@
 /*
- * How much stack each call uses. Each is made on a stack of its own that was filled with a pattern, on tables of several shapes, accepted
- * on one of them at least; the lowest place that no longer has the pattern is the depth. It must be within the call's HDS_STACK_ bound, and the bound not
- * far above it. Prints a line for each call, then 'N passed, 0 failed'.
+ * How much stack each call uses. Each is made on a stack of its own that was filled with a pattern, on tables of
+ * several shapes, accepted on one of them at least; the lowest place that no longer has the pattern tells how much.
+ * It must be within the call's HDS_STACK_ bound, and the bound not far above it. Prints a line for each call, then
+ * 'N passed, 0 failed'.
  */
 #define _XOPEN_SOURCE 700
 #include <inttypes.h>
