@@ -8,12 +8,13 @@ use Rattle.table.specs.Limits.{nodes, parentAt, depthAt, rateAt, queueAt, sizeA
 use Rattle.table.specs.Places.{place, rate, depthGrains, size}
 use Rattle.table.specs.Tree.{treeOf}
 use Rattle.table.specs.Tick.{grains}
+use Rattle.table.proofs.Cost.{cost-bounds}
 use Rattle.balances.specs.Within.{Within}
 
 -- The grains of a size and of a depth are small.
 grains-small : (n : ℕ) → n ≤ greatestDepth → grains n ≤ 2 ^ 60
 unfolding grains
-grains-small n h = omega arith
+grains-small n h = omega (arith, cost-bounds n)
 
 pub depth-grains-small : (t : List ℤ) (k : ℕ) → treeOf t .depth k ≤ greatestDepth → depthGrains t k ≤ 2 ^ 60
 unfolding treeOf depthGrains

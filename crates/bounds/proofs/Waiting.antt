@@ -16,6 +16,7 @@ use Rattle.table.specs.Tree.{treeOf, isClient, atOrAbove}
 use Rattle.table.specs.Places.{rate, balance, waiting, depthGrains, size}
 use Rattle.table.specs.Tick.{grains, enough, stepTwo, ticked}
 use Rattle.table.proofs.Facts.{InOrder}
+use Rattle.table.proofs.Cost.{cost-bounds, most-cost}
 use Rattle.ticklaws.proofs.Sorts.{client-there, client-class}
 use Rattle.ticklaws.proofs.Frame.{frame-tree, frame-grains}
 use Rattle.ticklaws.proofs.Reached.{Reached, reached-first}
@@ -40,7 +41,7 @@ module _ (t u : List ℤ) (r : Reached t u) (k : ℕ) (hk : k < nodes) where
   -- With too little for its oldest request it stands below its depth.
   short-below : 0 < waiting u k → enough u (grains (size u k 0)) k ≡ false → plus (balance u k) < treeOf t .depth k * grainScale
   unfolding enough grains size plus minus
-  short-below waits short = omega (arith, zarith, r .queues .size k hk 0 waits, one-is-zero (balance u k))
+  short-below waits short = omega (arith, zarith, most-cost _ _ (r .queues .size k hk 0 waits), cost-bounds (size u k 0), one-is-zero (balance u k))
 
 module _ (t : List ℤ) (f : InOrder t) (k : ℕ) (hk : k < nodes) (client : isClient (treeOf t) k ≡ true) (waits : 0 < waiting (ticked t .table) k) where
   -- After step 2.

@@ -8,11 +8,11 @@ use Rattle.table.specs.Refusals.{accepted}
 use Rattle.bounds.specs.Events.{join, request, tick, Event}
 use Rattle.bounds.specs.Observer.{Observer, start, observedAll}
 
--- Client 1 joins below the root with weight 1 and depth 1.
+-- Client 1 joins below the root with weight 1 and depth 8.
 unfoldable pub clientJoins : Event
-clientJoins = record { call = join (pos 1) (pos root) (pos client) (pos weighted) (pos 1) (pos 1); answer = accepted (pos 0 ∷ []); list = [] }
+clientJoins = record { call = join (pos 1) (pos root) (pos client) (pos weighted) (pos 1) (pos 8); answer = accepted (pos 0 ∷ []); list = [] }
 
--- It asks for one token n times; the last arrival number is as many as may wait.
+-- It asks for one token, which costs 8, n times; the last arrival number is as many as may wait.
 unfoldable pub asks : ℕ → List Event
 asks zero = []
 asks (suc n) = record { call = request (pos 1) (pos 0) (pos 1); answer = accepted (pos (mostWaiting - n) ∷ []); list = [] } ∷ asks n
@@ -27,9 +27,9 @@ entriesOfOne (suc n) = pos 1 ∷ pos 0 ∷ pos 1 ∷ pos 2 ∷ entriesOfOne n
 unfoldable pub dispatches : ℕ → Event
 dispatches n = record { call = tick (entriesOfOne mostWaiting); answer = accepted (pos n ∷ []); list = entriesOfOne mostWaiting }
 
--- A disk of 1000 grains a tick and depth 1, with client 1 and as many requests as may wait at it.
+-- A disk of 8000 grains a tick and depth 8, with client 1 and as many requests as may wait at it.
 unfoldable pub before : Observer
-before = observedAll (start (pos 1000) (pos 1)) (clientJoins ∷ asks mostWaiting)
+before = observedAll (start (pos 8000) (pos 8)) (clientJoins ∷ asks mostWaiting)
 
 -- Three ticks that list nothing.
 unfoldable pub listsNothing : List Event

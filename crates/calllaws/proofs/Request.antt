@@ -1,4 +1,4 @@
--- Request keeps a table in order: one more request waits at a client, behind the others. Its size is within the client's
+-- Request keeps a table in order: one more request waits at a client, behind the others. Its cost is within the client's
 -- depth by causes 2 and 8, and its arrival number is above all that were given before, so it rises and differs.
 use Prim.Native.Nat.{ℕ, suc, _+_, _*_, _-_, _≤_, _<_}
 use mathlib.Core.Path.{_≡_, refl, sym, ap, _∙_}
@@ -12,14 +12,16 @@ use lib.Signed.{leZ}
 use Rattle.numbers.specs.Whole.{plus}
 use Rattle.numbers.specs.Tests.{every}
 use Rattle.numbers.proofs.Tests.{by-test, true-false}
-use Rattle.numbers.proofs.Parts.{zarith, one-is-zero, plus-pos, minus-pos}
+use Rattle.numbers.proofs.Parts.{zarith, plus-pos, minus-pos}
 use Rattle.numbers.proofs.All.{below-cases}
 use Rattle.table.specs.Limits.{recordLength, nodes, sortAt, parentAt, levelAt, kindAt, shareAt, depthAt, rateAt, balanceAt, waitingAt, spareAt, queueAt, requestLength, tagAt, sizeAt, arrivalAt, root, mostWaiting}
 use Rattle.table.specs.Places.{queuePlace, place, count, rate, balance, waiting, arrival}
 use Rattle.table.specs.Tree.{treeOf, there, isClass}
+use Rattle.table.specs.Cost.{cost}
 use Rattle.table.specs.Order.{inOrder}
 use Rattle.table.specs.Calls.{requested, requestRefusal, requestTable}
 use Rattle.table.proofs.Facts.{Limits, Spare, Request, facts, from-facts}
+use Rattle.table.proofs.Cost.{size-within}
 use Rattle.treelaws.proofs.Renewed.{same-tree}
 use Rattle.table.proofs.Edits.{Requested, requested-edit}
 use Rattle.table.proofs.Passed.{RequestPassed, request-passed}
@@ -135,11 +137,11 @@ module _ (t u : List ℤ) (k : ℕ) (tag size : ℤ) (hk : k < nodes) (more : Re
       }
 
   -- The request behind the others.
-  new-request : Ready t → waiting t k < mostWaiting → leZ (pos 1) size ≡ true → plus size ≤ treeOf t .depth k → Request u k (waiting t k)
+  new-request : Ready t → waiting t k < mostWaiting → leZ (pos 1) size ≡ true → cost (plus size) ≤ treeOf t .depth k → Request u k (waiting t k)
   unfolding arrival
   new-request r w least most =
       record {
-        size = rw (requested-tree, new-size w) (omega (arith, zarith, plus-pos 1, minus-pos 1, one-is-zero size));
+        size = rw (requested-tree, new-size w) (size-within _ size least most);
         number = rw (new-number w) (omega (arith, zarith, next-count, plus-pos (suc (count t)), minus-pos (suc (count t))));
         rising = λ ne.
             let l : waiting t k - 1 < waiting t k = omega arith in
@@ -162,7 +164,7 @@ module _ (t u : List ℤ) (k : ℕ) (tag size : ℤ) (hk : k < nodes) (more : Re
             request-kept t u k i (before k depthAt (omega arith)) (omega (arith, next-count))
             (λ p low hp. stays p (omega arith) (omega arith) (omega arith) (omega arith) (omega arith))
             (old .requests (class-or-client t k old (passed .there) (passed .no-class)) i l))
-            (λ last. rw last (new-request r w (passed .least) (passed .most)));
+            (λ last. rw last (new-request r w (passed .least) (passed .cost)));
       }
     where
       old : Node t k

@@ -5,7 +5,7 @@ use lib.IntN.{pos, negℤ}
 use Rattle.table.specs.Limits.{root, class, client, fixed, weighted, wholeShare, greatestRate, greatestCount, sortAt, parentAt, levelAt, kindAt, shareAt, depthAt, rateAt, balanceAt, waitingAt, spareAt, spareLength, tagAt, sizeAt, arrivalAt}
 use Rattle.table.specs.Places.{queuePlace}
 use Rattle.table.specs.Refusals.{refused}
-use Rattle.scenarios.specs.Scenario.{Scenario, disk, join, leave, request, look, tick, dispatch, atPlace, atHeader, _gives_, _answers_leaving_, _lists_, fits, spoils, setBalance, number, seen}
+use Rattle.scenarios.specs.Scenario.{Scenario, disk, join, leave, request, look, tick, dispatch, atPlace, atHeader, _gives_, _answers_leaving_, _lists_, fits, spoils, setBalance, number, seen, greatestNumber}
 
 -- The cases by name.
 pub data Case : Type 0 where
@@ -39,29 +39,29 @@ scenario emptyBuckets =
 -- "The list gets four numbers each: client, tag, size, supplier. The answer is how many were dispatched; the list beyond
 -- them stays untouched."
 scenario restOfList =
-    disk 1000 40 gives number 0
+    disk 8000 40 gives number 0
     ∷ join 5 root client weighted 1 16 gives number 0
     ∷ request 5 50 1 gives number 1
     ∷ tick 6 answers number 1 leaving (pos 5 ∷ pos 50 ∷ pos 1 ∷ pos 5 ∷ pos 7 ∷ pos 7 ∷ [])
     ∷ []
 -- "Every balance above depth × 1000 is cut to that", after what waits at a client is dispatched from its own balance.
 scenario cutToDepth =
-    disk 1000 40 gives number 0
-    ∷ join 1 root client weighted 1 1 gives number 0
+    disk 8000 40 gives number 0
+    ∷ join 1 root client weighted 1 8 gives number 0
     ∷ tick 0 lists []
     ∷ tick 0 lists []
-    ∷ look 1 gives seen 1000 (pos 1000) 0
-    ∷ look root gives seen 1000 (pos 2000) 0
+    ∷ look 1 gives seen 8000 (pos 8000) 0
+    ∷ look root gives seen 8000 (pos 16000) 0
     ∷ request 1 10 1 gives number 1
     ∷ request 1 11 1 gives number 2
     ∷ tick 8 lists (dispatch 1 10 1 1 ∷ dispatch 1 11 1 1 ∷ [])
-    ∷ look 1 gives seen 1000 (pos 0) 0
-    ∷ look root gives seen 1000 (pos 1000) 0
+    ∷ look 1 gives seen 8000 (pos 0) 0
+    ∷ look root gives seen 8000 (pos 8000) 0
     ∷ []
 -- "The supplier is the first node with enough balance on the way from the client up to the root"; a dispatch charges it "and
--- every node above it, the root included, and .. none below it". At the third tick client 2 has 750, class 1 has 1500.
+-- every node above it, the root included, and .. none below it". At the third tick client 2 has 6000, class 1 has 12000.
 scenario firstSupplier =
-    disk 1000 40 gives number 0
+    disk 8000 40 gives number 0
     ∷ join 1 root class fixed 5000 20 gives number 0
     ∷ join 2 1 client weighted 1 10 gives number 0
     ∷ join 3 1 client weighted 1 10 gives number 0
@@ -69,9 +69,9 @@ scenario firstSupplier =
     ∷ tick 0 lists []
     ∷ request 2 20 1 gives number 1
     ∷ tick 4 lists (dispatch 2 20 1 1 ∷ [])
-    ∷ look 2 gives seen 250 (pos 750) 0
-    ∷ look 1 gives seen 500 (pos 500) 0
-    ∷ look root gives seen 1000 (pos 2000) 0
+    ∷ look 2 gives seen 2000 (pos 6000) 0
+    ∷ look 1 gives seen 4000 (pos 4000) 0
+    ∷ look root gives seen 8000 (pos 16000) 0
     ∷ []
 -- "places 1 to 7 are zero", and the count is 0 to 9,000,000,000,000,000,000.
 scenario headerPlaces =
@@ -144,8 +144,9 @@ scenario sumsInOrder =
     ∷ setBalance 1 (negℤ (pos 10000))
     ∷ spoils (atPlace 1 balanceAt (negℤ (pos 10001)))
     ∷ []
--- "all unused records and places are zero"; "classes have nothing waiting"; "each waiting size is 1 to its client's depth;
--- arrival numbers are 1 to the header's count, rising within a client and different everywhere. A tag is any number."
+-- "all unused records and places are zero"; "classes have nothing waiting"; a waiting size is at least 1 and its cost at most
+-- its client's depth, so up to 7 at depth 10; "arrival numbers are 1 to the header's count, rising within a client and
+-- different everywhere. A tag is any number."
 scenario requestsInOrder =
     disk 1000 40 gives number 0
     ∷ join 1 root client weighted 1 10 gives number 0
@@ -164,8 +165,11 @@ scenario requestsInOrder =
     ∷ spoils (atPlace 2 sortAt (pos class))
     ∷ fits (atPlace 2 sortAt (pos client))
     ∷ spoils (atPlace 2 (queuePlace 0 + sizeAt) (pos 0))
-    ∷ spoils (atPlace 2 (queuePlace 0 + sizeAt) (pos 11))
-    ∷ fits (atPlace 2 (queuePlace 0 + sizeAt) (pos 10))
+    ∷ spoils (atPlace 2 (queuePlace 0 + sizeAt) (negℤ (pos 1)))
+    ∷ spoils (atPlace 2 (queuePlace 0 + sizeAt) (pos 8))
+    ∷ spoils (atPlace 2 (queuePlace 0 + sizeAt) (pos 10))
+    ∷ spoils (atPlace 2 (queuePlace 0 + sizeAt) (pos greatestNumber))
+    ∷ fits (atPlace 2 (queuePlace 0 + sizeAt) (pos 7))
     ∷ spoils (atPlace 2 (queuePlace 0 + arrivalAt) (pos 0))
     ∷ spoils (atPlace 2 (queuePlace 0 + arrivalAt) (pos 4))
     ∷ spoils (atPlace 2 (queuePlace 0 + arrivalAt) (pos 2))

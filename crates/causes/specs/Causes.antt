@@ -5,7 +5,7 @@ use mathlib.Core.List.{[], _∷_}
 use lib.IntN.{pos, negℤ}
 use Rattle.table.specs.Limits.{nodes, lastNode, root, unused, class, client, fixed, weighted, wholeShare, greatestDepth, greatestRate, greatestCount}
 use Rattle.table.specs.Refusals.{refused}
-use Rattle.scenarios.specs.Scenario.{Scenario, openℤ, joinℤ, leaveℤ, changeShareℤ, changeRateℤ, requestℤ, lookℤ, same, disk, join, leave, changeShare, changeRate, request, look, tick, atHeader, oneLess, oneMore, _gives_, _lists_, _refuses_, keep, fits, spoils, setBalance, number, seen}
+use Rattle.scenarios.specs.Scenario.{Scenario, openℤ, joinℤ, leaveℤ, changeShareℤ, changeRateℤ, requestℤ, lookℤ, same, disk, join, leave, changeShare, changeRate, request, look, tick, atHeader, oneLess, oneMore, _gives_, _lists_, _refuses_, keep, fits, spoils, setBalance, number, seen, greatestNumber}
 
 -- The scenarios by name: of the table at every call, then of each call.
 pub data TurnedBack : Type 0 where
@@ -158,10 +158,10 @@ scenario changesRate =
     ∷ look 1 gives seen 500000000 (pos 0) 0
     ∷ []
 -- Request: 2, 2 before 3, 2 before 5, 3 before 8, 5, 5 before 8, 8, none, 11, 8 before 11, 11 before 12, 12, and the last
--- number. A tag is any number.
+-- number. At depth 16 size 12 costs 16, and 13 costs 17. A tag is any number.
 scenario requests =
     disk 1000 40 gives number 0
-    ∷ join 1 root class fixed 5000 20 gives number 0
+    ∷ join 1 root class fixed 5000 16 gives number 0
     ∷ join 2 root client weighted 1 16 gives number 0
     ∷ requestℤ (negℤ (pos 1)) (pos 10) (pos 1) gives refused 2
     ∷ request nodes 10 1 gives refused 2
@@ -171,9 +171,10 @@ scenario requests =
     ∷ request 1 10 0 gives refused 2
     ∷ request 9 90 1 gives refused 3
     ∷ request 1 10 1 gives refused 5
-    ∷ request 1 10 21 gives refused 5
-    ∷ request 2 20 17 gives refused 8
-    ∷ request 2 20 16 gives number 1
+    ∷ request 1 10 13 gives refused 5
+    ∷ request 2 20 13 gives refused 8
+    ∷ request 2 20 greatestNumber gives refused 8
+    ∷ request 2 20 12 gives number 1
     ∷ requestℤ (pos 2) (negℤ (pos 20)) (pos 1) gives number 2
     ∷ request 2 20 1 gives number 3
     ∷ request 2 20 1 gives number 4
@@ -182,8 +183,8 @@ scenario requests =
     ∷ request 2 20 1 gives number 7
     ∷ request 2 20 1 gives number 8
     ∷ request 2 20 1 gives refused 11
-    ∷ request 2 20 17 gives refused 8
-    ∷ join 3 root client weighted 1 4 gives number 0
+    ∷ request 2 20 13 gives refused 8
+    ∷ join 3 root client weighted 1 8 gives number 0
     ∷ fits (atHeader 0 (pos greatestCount))
     ∷ request 2 20 1 gives refused 11
     ∷ request 3 30 1 gives refused 12
@@ -228,7 +229,7 @@ scenario compares =
 scenario ticks =
     disk 1000 40 gives number 0
     ∷ join 1 root client weighted 1 16 gives number 0
-    ∷ request 1 10 16 gives number 1
+    ∷ request 1 10 12 gives number 1
     ∷ tick 3 refuses 13
     ∷ spoils (atHeader 1 (pos 1))
     ∷ tick 4 refuses 1

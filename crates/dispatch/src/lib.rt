@@ -21,6 +21,6 @@ pub fn dispatch(table: &mut [i64], list: &mut [i64], n: usize, k: usize, s: usiz
     let tag = Table::get(table, k, Table::QUEUE + Table::TAG);
     let size = Table::natural(table, k, Table::QUEUE + Table::SIZE);
     entries::write_entry(list, n, k, tag, size, s);
-    balances::charge(table, Table::grains(size), s);
+    balances::charge(table, costs::grains(size), s);
     queue::take_out(table, k);
 }

@@ -6,7 +6,7 @@ use lib.Dec.{T}
 use Rattle.numbers.specs.Tests.{every}
 use Rattle.scenarios.specs.Scenario.{Passes}
 use Rattle.scenarios.proofs.Run.{passes, passed, truth, every-at}
-use Rattle.edges.specs.Edges.{Edge, paper, thirds, nothingLeft, nothingLeftOfThirds, aboveWhole, alone, oneAsks, bothAsk, debt, sizes, depths, ninth, listLengths, scenario}
+use Rattle.edges.specs.Edges.{Edge, paper, thirds, nothingLeft, nothingLeftOfThirds, aboveWhole, alone, oneAsks, bothAsk, debt, sizes, costsAbove, costsCharged, depths, ninth, listLengths, scenario}
 
 -- The joint table: whether each edge passes.
 joint : List Bool
@@ -22,6 +22,8 @@ joint =
     ∷ bothAsk
     ∷ debt
     ∷ sizes
+    ∷ costsAbove
+    ∷ costsCharged
     ∷ depths
     ∷ ninth
     ∷ listLengths
@@ -43,10 +45,12 @@ each h oneAsks = every-at joint h 6
 each h bothAsk = every-at joint h 7
 each h debt = every-at joint h 8
 each h sizes = every-at joint h 9
-each h depths = every-at joint h 10
-each h ninth = every-at joint h 11
-each h listLengths = every-at joint h 12
+each h costsAbove = every-at joint h 10
+each h costsCharged = every-at joint h 11
+each h depths = every-at joint h 12
+each h ninth = every-at joint h 13
+each h listLengths = every-at joint h 14
 
--- The marked edges of document 01 hold, all together.
+-- The marked edges hold, all together.
 pub edges-hold : (e : Edge) → Passes (scenario e)
 edges-hold e = passed (scenario e) (each (truth (every joint) computed) e)

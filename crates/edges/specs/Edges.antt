@@ -1,14 +1,15 @@
--- The marked edges of document 01, each a scenario under the words of its edge. What the words leave open, as the depth of a
--- node or the tag of a request, is chosen so that nothing else is met.
+-- The marked edges of document 01 with the costs of document 02, request (a), each a scenario under its words; where costs
+-- change them, the words here are those worked anew. What the words leave open, as the depth of a node or the tag of a
+-- request, is chosen so that nothing else is met.
 use mathlib.Core.List.{[], _∷_}
 use lib.IntN.{pos, negℤ}
 use Rattle.table.specs.Limits.{root, class, client, fixed, weighted, wholeShare}
 use Rattle.table.specs.Refusals.{refused}
-use Rattle.scenarios.specs.Scenario.{Scenario, disk, join, request, look, tick, dispatch, _gives_, _lists_, _refuses_, setBalance, number, seen}
+use Rattle.scenarios.specs.Scenario.{Scenario, disk, join, request, look, tick, dispatch, _gives_, _lists_, _refuses_, setBalance, times, number, seen}
 
--- The edges by name, in document 01's order.
+-- The edges by name, in document 01's order; those of the ranges' ends stand beside the sizes.
 pub data Edge : Type 0 where
-  paper thirds nothingLeft nothingLeftOfThirds aboveWhole alone oneAsks bothAsk debt sizes depths ninth listLengths : Edge
+  paper thirds nothingLeft nothingLeftOfThirds aboveWhole alone oneAsks bothAsk debt sizes costsAbove costsCharged depths ninth listLengths : Edge
 
 unfoldable pub scenario : Edge → Scenario
 -- "Disk 1000; class 1 fixed 5000: rate 500. Under it fixed 4000: 200; weights 4 and 6: 120 and 180."
@@ -58,64 +59,127 @@ scenario aboveWhole =
     ∷ join 1 root client fixed wholeShare 10 gives number 0
     ∷ join 2 root client fixed 1 10 gives refused 7
     ∷ []
--- "Disk 1000, root depth 40, client 5 alone, weight 4, depth 16; size 3 goes at the third tick, supplier 5, both balances 0."
+-- Disk 1000, root depth 40, client 5 alone, weight 4, depth 16; size 3 costs 8 and goes at the eighth tick, supplier 5, both
+-- balances 0.
 scenario alone =
     disk 1000 40 gives number 0
     ∷ join 5 root client weighted 4 16 gives number 0
     ∷ request 5 50 3 gives number 1
-    ∷ tick 4 lists []
-    ∷ tick 4 lists []
-    ∷ tick 4 lists (dispatch 5 50 3 5 ∷ [])
+    ∷ times 7 (tick 4 lists [])
+    (tick 4 lists (dispatch 5 50 3 5 ∷ [])
     ∷ look 5 gives seen 1000 (pos 0) 0
     ∷ look root gives seen 1000 (pos 0) 0
-    ∷ []
--- "Disk 1000, root depth 40, clients 5 and 6, weight 1, depth 16, only 5 asks, size 1: first tick, supplier 0; 5 keeps 500,
--- root 0."
+    ∷ [])
+-- Disk 1000, root depth 40, clients 5 and 6, weight 1, depth 16, only 5 asks, size 1, which costs 8: eighth tick, supplier 0;
+-- 5 keeps 4000, root 0.
 scenario oneAsks =
     disk 1000 40 gives number 0
     ∷ join 5 root client weighted 1 16 gives number 0
     ∷ join 6 root client weighted 1 16 gives number 0
     ∷ request 5 50 1 gives number 1
-    ∷ tick 4 lists (dispatch 5 50 1 root ∷ [])
-    ∷ look 5 gives seen 500 (pos 500) 0
+    ∷ times 7 (tick 4 lists [])
+    (tick 4 lists (dispatch 5 50 1 root ∷ [])
+    ∷ look 5 gives seen 500 (pos 4000) 0
     ∷ look root gives seen 1000 (pos 0) 0
-    ∷ []
--- "The same, 6 asked before 5, both size 1: 6 at the first tick from 0, 5 at the second from itself."
+    ∷ [])
+-- The same, 6 asked before 5, both size 1: 6 at the eighth tick from 0, 5 at the sixteenth from itself.
 scenario bothAsk =
     disk 1000 40 gives number 0
     ∷ join 5 root client weighted 1 16 gives number 0
     ∷ join 6 root client weighted 1 16 gives number 0
     ∷ request 6 60 1 gives number 1
     ∷ request 5 50 1 gives number 2
-    ∷ tick 8 lists (dispatch 6 60 1 root ∷ [])
-    ∷ tick 8 lists (dispatch 5 50 1 5 ∷ [])
-    ∷ []
--- "Disk 1000, root balance 0 and depth 2, two clients of depth 1 and rate 500 with balances 500 and 1000, each asking 1:
--- after the tick root −1000, clients 0 and 500."
+    ∷ times 7 (tick 8 lists [])
+    (tick 8 lists (dispatch 6 60 1 root ∷ [])
+    ∷ times 7 (tick 8 lists []) (tick 8 lists (dispatch 5 50 1 5 ∷ []) ∷ []))
+-- Disk 1000, root balance 0 and depth 16, two clients of depth 8 and rate 500 with balances 7500 and 8000, each asking 1, which
+-- costs 8: after the tick root −15000, clients 0 and 500.
 scenario debt =
-    disk 1000 2 gives number 0
-    ∷ join 1 root client weighted 1 1 gives number 0
-    ∷ join 2 root client weighted 1 1 gives number 0
+    disk 1000 16 gives number 0
+    ∷ join 1 root client weighted 1 8 gives number 0
+    ∷ join 2 root client weighted 1 8 gives number 0
     ∷ request 1 10 1 gives number 1
     ∷ request 2 20 1 gives number 2
-    ∷ setBalance 1 (pos 500)
-    ∷ setBalance 2 (pos 1000)
+    ∷ setBalance 1 (pos 7500)
+    ∷ setBalance 2 (pos 8000)
     ∷ look root gives seen 1000 (pos 0) 0
-    ∷ look 1 gives seen 500 (pos 500) 1
-    ∷ look 2 gives seen 500 (pos 1000) 1
+    ∷ look 1 gives seen 500 (pos 7500) 1
+    ∷ look 2 gives seen 500 (pos 8000) 1
     ∷ tick 8 lists (dispatch 1 10 1 1 ∷ dispatch 2 20 1 2 ∷ [])
-    ∷ look root gives seen 1000 (negℤ (pos 1000)) 0
+    ∷ look root gives seen 1000 (negℤ (pos 15000)) 0
     ∷ look 1 gives seen 500 (pos 0) 0
     ∷ look 2 gives seen 500 (pos 500) 0
     ∷ []
--- "Size 16 at depth 16 waits; 17 gets 8; 0 gets 2."
+-- At depth 16 size 12, which costs 16, waits; 13 gets 8; 0 gets 2.
 scenario sizes =
     disk 1000 40 gives number 0
     ∷ join 5 root client weighted 4 16 gives number 0
-    ∷ request 5 50 16 gives number 1
+    ∷ request 5 50 12 gives number 1
     ∷ look 5 gives seen 1000 (pos 0) 1
-    ∷ request 5 50 17 gives refused 8
+    ∷ request 5 50 13 gives refused 8
+    ∷ request 5 50 16 gives refused 8
     ∷ request 5 50 0 gives refused 2
+    ∷ []
+-- The ends of the ranges: 1 and 7 cost 8, 8 costs 12, 63 costs 67, 64 costs 72, 511 costs 519, 512 costs 528. At a depth of
+-- one less each gets 8.
+scenario costsAbove =
+    disk 1000 2000 gives number 0
+    ∷ join 1 root client weighted 1 7 gives number 0
+    ∷ join 2 root client weighted 1 11 gives number 0
+    ∷ join 3 root client weighted 1 66 gives number 0
+    ∷ join 4 root client weighted 1 71 gives number 0
+    ∷ join 5 root client weighted 1 518 gives number 0
+    ∷ join 6 root client weighted 1 527 gives number 0
+    ∷ request 1 10 1 gives refused 8
+    ∷ request 1 10 7 gives refused 8
+    ∷ request 2 20 8 gives refused 8
+    ∷ request 3 30 63 gives refused 8
+    ∷ request 4 40 64 gives refused 8
+    ∷ request 5 50 511 gives refused 8
+    ∷ request 6 60 512 gives refused 8
+    ∷ []
+-- At a depth of just the cost each waits. With a grain less than its cost x 1000 it waits on; with just that it goes, and its
+-- client is left with 0. The clients have rate 0, as seven weights under 1.
+scenario costsCharged =
+    disk 1 2000 gives number 0
+    ∷ join 1 root client weighted 1 8 gives number 0
+    ∷ join 2 root client weighted 1 8 gives number 0
+    ∷ join 3 root client weighted 1 12 gives number 0
+    ∷ join 4 root client weighted 1 67 gives number 0
+    ∷ join 5 root client weighted 1 72 gives number 0
+    ∷ join 6 root client weighted 1 519 gives number 0
+    ∷ join 7 root client weighted 1 528 gives number 0
+    ∷ request 1 10 1 gives number 1
+    ∷ request 2 20 7 gives number 2
+    ∷ request 3 30 8 gives number 3
+    ∷ request 4 40 63 gives number 4
+    ∷ request 5 50 64 gives number 5
+    ∷ request 6 60 511 gives number 6
+    ∷ request 7 70 512 gives number 7
+    ∷ setBalance 1 (pos 7999)
+    ∷ setBalance 2 (pos 7999)
+    ∷ setBalance 3 (pos 11999)
+    ∷ setBalance 4 (pos 66999)
+    ∷ setBalance 5 (pos 71999)
+    ∷ setBalance 6 (pos 518999)
+    ∷ setBalance 7 (pos 527999)
+    ∷ tick 28 lists []
+    ∷ setBalance 1 (pos 8000)
+    ∷ setBalance 2 (pos 8000)
+    ∷ setBalance 3 (pos 12000)
+    ∷ setBalance 4 (pos 67000)
+    ∷ setBalance 5 (pos 72000)
+    ∷ setBalance 6 (pos 519000)
+    ∷ setBalance 7 (pos 528000)
+    ∷ tick 28 lists (dispatch 1 10 1 1 ∷ dispatch 2 20 7 2 ∷ dispatch 3 30 8 3 ∷ dispatch 4 40 63 4 ∷ dispatch 5 50 64 5 ∷ dispatch 6 60 511 6 ∷ dispatch 7 70 512 7 ∷ [])
+    ∷ look 1 gives seen 0 (pos 0) 0
+    ∷ look 2 gives seen 0 (pos 0) 0
+    ∷ look 3 gives seen 0 (pos 0) 0
+    ∷ look 4 gives seen 0 (pos 0) 0
+    ∷ look 5 gives seen 0 (pos 0) 0
+    ∷ look 6 gives seen 0 (pos 0) 0
+    ∷ look 7 gives seen 0 (pos 0) 0
+    ∷ look root gives seen 1 (negℤ (pos 1213998)) 0
     ∷ []
 -- "Depths 16 and 24 under 40 join; 16 and 25 get 8."
 scenario depths =
@@ -143,8 +207,8 @@ scenario listLengths =
     disk 1000 40 gives number 0
     ∷ join 5 root client weighted 1 16 gives number 0
     ∷ tick 0 lists []
-    ∷ request 5 50 16 gives number 1
-    ∷ request 5 51 16 gives number 2
+    ∷ request 5 50 12 gives number 1
+    ∷ request 5 51 12 gives number 2
     ∷ tick 7 refuses 13
     ∷ tick 8 lists []
     ∷ []

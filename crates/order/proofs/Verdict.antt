@@ -14,7 +14,7 @@ use Rattle.numbers.proofs.Tests.{by-test, true-false}
 use Rattle.numbers.proofs.Every.{head-holds, rest-hold, holds-with, none-left}
 use Rattle.numbers.proofs.All.{all-at, all-intro}
 use Rattle.numbers.proofs.Parts.{zarith, add-parts, one-is-zero, plus-pos}
-use Rattle.table.specs.Limits.{tableLength, recordLength, nodes, sortAt, waitingAt, class, client, wholeShare, mostWaiting}
+use Rattle.table.specs.Limits.{tableLength, recordLength, nodes, sortAt, depthAt, waitingAt, class, client, wholeShare, greatestDepth, mostWaiting}
 use Rattle.table.specs.Places.{place, balance, waiting, depthGrains}
 use Rattle.table.specs.Tree.{treeOf, there, isClass, isClient, sumUnder, eachNode, eachClass, eachClient}
 use Rattle.table.specs.Rates.{fixedSum}
@@ -168,12 +168,21 @@ can-be-rated t long root records classes =
     rated-of t long (root-of t root) (λ k hk e. limits-of t k (node k hk e .limits)) (λ k hk e ne. child-of (treeOf t) k (node k hk e .parent) ne)
     (λ c hc e. covers-at t classes c hc e .shares)
 
--- No node has more than 8 requests waiting.
-pub waiting-small : (t : List ℤ) → recordsInOrder t ≡ true → (k : ℕ) → k < nodes → waiting t k ≤ mostWaiting
-unfolding waiting
-waiting-small t h k hk =
-    by-test (there (treeOf t) k) (λ e. bounds t k (node-at t h k hk e .limits) .waiting)
-    (λ e. omega (arith, ap plus (zero-of _ (all-at recordLength (λ p. isZero (place t k p)) (zero-at t h k hk e) waitingAt (omega arith))), plus-pos 0))
+-- What they make of a place that has a limit at a node that is there: it keeps that at every node.
+module _ (t : List ℤ) (h : recordsInOrder t ≡ true) (k : ℕ) (hk : k < nodes) where
+  small-at : (p m : ℕ) → p < recordLength → (there (treeOf t) k ≡ true → plus (place t k p) ≤ m) → plus (place t k p) ≤ m
+  small-at p m hp limit =
+      by-test (there (treeOf t) k) limit
+      (λ e. omega (arith, ap plus (zero-of _ (all-at recordLength (λ p. isZero (place t k p)) (zero-at t h k hk e) p hp)), plus-pos 0))
+
+  -- No node has more than 8 requests waiting, nor a depth above 1,000,000.
+  pub waiting-small : waiting t k ≤ mostWaiting
+  unfolding waiting
+  waiting-small = small-at waitingAt mostWaiting (omega arith) (λ e. bounds t k (node-at t h k hk e .limits) .waiting)
+
+  pub depth-small : treeOf t .depth k ≤ greatestDepth
+  unfolding treeOf
+  depth-small = small-at depthAt greatestDepth (omega arith) (λ e. bounds t k (node-at t h k hk e .limits) .depth)
 
 -- One stage that fails is enough.
 pub out-of-order : (t : List ℤ) (b : Bool) → (Stages t → b ≡ true) → b ≡ false → false ≡ inOrder t

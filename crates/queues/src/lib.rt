@@ -6,8 +6,9 @@ ghost use mathlib.Core.Bool.{_||_};
 ghost use lib.ListN.{length};
 ghost use lib.Dec.{eqb, ltb};
 ghost use Rattle.numbers.specs.Below.{allBelow};
-ghost use Rattle.table.specs.Limits.{tableLength, nodes, mostWaiting};
+ghost use Rattle.table.specs.Limits.{tableLength, nodes, greatestDepth, mostWaiting};
 ghost use Rattle.table.specs.Places.{waiting, arrival};
+ghost use Rattle.table.specs.Tree.{treeOf};
 ghost use Rattle.table.specs.Order.{requestInOrder, queueInOrder, differsAt, arrivalsDiffer};
 ghost use Rattle.queues.specs.Waiting.{waitingInOrder};
 ghost use Rattle.queues.specs.Marks.{marks, markOf, MarkedBelow};
@@ -44,17 +45,13 @@ fn rising(table: &[i64], k: usize, i: usize) -> bool
 
 // Whether request i of node k is in order.
 fn request_in_order(table: &[i64], k: usize, i: usize) -> bool
-    requires { ⌜ (length (now table) ≡ tableLength) × (k < nodes) × (i < mostWaiting) ⌝ }
+    requires { ⌜ (length (now table) ≡ tableLength) × (k < nodes) × (i < mostWaiting) × (treeOf (now table) .depth k ≤ greatestDepth) ⌝ }
     ensures { λ r. ⌜ r ≡ requestInOrder (now (table .entry)) k i ⌝ }
 {
     let place = Table::QUEUE + Table::REQUEST * i;
-    let size = places::place_within(
-        table,
-        k,
-        place + Table::SIZE,
-        1,
-        Table::natural(table, k, Table::DEPTH),
-    );
+    let size = Table::get(table, k, place + Table::SIZE);
+    let depth = Table::natural(table, k, Table::DEPTH);
+    let size = costs::within(size, depth);
     let number = places::place_within(table, k, place + Table::ARRIVAL, 1, Table::count(table));
     let rising = rising(table, k, i);
     size & number & rising
@@ -62,7 +59,7 @@ fn request_in_order(table: &[i64], k: usize, i: usize) -> bool
 
 // Whether every request of node k is in order.
 fn queue_in_order(table: &[i64], k: usize) -> bool
-    requires { ⌜ (length (now table) ≡ tableLength) × (k < nodes) × (waiting (now table) k ≤ mostWaiting) ⌝ }
+    requires { ⌜ (length (now table) ≡ tableLength) × (k < nodes) × (waiting (now table) k ≤ mostWaiting) × (treeOf (now table) .depth k ≤ greatestDepth) ⌝ }
     ensures { λ r. ⌜ r ≡ queueInOrder (now (table .entry)) k ⌝ }
 {
     let n = waiting(table, k);
@@ -142,7 +139,7 @@ fn arrivals_differ(table: &[i64], marked: &mut [bool; MARKS], k: usize) -> bool
 
 // Whether every waiting request is in order.
 pub fn queues_in_order(table: &[i64]) -> bool
-    requires { ⌜ (length (now table) ≡ tableLength) × ((j : ℕ) → j < nodes → waiting (now table) j ≤ mostWaiting) ⌝ }
+    requires { ⌜ (length (now table) ≡ tableLength) × ((j : ℕ) → j < nodes → waiting (now table) j ≤ mostWaiting) × ((j : ℕ) → j < nodes → treeOf (now table) .depth j ≤ greatestDepth) ⌝ }
     ensures { λ r. ⌜ r ≡ allBelow nodes (waitingInOrder (now (table .entry))) ⌝ }
 {
     let mut marked: [bool; MARKS] = [false; MARKS];

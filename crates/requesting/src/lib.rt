@@ -56,7 +56,8 @@ fn tree_refusal(table: &[i64], k: usize, size: u64) -> u64
     if rating::tree::is_class(table, k) {
         return 5;
     }
-    if Table::natural(table, k, Table::DEPTH) < size {
+    let depth = Table::natural(table, k, Table::DEPTH);
+    if costs::above(size, depth) {
         return 8;
     }
     if Table::natural(table, k, Table::WAITING) == Table::MOST_WAITING {

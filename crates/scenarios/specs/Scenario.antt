@@ -1,6 +1,6 @@
 -- Scenarios: calls on a table, one after the other, each with what it must give. Answers, tables and lists are those of
 -- the definitions of table/specs.
-use Prim.Native.Nat.{ℕ, _-_}
+use Prim.Native.Nat.{ℕ, zero, suc, _-_}
 use mathlib.Core.Path.{_≡_}
 use mathlib.Core.Bool.{true, false}
 use mathlib.Core.List.{List, [], _∷_, _++_}
@@ -80,6 +80,10 @@ number n = accepted (pos n ∷ [])
 abbrev pub seen : ℕ → ℤ → ℕ → Outcome
 seen rate balance waiting = accepted (pos rate ∷ balance ∷ pos waiting ∷ [])
 
+-- The greatest number that a place or an argument can have.
+abbrev pub greatestNumber : ℕ
+greatestNumber = 9223372036854775807
+
 -- The list that a tick is lent: sevens.
 unfoldable pub lentTo : Tick → List ℤ
 lentTo (tick n) = replicate n (pos 7)
@@ -100,6 +104,11 @@ c refuses refusal = c answers refused refusal leaving lentTo c
 
 abbrev pub setBalance : (node : ℕ) (balance : ℤ) → Step
 setBalance node balance = fits (atPlace node balanceAt balance)
+
+-- A step n times, and then the others.
+abbrev pub times : ℕ → Step → Scenario → Scenario
+times zero step steps = steps
+times (suc n) step steps = step ∷ times n step steps
 
 -- What a call answers, and the table after it.
 unfoldable pub answer : Call → (kept t : List ℤ) → Outcome

@@ -15,6 +15,7 @@ use Rattle.table.specs.Places.{place, rate, balance, waiting, size}
 use Rattle.table.specs.Tree.{treeOf, there}
 use Rattle.table.specs.Order.{inOrder}
 use Rattle.table.proofs.Facts.{InOrder, facts}
+use Rattle.table.proofs.Cost.{cost-bounds, most-cost}
 use Rattle.treelaws.proofs.Floors.{floor-of-node, levels, grounds, under-of}
 use Rattle.treelaws.proofs.Rounding.{rates-in-order}
 use Rattle.ticklaws.proofs.Frame.{frame-rate}
@@ -68,7 +69,7 @@ module _ (u : List ℤ) (w : Way u) (k : ℕ) (hk : k < nodes) where
   size-small =
       let t = w .from in
       elim (decLt 0 (waiting u k)) [
-        | yes h ↦ omega (arith, zarith, w .reached .queues .size k hk 0 h, depth-small t (w .order) k hk)
+        | yes h ↦ omega (arith, most-cost _ _ (w .reached .queues .size k hk 0 h), cost-bounds (size u k 0), depth-small t (w .order) k hk)
         | no h ↦ omega (arith, ap plus (w .reached .queues .spare k hk 1 (omega arith) (omega arith)), plus-pos 0)
       ]
 

@@ -31,7 +31,7 @@ fn ready(table: &[i64], k: usize) -> bool
     if Table::natural(table, k, Table::WAITING) == 0 {
         return false;
     }
-    let amount = Table::grains(Table::natural(table, k, Table::QUEUE + Table::SIZE));
+    let amount = costs::grains(Table::natural(table, k, Table::QUEUE + Table::SIZE));
     suppliers::enough(table, amount, k)
 }
 

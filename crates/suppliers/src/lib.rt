@@ -26,7 +26,7 @@ pub fn supplier_of(table: &[i64], k: usize) -> usize
     requires { ⌜ Within (now table) × (k < nodes) ⌝ }
     ensures { λ r. ⌜ r ≡ supplier (now (table .entry)) k ⌝ }
 {
-    let amount = Table::grains(Table::natural(table, k, Table::QUEUE + Table::SIZE));
+    let amount = costs::grains(Table::natural(table, k, Table::QUEUE + Table::SIZE));
     let mut level = Table::natural(table, k, Table::LEVEL);
     let mut node = k;
     loop {

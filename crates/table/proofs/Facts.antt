@@ -21,6 +21,7 @@ use Rattle.table.specs.Limits.{tableLength, headerLength, recordLength, 
 use Rattle.table.specs.Places.{queuePlace, place, header, count, rate, balance, waiting, depthGrains, arrival}
 use Rattle.table.specs.Tree.{Tree, treeOf, there, isClass, isClient, sumUnder, testIf, eachNode, eachClass, eachClient}
 use Rattle.table.specs.Rates.{fixedSum, rateIn}
+use Rattle.table.specs.Cost.{sizeWithin}
 use Rattle.table.specs.Order.{isZero, headerInOrder, unusedInOrder, limitsKept, spareInOrder, rootInOrder, parentInOrder, classInOrder, rateInOrder, childBalances, balanceInOrder, requestInOrder, queueInOrder, differsAt, arrivalsDiffer, inOrder}
 
 -- The limits of node k's places.
@@ -71,7 +72,7 @@ pub record Balance (t : List ℤ) (k : ℕ) : Type 0 where
   pub client : isClass (treeOf t) k ≡ false → leZ (pos 0) (balance t k) ≡ true
 
 pub record Request (t : List ℤ) (k i : ℕ) : Type 0 where
-  pub size : withinℤ 1 (treeOf t .depth k) (place t k (queuePlace i + sizeAt)) ≡ true
+  pub size : sizeWithin (treeOf t .depth k) (place t k (queuePlace i + sizeAt)) ≡ true
   pub number : withinℤ 1 (count t) (place t k (queuePlace i + arrivalAt)) ≡ true
   pub rising : (i ≡ 0 → ⊥) → arrival t k (i - 1) < arrival t k i
 

@@ -7,4 +7,5 @@ pub mod Edits
 pub mod Zeros
 pub mod Open
 pub mod Rates
+pub mod Cost
 pub mod Buckets

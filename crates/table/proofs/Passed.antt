@@ -18,6 +18,7 @@ use Rattle.table.specs.Limits.{tableLength, nodes, lastNode, class, clie
 use Rattle.table.specs.Places.{count, balance, waiting}
 use Rattle.table.specs.Tree.{treeOf, there, isClass, isClient, childless, sumUnder}
 use Rattle.table.specs.Rates.{fixedSum}
+use Rattle.table.specs.Cost.{cost}
 use Rattle.table.specs.Order.{inOrder}
 use Rattle.table.specs.Calls.{sharesAbove, depthsAbove, openRefusal, joined, joinRefusal, leaveRefusal, reshared, changeShareRefusal, changeRateRefusal, requestRefusal}
 use Rattle.table.proofs.Facts.{facts}
@@ -181,7 +182,7 @@ pub record RequestPassed (t : List ℤ) (k : ℕ) (size : ℤ) : Type 0 where
   pub least : leZ (pos 1) size ≡ true
   pub there : there (treeOf t) k ≡ true
   pub no-class : isClass (treeOf t) k ≡ false
-  pub most : plus size ≤ treeOf t .depth k
+  pub cost : cost (plus size) ≤ treeOf t .depth k
   pub room : waiting t k ≡ mostWaiting → ⊥
   pub numbers : count t ≡ greatestCount → ⊥
 
@@ -202,7 +203,7 @@ request-passed t node tag size h =
       least = head-holds _ _ (rest-hold _ _ limits);
       there = not-false _ (p3 .0);
       no-class = p5 .0;
-      most = ltb-false _ _ (p8 .0);
+      cost = omega (arith, ltb-false (treeOf t .depth (plus node)) _ (p8 .0));
       room = eqb-false (waiting t (plus node)) mostWaiting (p11 .0);
       numbers = eqb-false (count t) greatestCount (p12 .0);
     }

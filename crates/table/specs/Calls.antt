@@ -14,6 +14,7 @@ use Rattle.table.specs.Limits.{tableLength, recordLength, nodes, lastNod
 use Rattle.table.specs.Places.{place, put, header, putHeader, count, balance, waiting, queuePlace}
 use Rattle.table.specs.Tree.{treeOf, there, isClass, isClient, childless, sumUnder}
 use Rattle.table.specs.Rates.{fixedSum, renewed}
+use Rattle.table.specs.Cost.{cost}
 use Rattle.table.specs.Order.{inOrder}
 use Rattle.table.specs.Refusals.{Cause, cause, first, Outcome, outcome, kept}
 
@@ -152,7 +153,7 @@ requestRefusal t node tag size =
     ∷ cause 2 (not (every (withinℤ 0 lastNode node ∷ leZ (pos 1) size ∷ [])))
     ∷ cause 3 (not (there (treeOf t) (plus node)))
     ∷ cause 5 (isClass (treeOf t) (plus node))
-    ∷ cause 8 (ltb (treeOf t .depth (plus node)) (plus size))
+    ∷ cause 8 (ltb (treeOf t .depth (plus node)) (cost (plus size)))
     ∷ cause 11 (eqb (waiting t (plus node)) mostWaiting)
     ∷ cause 12 (eqb (count t) greatestCount)
     ∷ [])

@@ -13,6 +13,7 @@ use Rattle.table.specs.Limits.{tableLength, headerLength, recordLength, 
 use Rattle.table.specs.Places.{place, header, count, rate, balance, waiting, depthGrains, queuePlace, arrival}
 use Rattle.table.specs.Tree.{Tree, treeOf, there, isClass, childOf, sumUnder, eachNode, eachClass, eachClient, testIf}
 use Rattle.table.specs.Rates.{fixedSum, rateIn}
+use Rattle.table.specs.Cost.{sizeWithin}
 
 unfoldable pub isZero : ℤ → Bool
 isZero z = sameℤ z (pos 0)
@@ -92,12 +93,12 @@ balanceInOrder t k =
     ∷ cond (isClass (treeOf t) k) (leZ (childBalances t k) (balance t k +ℤ pos (depthGrains t k))) (leZ (pos 0) (balance t k))
     ∷ [])
 
--- Waiting request i of client k: its size is 1 to the client's depth; its arrival number is 1 to the header's count and
--- above that of the request before it.
+-- Waiting request i of client k: its size is at least 1 and its cost at most the client's depth; its arrival number is 1
+-- to the header's count and above that of the request before it.
 unfoldable pub requestInOrder : List ℤ → ℕ → ℕ → Bool
 requestInOrder t k i =
     every
-    (withinℤ 1 (treeOf t .depth k) (place t k (queuePlace i + sizeAt))
+    (sizeWithin (treeOf t .depth k) (place t k (queuePlace i + sizeAt))
     ∷ withinℤ 1 (count t) (place t k (queuePlace i + arrivalAt))
     ∷ (eqb i 0 || ltb (arrival t k (i - 1)) (arrival t k i))
     ∷ [])

@@ -11,12 +11,13 @@ use Rattle.numbers.specs.Below.{sumBelow, forBelow}
 use Rattle.table.specs.Limits.{nodes, balanceAt, waitingAt, queueAt, queueLength, requestLength, grainScale, entryLength}
 use Rattle.table.specs.Places.{place, put, rate, balance, waiting, depthGrains, tag, size, arrival}
 use Rattle.table.specs.Tree.{treeOf}
+use Rattle.table.specs.Cost.{cost}
 use Rattle.table.specs.Order.{inOrder}
 use Rattle.table.specs.Refusals.{cause, first, Outcome, outcome, kept}
 
--- What a request of this size is charged, in grains.
+-- What a request of this size is charged, in grains: its cost x 1000.
 unfoldable pub grains : ℕ → ℕ
-grains size = size * grainScale
+grains size = cost size * grainScale
 
 -- Whether node k has enough balance for an amount.
 unfoldable pub enough : List ℤ → ℕ → ℕ → Bool

@@ -6,11 +6,10 @@ ghost use lib.ListN.{length};
 ghost use lib.IntN.{pos};
 ghost use Rattle.numbers.specs.Whole.{plus, withinℤ};
 ghost use Rattle.numbers.specs.Tests.{every};
-ghost use Rattle.table.specs.Limits.{tableLength, headerLength, recordLength, nodes, depthAt, greatestRate, greatestDepth};
+ghost use Rattle.table.specs.Limits.{tableLength, headerLength, recordLength, nodes, depthAt, greatestRate, greatestDepth, grainScale};
 ghost use Rattle.table.specs.Places.{place, put, header, putHeader, count, depthGrains};
 ghost use Rattle.table.specs.Refusals.{outcome, numberTold};
 ghost use Rattle.table.specs.Calls.{blank, opened, openRefusal, openTable, openAnswer};
-ghost use Rattle.table.specs.Tick.{grains};
 ghost use Rattle.table.specs.Answers.{numberOf, told};
 
 // The causes of refusal, in the order of their numbers.
@@ -190,12 +189,12 @@ impl Table {
         table[0] = count;
     }
 
-    // What a request of this size is charged, in grains.
-    pub fn grains(size: u64) -> u64
-        requires { ⌜ size ≤ greatestDepth ⌝ }
-        ensures { λ r. ⌜ r ≡ grains size ⌝ }
+    // Tokens in grains.
+    pub fn grains(tokens: u64) -> u64
+        requires { ⌜ tokens * grainScale < 2 ^ 64 ⌝ }
+        ensures { λ r. ⌜ r ≡ tokens * grainScale ⌝ }
     {
-        size * Table::GRAIN_SCALE
+        tokens * Table::GRAIN_SCALE
     }
 
     // The depth of node k in grains.
@@ -203,7 +202,7 @@ impl Table {
         requires { ⌜ (length (now table) ≡ tableLength) × (k < nodes) × (plus (place (now table) k depthAt) ≤ greatestDepth) ⌝ }
         ensures { λ r. ⌜ r ≡ depthGrains (now (table .entry)) k ⌝ }
     {
-        Table::natural(table, k, Table::DEPTH) * Table::GRAIN_SCALE
+        Table::grains(Table::natural(table, k, Table::DEPTH))
     }
 
     // Writes 0 everywhere.

@@ -14,6 +14,7 @@ use Rattle.numbers.proofs.Parts.{zarith, plus-pos, one-is-zero}
 use Rattle.table.specs.Limits.{nodes, waitingAt, queueAt, queueLength, requestLength, sizeAt, arrivalAt, mostWaiting}
 use Rattle.table.specs.Places.{queuePlace, place, count, waiting, size, arrival}
 use Rattle.table.specs.Tree.{Tree, treeOf, there, isClient}
+use Rattle.table.specs.Cost.{sizeWithin}
 use Rattle.table.proofs.Facts.{InOrder}
 use Rattle.ticklaws.proofs.Sorts.{by-sort}
 use Rattle.ticklaws.proofs.Frame.{OnlyBalances}
@@ -22,7 +23,7 @@ pub record Queues (tree : Tree) (n : ℕ) (t : List ℤ) : Type 0 where
   pub few : (k : ℕ) → k < nodes → withinℤ 0 mostWaiting (place t k waitingAt) ≡ true
   pub idle : (k : ℕ) → k < nodes → isClient tree k ≡ false → waiting t k ≡ 0
   pub spare : (k : ℕ) → k < nodes → (p : ℕ) → p < queueLength → requestLength * waiting t k ≤ p → place t k (queueAt + p) ≡ pos 0
-  pub size : (k : ℕ) → k < nodes → (i : ℕ) → i < waiting t k → withinℤ 1 (tree .depth k) (place t k (queuePlace i + sizeAt)) ≡ true
+  pub size : (k : ℕ) → k < nodes → (i : ℕ) → i < waiting t k → sizeWithin (tree .depth k) (place t k (queuePlace i + sizeAt)) ≡ true
   pub number : (k : ℕ) → k < nodes → (i : ℕ) → i < waiting t k → withinℤ 1 n (place t k (queuePlace i + arrivalAt)) ≡ true
   pub rising : (k : ℕ) → k < nodes → (i : ℕ) → suc i < waiting t k → arrival t k i < arrival t k (suc i)
   pub differ : (k : ℕ) → k < nodes → (i : ℕ) → i < waiting t k → (j : ℕ) → j < k → (l : ℕ) → l < waiting t j → arrival t k i ≡ arrival t j l → ⊥

@@ -12,7 +12,7 @@ use Rattle.table.specs.Tree.{treeOf, eachClass}
 use Rattle.table.specs.Order.{headerInOrder, rootInOrder, inOrder}
 use Rattle.records.specs.Record.{recordsInOrder}
 use Rattle.order.specs.Cover.{classCovers}
-use Rattle.order.proofs.Verdict.{stages, from-stages, out-of-order, can-be-rated, waiting-small}
+use Rattle.order.proofs.Verdict.{stages, from-stages, out-of-order, can-be-rated, waiting-small, depth-small}
 use borrow.Author.Needs.{needs}
 use Rattle.order.proofs.in_order.Statement.{statement}
 use Rattle.order.proofs.in_order.Tie as tie
@@ -76,7 +76,9 @@ rates-in-order-requires : tie.Need-rates-in-order-requires
 rates-in-order-requires c κs = can-be-rated _ (long (c .before .before)) (root (c .before .before)) (records (c .before .before)) (covered c)
 
 queues-in-order-requires : tie.Need-queues-in-order-requires
-queues-in-order-requires c κs = (long (c .before .before .before), waiting-small _ (records (c .before .before .before)))
+queues-in-order-requires c κs =
+    let past = c .before .before .before in
+    (long past, waiting-small _ (records past), depth-small _ (records past))
 
 -- The last two tests, in whichever order the code joins them.
 returns-4 : tie.Need-returns-4

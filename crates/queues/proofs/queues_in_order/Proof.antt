@@ -24,7 +24,10 @@ unfolding allBelow
 loop-holds c = (omega arith, refl, none-below _ _ refl)
 
 queue-in-order-requires : tie.Need-queue-in-order-requires Inv-loop μ-loop
-queue-in-order-requires c κs = omega (arith, c .before .before .pre .1 (c .before .loop .k) (omega arith))
+queue-in-order-requires c κs =
+    let pre = c .before .before .pre in
+    let k = c .before .loop .k in
+    omega (arith, pre .1 k (omega arith), pre .2 k (omega arith))
 
 arrivals-differ-requires : tie.Need-arrivals-differ-requires Inv-loop μ-loop
 arrivals-differ-requires c κs =

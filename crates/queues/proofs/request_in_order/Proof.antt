@@ -1,12 +1,16 @@
 -- `queues::request_in_order` meets its contract: three tests together.
 use Prim.Native.Nat.{ℕ}
-use mathlib.Core.Path.{_≡_, ap, _∙_}
+use mathlib.Core.Path.{_≡_, ap, ap₂, _∙_}
+use native.Mathlib.Omega.{arith}
 use lib.IntN.{ℤ}
+use mir.Syntax.{w64}
+use mir.ValLaws.{toZ-ofZ}
 use Rattle.numbers.specs.Whole.{withinℤ}
 use Rattle.numbers.proofs.Every.{joined-as, same-tests, last-test}
 use Rattle.table.specs.Tree.{treeOf}
+use Rattle.table.specs.Cost.{sizeWithin}
 use Rattle.table.specs.Order.{requestInOrder}
-use borrow.Author.Needs.{needs}
+use borrow.Author.Needs.{needs, sfits-of}
 use Rattle.queues.proofs.request_in_order.Statement.{statement}
 use Rattle.queues.proofs.request_in_order.Tie as tie
 
@@ -14,7 +18,7 @@ same-high : (z : ℤ) {m n : ℕ} → m ≡ n → withinℤ 1 m z ≡ withinℤ 
 same-high z e = ap (λ (n : ℕ). withinℤ 1 n z) e
 
 -- Back to the test of the size.
-abbrev sized : tie.After-rising → tie.After-place-within
+abbrev sized : tie.After-rising → tie.After-within
 sized c = c .before .before .before
 
 mul-place : tie.Need-mul-place
@@ -23,23 +27,27 @@ mul-place c = search needs
 add-place : tie.Need-add-place
 add-place c = search needs
 
-add-place-within : tie.Need-add-place-within
-add-place-within c = search needs
+add-get : tie.Need-add-get
+add-get c = search needs
+
+get-requires : tie.Need-get-requires
+get-requires c κs = search needs
 
 natural-requires : tie.Need-natural-requires
 natural-requires c κs = search needs
 
-place-within-requires : tie.Need-place-within-requires
-place-within-requires c κs = search needs
+within-requires : tie.Need-within-requires
+unfolding treeOf
+within-requires c κs = omega (arith, c .natural .ensures)
 
-add-place-within-2 : tie.Need-add-place-within-2
-add-place-within-2 c = search needs
+add-place-within : tie.Need-add-place-within
+add-place-within c = search needs
 
 count-requires : tie.Need-count-requires
 count-requires c κs = search needs
 
-place-within-requires-2 : tie.Need-place-within-requires-2
-place-within-requires-2 c κs = search needs
+place-within-requires : tie.Need-place-within-requires
+place-within-requires c κs = search needs
 
 rising-requires : tie.Need-rising-requires
 rising-requires c κs = search needs
@@ -47,9 +55,11 @@ rising-requires c κs = search needs
 returns : tie.Need-returns
 unfolding requestInOrder treeOf
 returns c =
+    let size = sized c .before .before .get in
+    let depth = sized c .before .natural in
     joined-as
-    (same-tests (sized c .place-within .ensures ∙ same-high _ (sized c .before .natural .ensures))
-    (same-tests (c .before .place-within2 .ensures ∙ same-high _ (c .before .before .count .ensures))
+    (same-tests (sized c .within .ensures ∙ ap₂ sizeWithin (depth .ensures) (toZ-ofZ w64 _ (sfits-of (size .ok)) ∙ size .ensures))
+    (same-tests (c .before .place-within .ensures ∙ same-high _ (c .before .before .count .ensures))
     (last-test (c .rising .ensures))))
 
 pub request-in-order-spec : {M : Type 1} → statement M
@@ -58,11 +68,12 @@ request-in-order-spec =
     (tie.spec
     mul-place
     add-place
-    add-place-within
+    add-get
+    get-requires
     natural-requires
-    place-within-requires
-    add-place-within-2
+    within-requires
+    add-place-within
     count-requires
-    place-within-requires-2
+    place-within-requires
     rising-requires
     returns)
