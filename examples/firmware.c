@@ -1,7 +1,7 @@
 /*
  * A cabinet's firmware in small: it checks plans, then runs one editing suite
  * with two streams and a backup beside it. It prints every answer and every
- * dispatch; firmware.out is worked out from document 01 by hand.
+ * dispatch; firmware.out is worked out from documents 01 and 02 by hand.
  */
 #include <inttypes.h>
 #include <stdio.h>
@@ -74,25 +74,29 @@ int main(void)
 {
     static int64_t before[HDS_TABLE_LENGTH];
 
-    /* The disk: 1000 grains a tick, 40 tokens. Suite 1 has half of it; its streams 2 and 3 share that by weight. */
+    /* The disk: 8000 grains a tick, 72 tokens. Suite 1 has half of it; its streams 2 and 3 share that by weight. */
     look(0);
     plans();
-    answer("open", hds_open(TABLE, 1000, 40));
-    answer("join suite 1", hds_join_class(TABLE, 1, 0, hds_fixed(5000), 20));
-    answer("join stream 2", hds_join_client(TABLE, 2, 1, hds_weighted(3), 10));
-    answer("join stream 3", hds_join_client(TABLE, 3, 1, hds_weighted(2), 10));
-    answer("join backup 4", hds_join_client(TABLE, 4, 0, hds_weighted(1), 16));
-    answer("join 4 again", hds_join_client(TABLE, 4, 0, hds_weighted(1), 4));
-    answer("join 5, too deep", hds_join_client(TABLE, 5, 0, hds_weighted(1), 5));
+    answer("open", hds_open(TABLE, 8000, 72));
+    answer("join suite 1", hds_join_class(TABLE, 1, 0, hds_fixed(5000), 40));
+    answer("join stream 2", hds_join_client(TABLE, 2, 1, hds_weighted(3), 16));
+    answer("join stream 3", hds_join_client(TABLE, 3, 1, hds_weighted(2), 24));
+    answer("join backup 4", hds_join_client(TABLE, 4, 0, hds_weighted(1), 24));
+    answer("join 4 again", hds_join_client(TABLE, 4, 0, hds_weighted(1), 8));
+    answer("join 5, too deep", hds_join_client(TABLE, 5, 0, hds_weighted(1), 9));
     for (int64_t node = 0; node <= 5; node++)
         look(node);
 
-    /* Stream 2 asks for 1, the backup for 1, stream 3 for 2. */
+    /* Stream 2 asks for 1, the backup for 7, stream 3 for 12. At depth 16 a request of 13 costs too much. */
+    answer("cost of 1", hds_cost(1));
+    answer("cost of 7", hds_cost(7));
+    answer("cost of 12", hds_cost(12));
+    answer("cost of 13", hds_cost(13));
     answer("request at 2", hds_request(TABLE, 2, 201, 1));
-    answer("request at 4", hds_request(TABLE, 4, 401, 1));
-    answer("request at 3", hds_request(TABLE, 3, 301, 2));
+    answer("request at 4", hds_request(TABLE, 4, 401, 7));
+    answer("request at 3", hds_request(TABLE, 3, 301, 12));
     answer("request at suite 1", hds_request(TABLE, 1, 101, 1));
-    answer("request too large", hds_request(TABLE, 2, 202, 11));
+    answer("request too large", hds_request(TABLE, 2, 202, 13));
     answer("tick, short list", hds_tick(TABLE, list, 11));
     for (int i = 0; i < 4; i++)
         tick();
@@ -103,11 +107,11 @@ int main(void)
     for (int i = 0; i < HDS_TABLE_LENGTH; i++)
         before[i] = table[i];
     answer("change share of 4", hds_set_share(TABLE, 4, hds_fixed(2000)));
-    answer("change rate", hds_change_rate(TABLE, 2000));
+    answer("change rate", hds_change_rate(TABLE, 16000));
     look(4);
     answer("same", hds_same(before, HDS_TABLE_LENGTH, TABLE));
     answer("change share of 4", hds_set_share(TABLE, 4, hds_weighted(1)));
-    answer("change rate", hds_change_rate(TABLE, 1000));
+    answer("change rate", hds_change_rate(TABLE, 8000));
     answer("same", hds_same(before, HDS_TABLE_LENGTH, TABLE));
     answer("leave suite 1", hds_leave(TABLE, 1));
     answer("leave backup 4", hds_leave(TABLE, 4));

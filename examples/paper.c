@@ -15,18 +15,22 @@
 
 /*
  * The disk gives 18 MB/s, and 1 MB is 1000 tokens, as the paper counts. A
- * request has 16 tokens, the paper's example. In a tick of 5 ms the disk gives
- * 90 tokens. Less than one request can be left over from the tick before, so
- * fewer than 106 tokens are to be had, and a full queue holds 128: one stream
- * alone can use the whole disk. With a tick of 10 ms, 180 tokens, it could not.
+ * request has 16 tokens, the paper's example, and costs 20. The 18 MB/s are
+ * what the disk gives in such requests, so its rate is 20 sixteenths of that.
+ * In a tick of 5 ms it gives 90 tokens of data, at a cost of 112.5. Less than
+ * one request can be left over from the tick before, so fewer than 132.5 are to
+ * be had, and a full queue costs 160: one stream alone can use the whole disk.
+ * With a tick of 10 ms, 225, it could not.
  */
 enum {
     DISK_MB_PER_SECOND = 18,
     TOKENS_PER_MB = 1000,
     TICKS_PER_SECOND = 200,
-    DISK_RATE = DISK_MB_PER_SECOND * TOKENS_PER_MB * HDS_GRAIN_SCALE / TICKS_PER_SECOND,
     REQUEST_TOKENS = 16,
+    REQUEST_COST = REQUEST_TOKENS + 4,
     QUEUE_TOKENS = HDS_MOST_WAITING * REQUEST_TOKENS,
+    QUEUE_COST = HDS_MOST_WAITING * REQUEST_COST,
+    DISK_RATE = DISK_MB_PER_SECOND * TOKENS_PER_MB * HDS_GRAIN_SCALE / TICKS_PER_SECOND / REQUEST_TOKENS * REQUEST_COST,
     PHASE_SECONDS = 60,
     PHASE_TICKS = PHASE_SECONDS * TICKS_PER_SECOND,
     MOST_PHASES = 6
@@ -72,8 +76,8 @@ struct experiment {
 static const struct experiment experiments[] = {
     {
         .title = "figure 3(c): streams 1 and 2 reserve 70% and 30% and offer the same",
-        .disk_depth = 2 * QUEUE_TOKENS,
-        .tree = {{STREAM_1, DISK, HDS_CLIENT, 7000, QUEUE_TOKENS}, {STREAM_2, DISK, HDS_CLIENT, 3000, QUEUE_TOKENS}},
+        .disk_depth = 2 * QUEUE_COST,
+        .tree = {{STREAM_1, DISK, HDS_CLIENT, 7000, QUEUE_COST}, {STREAM_2, DISK, HDS_CLIENT, 3000, QUEUE_COST}},
         .phases = {{"3 MB/s each", {[STREAM_1] = 3, [STREAM_2] = 3}},
                    {"6 MB/s each", {[STREAM_1] = 6, [STREAM_2] = 6}},
                    {"9 MB/s each", {[STREAM_1] = 9, [STREAM_2] = 9}},
@@ -83,22 +87,22 @@ static const struct experiment experiments[] = {
     },
     {
         .title = "figure 4: class A has stream 1, class B has streams 2 (65%) and 3 (35%)",
-        .disk_depth = 3 * QUEUE_TOKENS,
-        .tree = {{CLASS_A, DISK, HDS_CLASS, 5000, QUEUE_TOKENS},
-                 {CLASS_B, DISK, HDS_CLASS, 5000, 2 * QUEUE_TOKENS},
-                 {STREAM_1, CLASS_A, HDS_CLIENT, HDS_WHOLE_SHARE, QUEUE_TOKENS},
-                 {STREAM_2, CLASS_B, HDS_CLIENT, 6500, QUEUE_TOKENS},
-                 {STREAM_3, CLASS_B, HDS_CLIENT, 3500, QUEUE_TOKENS}},
+        .disk_depth = 3 * QUEUE_COST,
+        .tree = {{CLASS_A, DISK, HDS_CLASS, 5000, QUEUE_COST},
+                 {CLASS_B, DISK, HDS_CLASS, 5000, 2 * QUEUE_COST},
+                 {STREAM_1, CLASS_A, HDS_CLIENT, HDS_WHOLE_SHARE, QUEUE_COST},
+                 {STREAM_2, CLASS_B, HDS_CLIENT, 6500, QUEUE_COST},
+                 {STREAM_3, CLASS_B, HDS_CLIENT, 3500, QUEUE_COST}},
         .phases = {{"all greedy", {[STREAM_1] = GREEDY, [STREAM_2] = GREEDY, [STREAM_3] = GREEDY}}},
     },
     {
         .title = "figure 5: class A has streams 1 (80%) and 2 (20%), class B has stream 3",
-        .disk_depth = 3 * QUEUE_TOKENS,
-        .tree = {{CLASS_A, DISK, HDS_CLASS, 5000, 2 * QUEUE_TOKENS},
-                 {CLASS_B, DISK, HDS_CLASS, 5000, QUEUE_TOKENS},
-                 {STREAM_1, CLASS_A, HDS_CLIENT, 8000, QUEUE_TOKENS},
-                 {STREAM_2, CLASS_A, HDS_CLIENT, 2000, QUEUE_TOKENS},
-                 {STREAM_3, CLASS_B, HDS_CLIENT, HDS_WHOLE_SHARE, QUEUE_TOKENS}},
+        .disk_depth = 3 * QUEUE_COST,
+        .tree = {{CLASS_A, DISK, HDS_CLASS, 5000, 2 * QUEUE_COST},
+                 {CLASS_B, DISK, HDS_CLASS, 5000, QUEUE_COST},
+                 {STREAM_1, CLASS_A, HDS_CLIENT, 8000, QUEUE_COST},
+                 {STREAM_2, CLASS_A, HDS_CLIENT, 2000, QUEUE_COST},
+                 {STREAM_3, CLASS_B, HDS_CLIENT, HDS_WHOLE_SHARE, QUEUE_COST}},
         .phases = {{"0-60 s: stream 1", {[STREAM_1] = GREEDY}},
                    {"60-120 s: 1 and 2", {[STREAM_1] = GREEDY, [STREAM_2] = GREEDY}},
                    {"120-180 s: all", {[STREAM_1] = GREEDY, [STREAM_2] = GREEDY, [STREAM_3] = GREEDY}}},
@@ -266,6 +270,10 @@ static void run(const struct experiment *experiment)
 
 int main(void)
 {
+    if (hds_cost(REQUEST_TOKENS) != REQUEST_COST) {
+        fprintf(stderr, "a request of %d tokens does not cost %d\n", REQUEST_TOKENS, REQUEST_COST);
+        return EXIT_FAILURE;
+    }
     for (size_t i = 0; i < sizeof experiments / sizeof experiments[0]; i++) {
         if (i > 0)
             printf("\n");

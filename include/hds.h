@@ -16,7 +16,10 @@
  * aligned and points to as many numbers (or bytes) as the length says, to HDS_SEEN_LENGTH for look; the buffers of
  * one call do not overlap; one call at a time writes a buffer; the stack is deep enough.
  *
- * UNITS. A token is 1 KiB, 1000 grains a token. Tokens: depths, sizes. Grains: balances. Grains per tick: rates.
+ * UNITS. A token is 1 KiB, 1000 grains a token. Tokens: depths, sizes, costs. Grains: balances. Grains per tick: rates.
+ *
+ * COST. A request is charged more than its size, since the head moves for it: hds_cost gives the tokens. The dispatch
+ * list gives sizes.
  *
  * THE TABLE is HDS_TABLE_LENGTH numbers of 64 bits that the caller hands to each call and keeps between the calls. It
  * holds no pointers, and the calls keep nothing outside it: a copy of it is a table like the first.
@@ -58,9 +61,9 @@ extern "C" {
  * The version of this header and of the archives that come with it. The first number rises when what a call takes or
  * answers, or what a table holds, changes; the second when something is added. Nothing compares them at run time.
  */
-#define HDS_VERSION_MAJOR 1
+#define HDS_VERSION_MAJOR 2
 #define HDS_VERSION_MINOR 0
-#define HDS_VERSION "1.0"
+#define HDS_VERSION "2.0"
 
 /* The table: a header, then a record for each node. */
 #define HDS_TABLE_LENGTH 2568
@@ -171,7 +174,7 @@ enum hds_kind { HDS_FIXED = 0, HDS_WEIGHTED = 1 };
     X(HDS_WRONG_NODE, 5, "the parent is a client, the request is at a class, or the node is the root")                   \
     X(HDS_LEVEL_TOO_LOW, 6, "a class cannot join under a class of level 3")                                              \
     X(HDS_SHARES_ABOVE, 7, "the fixed shares of the class would be above 10000")                                         \
-    X(HDS_DEPTH_ABOVE, 8, "the children's depths would be above the class's, or the size is above the client's depth")   \
+    X(HDS_DEPTH_ABOVE, 8, "the children's depths would be above the class's, or the cost is above the client's depth")   \
     X(HDS_NOT_EMPTY, 9, "the leaving node has children or waiting requests")                                             \
     X(HDS_IN_DEBT, 10, "the leaving class has a balance below 0")                                                        \
     X(HDS_QUEUE_FULL, 11, "the client has 8 requests waiting")                                                           \
@@ -273,12 +276,13 @@ int64_t hds_change_share(int64_t *table, size_t table_length, int64_t node, int6
 int64_t hds_change_rate(int64_t *table, size_t table_length, int64_t rate);
 
 /*
- * A request of a client, with any tag and a size of 1 to its depth. Answers its arrival number, 1 or more. Refused:
+ * A request of a client, with any tag and a size whose cost, below, is at most its depth: a client of a depth below
+ * HDS_LEAST_COST can never ask. Answers its arrival number, 1 or more. Refused:
  *   HDS_NOT_IN_ORDER      the table
  *   HDS_OUTSIDE_LIMITS    client not 0 to 63, or size below 1
  *   HDS_NOT_THERE         no node has this number
  *   HDS_WRONG_NODE        the node is a class
- *   HDS_DEPTH_ABOVE       the size is above the client's depth
+ *   HDS_DEPTH_ABOVE       the cost is above the client's depth
  *   HDS_QUEUE_FULL        the client has 8 requests waiting
  *   HDS_COUNT_AT_END      HDS_GREATEST_COUNT requests were accepted since the table was opened
  */
@@ -334,6 +338,27 @@ int64_t hds_plan_write(const int64_t *table, size_t table_length, uint8_t *buffe
  *   HDS_PLAN_OUT_OF_ORDER the entries do not stand by level, then by number
  */
 uint32_t hds_plan_check(const uint8_t *plan, size_t plan_length);
+
+/* The cost of the smallest request, in tokens. */
+#define HDS_LEAST_COST 8
+
+/*
+ * What a request of this size costs, in tokens: it is charged 1000 grains for each. Sizes of 1 to 7 cost 8, of 8 to 63
+ * size + 4, of 64 to 511 size + 8, larger ones size + 16. For a size that no request has, below 1 or above
+ * HDS_GREATEST_DEPTH, INT64_MAX, which no depth reaches.
+ */
+static inline int64_t hds_cost(int64_t size)
+{
+    if (size < 1 || size > HDS_GREATEST_DEPTH)
+        return INT64_MAX;
+    if (size <= 7)
+        return HDS_LEAST_COST;
+    if (size <= 63)
+        return size + 4;
+    if (size <= 511)
+        return size + 8;
+    return size + 16;
+}
 
 /* Checks a plan as hds_plan_check does, and answers as all other calls do: 0 or the negated number. */
 static inline int64_t hds_plan_judge(const uint8_t *plan, size_t plan_length)

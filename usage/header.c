@@ -1,6 +1,6 @@
 /*
- * What include/hds.h itself computes: names and texts of the refusals, and the calls with types of their own beside the plain
- * ones. It is compiled as C and as C++. Prints what fails, then 'N passed, 0 failed'.
+ * What include/hds.h itself computes: names and texts of the refusals, the calls with types of their own beside the plain
+ * ones, and costs beside what a request is charged. It is compiled as C and as C++. Prints what fails, then 'N passed, 0 failed'.
  */
 #include <stdio.h>
 #include <string.h>
@@ -66,6 +66,47 @@ static void typed_calls(void)
           "hds_set_share, refused");
 }
 
+/* The answer to a request of this size at a client of this depth. */
+static int64_t asked(int64_t size, int64_t depth)
+{
+    hds_open(TABLE, 1, HDS_GREATEST_DEPTH);
+    if (hds_join_client(TABLE, 1, 0, hds_weighted(1), depth) != 0)
+        return INT64_MIN;
+    return hds_request(TABLE, 1, 0, size);
+}
+
+/* What the root is charged for a request of this size, in grains: the root alone can supply it. */
+static int64_t charged(int64_t size)
+{
+    static int64_t list[HDS_ENTRY_LENGTH];
+
+    asked(size, HDS_GREATEST_DEPTH);
+    table[HDS_PLACE(HDS_ROOT, HDS_BALANCE_AT)] = (int64_t)HDS_GREATEST_DEPTH * HDS_GRAIN_SCALE;
+    if (hds_tick(TABLE, list, HDS_ENTRY_LENGTH) != 1 || list[HDS_ENTRY_SIZE] != size)
+        return INT64_MIN;
+    return (int64_t)HDS_GREATEST_DEPTH * HDS_GRAIN_SCALE - table[HDS_PLACE(HDS_ROOT, HDS_BALANCE_AT)];
+}
+
+static void costs(void)
+{
+    static const int64_t ends[][2] = {{1, 8}, {7, 8}, {8, 12}, {63, 67}, {64, 72}, {511, 519}, {512, 528}};
+    static const int64_t none[] = {INT64_MIN, -1, 0, HDS_GREATEST_DEPTH + 1, INT64_MAX};
+
+    for (size_t i = 0; i < sizeof ends / sizeof *ends; i++)
+        check(hds_cost(ends[i][0]) == ends[i][1], "hds_cost at the end of a range");
+    for (size_t i = 0; i < sizeof none / sizeof *none; i++)
+        check(hds_cost(none[i]) == INT64_MAX, "hds_cost of a size that no request has");
+    int judged = 1, paid = 1;
+
+    for (int64_t size = 1; size <= 1024; size++) {
+        judged &= asked(size, hds_cost(size)) == 1 && asked(size, hds_cost(size) - 1) == -HDS_DEPTH_ABOVE;
+        paid &= charged(size) == hds_cost(size) * HDS_GRAIN_SCALE;
+    }
+    check(judged, "hds_cost is what a depth is compared with");
+    check(paid, "hds_cost is what is charged");
+    check(hds_cost(1) == HDS_LEAST_COST, "HDS_LEAST_COST");
+}
+
 static void plan_judge(void)
 {
     static uint8_t plan[HDS_LONGEST_PLAN];
@@ -84,6 +125,7 @@ int main(void)
     refusals();
     typed_calls();
     plan_judge();
+    costs();
     printf("%d passed, %d failed\n", passed, failed);
     return failed != 0;
 }

@@ -1,7 +1,12 @@
 //! Arguments that mostly make sense for a table in order, for random runs.
 
+use crate::cost::{largest_size, RANGE_ENDS};
 use crate::rng::Rng;
 use crate::table::*;
+
+/// Depths that the cost of a size at the end of a range just fits, or that are
+/// one below it.
+const TIGHT_DEPTHS: [i64; 10] = [7, 8, 11, 12, 67, 71, 72, 519, 527, 528];
 
 /// A share: for a fixed one often a part of what is left under the class, all
 /// of it, or one above. The share of `except` does not count.
@@ -21,11 +26,14 @@ pub(crate) fn depth_left(table: &[i64], class: usize) -> i64 {
     get(table, class, DEPTH) - taken
 }
 
-/// A depth that mostly fits under the class, at most one of `spread` parts of
-/// what is left.
-pub(crate) fn depth(rng: &mut Rng, table: &[i64], class: usize, spread: i64) -> i64 {
+/// A depth that mostly fits under the class and is at least 8, the least cost: at
+/// most one of so many parts of what is left, where that is enough.
+pub(crate) fn depth(rng: &mut Rng, table: &[i64], class: usize, parts: i64) -> i64 {
     let left = depth_left(table, class);
-    let mut depth = rng.between(1, left / spread);
+    let mut depth = rng.between(8, (left / parts).max(24)).min(left);
+    if rng.chance(15) {
+        depth = rng.pick(&TIGHT_DEPTHS).min(left);
+    }
     if rng.chance(8) {
         depth = rng.pick(&[1, left / 2, left, left + 1]);
     }
@@ -76,24 +84,31 @@ pub(crate) fn leaving_node(rng: &mut Rng, table: &[i64]) -> i64 {
     }
 }
 
-/// Mostly a client.
+/// Mostly a client that can ask, its depth being one that some cost fits.
 pub(crate) fn client(rng: &mut Rng, table: &[i64]) -> i64 {
-    let clients: Vec<usize> = clients(table).collect();
-    if clients.is_empty() || rng.chance(3) {
+    let can_ask = |&client: &usize| largest_size(get(table, client, DEPTH)).is_some();
+    let all: Vec<usize> = clients(table).collect();
+    let asking: Vec<usize> = all.iter().copied().filter(can_ask).collect();
+    if all.is_empty() || rng.chance(3) {
         any_node(rng, table)
+    } else if asking.is_empty() || rng.chance(3) {
+        rng.pick(&all) as i64
     } else {
-        rng.pick(&clients) as i64
+        rng.pick(&asking) as i64
     }
 }
 
-/// A size for a client of that depth: mostly small, at times one too large.
+/// A size for a client of that depth: mostly small, often at the end of a range,
+/// at times one whose cost is too large.
 pub(crate) fn size(rng: &mut Rng, depth: i64) -> i64 {
-    if rng.chance(2) {
-        return depth + 1;
+    let largest = largest_size(depth).unwrap_or(0);
+    if rng.chance(4) {
+        return rng.pick(&[largest + 1, largest + 1, depth, depth + 1, i64::MAX - 15, i64::MAX]);
     }
-    let small = rng.between(1, depth.min(8));
-    let any = rng.between(1, depth);
-    rng.pick(&[1, small, small, any, depth])
+    let small = rng.between(1, largest.min(8));
+    let any = rng.between(1, largest);
+    let end = rng.pick(&RANGE_ENDS).min(largest).max(1);
+    rng.pick(&[1, small, small, any, end, end, largest.max(1)])
 }
 
 /// A class and all nodes below it, by level.

@@ -5,6 +5,7 @@
 //! writes nothing before the last of them.
 
 use crate::controller::NewNode;
+use crate::cost::cost;
 use crate::rates;
 use crate::refusal::*;
 use crate::table::*;
@@ -94,7 +95,7 @@ pub(crate) fn request(table: &mut [i64], client: i64, tag: i64, size: i64) -> An
     require(size >= 1, OUTSIDE_LIMITS)?;
     require(is_used(table, client), NOT_THERE)?;
     require(is_client(table, client), WRONG_NODE)?;
-    require(size <= get(table, client, DEPTH), DEPTH_ABOVE)?;
+    require(cost(size) <= get(table, client, DEPTH), DEPTH_ABOVE)?;
     require(waiting_count(table, client) < QUEUE_LEN, QUEUE_FULL)?;
     require(table[ACCEPTED] < MAX_ACCEPTED, COUNT_AT_END)?;
     table[ACCEPTED] += 1;

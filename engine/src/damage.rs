@@ -1,6 +1,7 @@
 //! Damage to the table: every clause of the in-order test broken alone, places
 //! written at random, wrong lengths, and lawful changes.
 
+use crate::cost::{cost, largest_size, RANGE_ENDS};
 use crate::order::{self, CLAUSES};
 use crate::random::Rng;
 use crate::rates;
@@ -10,11 +11,13 @@ use crate::table::*;
 /// Steps that write a table in order from outside, in some way or other.
 pub fn any(rng: &mut Rng, table: &[i64]) -> Vec<Step> {
     let clause = rng.below(CLAUSES.len());
-    match rng.below(10) {
+    match rng.below(12) {
         0..=4 => isolated(rng, table, clause).unwrap_or_default(),
         5 | 6 => random_pokes(rng, table),
         7 => near_pokes(rng, table),
         8 => extreme(rng, table),
+        9 => other_size(rng, table),
+        10 => other_depth(rng, table),
         _ => vec![Step::Resize { len: wrong_length(rng) }],
     }
 }
@@ -115,6 +118,56 @@ fn extreme(rng: &mut Rng, table: &[i64]) -> Vec<Step> {
     pokes(table, &changed)
 }
 
+/// Gives a waiting request a size at or about what its client's depth allows,
+/// at the end of a range, or one that no request has.
+fn other_size(rng: &mut Rng, table: &[i64]) -> Vec<Step> {
+    let Some(client) = some_waiting(rng, table, 1) else {
+        return Vec::new();
+    };
+    let depth = get(table, client, DEPTH);
+    let largest = largest_size(depth).unwrap_or(0);
+    let end = rng.pick(&RANGE_ENDS);
+    let value = match rng.below(4) {
+        0 => rng.pick(&[largest - 1, largest, largest]),
+        1 => end,
+        2 => end.min(largest),
+        _ => size_to_refuse(rng, depth),
+    };
+    vec![Step::Poke { place: at(client, size_place(rng, table, client)), value }]
+}
+
+/// Gives a client the depth that its largest waiting cost just fits, or one
+/// below it.
+fn other_depth(rng: &mut Rng, table: &[i64]) -> Vec<Step> {
+    let Some(client) = some_waiting(rng, table, 1) else {
+        return Vec::new();
+    };
+    let mut changed = table.to_vec();
+    tighten(&mut changed, client, rng.between(0, 1));
+    pokes(table, &changed)
+}
+
+/// Makes a client's depth so many tokens less than its largest waiting cost, and
+/// its balance no more than that.
+fn tighten(table: &mut [i64], client: usize, missing: i64) {
+    let largest = waiting(table, client).map(|request| cost(request.size)).max().unwrap_or(0);
+    let depth = largest - missing;
+    let balance = get(table, client, BALANCE).min(depth * GRAINS);
+    set(table, client, DEPTH, depth);
+    set(table, client, BALANCE, balance);
+}
+
+/// A size that a client of that depth cannot have waiting.
+fn size_to_refuse(rng: &mut Rng, depth: i64) -> i64 {
+    let above = largest_size(depth).unwrap_or(0) + 1;
+    rng.pick(&[i64::MIN, -1, 0, above, above, depth, depth + 1, i64::MAX - 15, i64::MAX])
+}
+
+/// The place of one of a client's waiting sizes.
+fn size_place(rng: &mut Rng, table: &[i64], client: usize) -> usize {
+    QUEUE + QUEUE_STEP * rng.below(waiting_count(table, client)) + 1
+}
+
 /// The lowest balance that a node may have.
 fn lowest_balance(table: &[i64], node: usize) -> i64 {
     if is_client(table, node) {
@@ -178,9 +231,13 @@ fn break_clause(rng: &mut Rng, table: &mut [i64], clause: usize) -> Option<()> {
         }
         16 => {
             let client = some_waiting(rng, table, 1)?;
-            let place = QUEUE + QUEUE_STEP * rng.below(waiting_count(table, client)) + 1;
-            let above = get(table, client, DEPTH) + 1;
-            set(table, client, place, rng.pick(&[i64::MIN, -1, 0, above, i64::MAX]));
+            if rng.chance(30) {
+                tighten(table, client, 1);
+            } else {
+                let place = size_place(rng, table, client);
+                let size = size_to_refuse(rng, get(table, client, DEPTH));
+                set(table, client, place, size);
+            }
         }
         17 => break_arrivals(rng, table)?,
         _ => return None,

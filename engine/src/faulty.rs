@@ -1,6 +1,6 @@
 //! Controllers with one known fault each: the paper's slips, the fakes that
-//! document 01 names, and some more. The judge or the differential must object
-//! to every one of them.
+//! document 01 names, misreadings of what a request costs, and some more. The
+//! judge or the differential must object to every one of them.
 
 use crate::controller::{Controller, Engine, NewNode};
 use crate::damage::failing;
@@ -75,12 +75,30 @@ pub enum Fault {
     WritesByNumber,
     /// Same does not compare depths.
     SameForgetsDepths,
+    /// The first size has the second number for its cost, wherever a cost counts.
+    WrongCost(i64, i64),
+    /// Sizes 8 to 63 cost their size, wherever a cost counts.
+    WithoutFour,
+    /// A dispatch charges the size.
+    ChargesSize,
+    /// Step 2 compares the size with the balance.
+    ComparesSizeInStepTwo,
+    /// Step 4 compares the size with the balances.
+    ComparesSizeInStepFour,
+    /// The list gives the cost.
+    ListsCost,
+    /// Cause 8 compares the size with the depth.
+    RefusesBySize,
+    /// The in-order test compares the sizes with the depth.
+    OrdersBySize,
+    /// Cause 8 and the in-order test let the cost of the largest sizes wrap.
+    CostWraps,
     /// The in-order test lacks the clause of that number.
     LacksClause(usize),
 }
 
 /// All faults that are no lacking clause.
-pub const FAULTS: [Fault; 30] = [
+pub const FAULTS: [Fault; 45] = [
     Fault::CutsFirst,
     Fault::ChargesClient,
     Fault::SparesRoot,
@@ -111,6 +129,23 @@ pub const FAULTS: [Fault; 30] = [
     Fault::IgnoresOffsets,
     Fault::WritesByNumber,
     Fault::SameForgetsDepths,
+    // 7 and 63 and 511 in the range above theirs, 8 and 64 and 512 in the one
+    // below, and 7 with the cost of 8.
+    Fault::WrongCost(7, 11),
+    Fault::WrongCost(7, 12),
+    Fault::WrongCost(8, 8),
+    Fault::WrongCost(63, 71),
+    Fault::WrongCost(64, 68),
+    Fault::WrongCost(511, 527),
+    Fault::WrongCost(512, 520),
+    Fault::WithoutFour,
+    Fault::ChargesSize,
+    Fault::ComparesSizeInStepTwo,
+    Fault::ComparesSizeInStepFour,
+    Fault::ListsCost,
+    Fault::RefusesBySize,
+    Fault::OrdersBySize,
+    Fault::CostWraps,
 ];
 
 impl Fault {
@@ -123,6 +158,7 @@ impl Fault {
                 | Fault::IgnoresOffsets
                 | Fault::WritesByNumber
                 | Fault::SameForgetsDepths
+                | Fault::OrdersBySize
                 | Fault::LacksClause(_)
         )
     }
@@ -156,7 +192,7 @@ impl Faulty {
         match self.fault {
             Fault::LacksClause(clause) if failing(table) == [clause] => Err(0),
             _ if table == self.own => Ok(()),
-            _ => order::check(table),
+            _ => require(faulty_parts::in_order(self.fault, table), NOT_IN_ORDER),
         }
     }
 
@@ -244,7 +280,7 @@ impl Faulty {
 
     fn request_body(&mut self, table: &mut [i64], client: i64, tag: i64, size: i64) -> Answer<i64> {
         let before = table.to_vec();
-        let arrival = calls::request(table, client, tag, size)?;
+        let arrival = faulty_parts::request(self.fault, table, client, tag, size)?;
         let full = get(table, client as usize, WAITING) == QUEUE_LEN as i64;
         let answer = match self.fault {
             Fault::FullTooEarly if full => Err(QUEUE_FULL),

@@ -1,12 +1,68 @@
-//! Parts of the controllers with faults: wrong rates, and a tick that can go
-//! wrong. Without a fault it is the tick of document 01 once more.
+//! Parts of the controllers with faults: wrong rates and costs, and a request
+//! and a tick that can go wrong. Without a fault these are document 01's once
+//! more.
 
+use crate::cost::cost;
+use crate::damage::failing;
 use crate::faulty::Fault;
-use crate::rates;
+use crate::order::{sizes_fit, SIZES_CLAUSE};
+use crate::refusal::*;
 use crate::table::*;
-use crate::tick::{
-    cut, find_supplier, grains, grow, has_enough, oldest, path_to_root, DispatchList,
-};
+use crate::tick::{cut, find_supplier, grow, has_enough, oldest, path_to_root, DispatchList};
+use crate::{calls, rates};
+
+/// The cost of a size, wherever a cost counts.
+fn cost_with(fault: Fault, size: i64) -> i64 {
+    match fault {
+        Fault::WrongCost(wrong, cost) if size == wrong => cost,
+        Fault::WithoutFour if (8..=63).contains(&size) => size,
+        _ => cost(size),
+    }
+}
+
+/// The grains of a request of that size, in a place where the fault `by_size`
+/// takes the size for the cost.
+fn grains_with(fault: Fault, by_size: Fault, size: i64) -> i64 {
+    let tokens = if fault == by_size { size } else { cost_with(fault, size) };
+    tokens.saturating_mul(GRAINS)
+}
+
+/// The tokens that are compared with a depth, in a place where the fault
+/// `by_size` takes the size for the cost.
+fn tokens_to_fit(fault: Fault, by_size: Fault, size: i64) -> i64 {
+    match fault {
+        Fault::CostWraps if size > 511 => size.wrapping_add(16),
+        _ if fault == by_size => size,
+        _ => cost_with(fault, size),
+    }
+}
+
+/// The in-order test with that fault.
+pub(crate) fn in_order(fault: Fault, table: &[i64]) -> bool {
+    failing(table).into_iter().all(|clause| clause == SIZES_CLAUSE)
+        && sizes_fit(table, |size| tokens_to_fit(fault, Fault::OrdersBySize, size))
+}
+
+/// A request with that fault.
+pub(crate) fn request(
+    fault: Fault,
+    table: &mut [i64],
+    client: i64,
+    tag: i64,
+    size: i64,
+) -> Answer<i64> {
+    let Some(node) = node_number(client).filter(|&node| size >= 1 && is_client(table, node)) else {
+        return calls::request(table, client, tag, size);
+    };
+    let tokens = tokens_to_fit(fault, Fault::RefusesBySize, size);
+    require(tokens <= get(table, node, DEPTH), DEPTH_ABOVE)?;
+    require(waiting_count(table, node) < QUEUE_LEN, QUEUE_FULL)?;
+    require(table[ACCEPTED] < MAX_ACCEPTED, COUNT_AT_END)?;
+    table[ACCEPTED] += 1;
+    let arrival = table[ACCEPTED];
+    append_waiting(table, node, Waiting { tag, size, arrival });
+    Ok(arrival)
+}
 
 /// A tick with that fault, over a list that is long enough.
 pub(crate) fn tick(fault: Fault, table: &mut [i64], list: &mut [i64]) -> i64 {
@@ -62,9 +118,10 @@ pub(crate) fn dispatch_all_from_nobody(table: &mut [i64], list: &mut [i64]) -> i
 
 fn serve_own(fault: Fault, table: &mut [i64], list: &mut DispatchList) {
     for client in 0..NODES {
-        while oldest(table, client)
-            .is_some_and(|request| has_enough(table, client, grains(request.size)))
-        {
+        while oldest(table, client).is_some_and(|request| {
+            let needed = grains_with(fault, Fault::ComparesSizeInStepTwo, request.size);
+            has_enough(table, client, needed)
+        }) {
             dispatch(fault, table, list, client, client);
             if fault == Fault::OwnOnce {
                 break;
@@ -75,7 +132,7 @@ fn serve_own(fault: Fault, table: &mut [i64], list: &mut DispatchList) {
 
 fn take_larger(table: &mut [i64]) {
     for node in 0..NODES {
-        let full = grains(get(table, node, DEPTH));
+        let full = in_grains(get(table, node, DEPTH));
         let balance = get(table, node, BALANCE);
         set(table, node, BALANCE, balance.max(full));
     }
@@ -92,7 +149,8 @@ fn choose(fault: Fault, table: &[i64]) -> Option<(usize, usize)> {
     let mut asking: Vec<(i64, usize, Option<usize>)> = clients(table)
         .filter_map(|client| {
             let request = oldest(table, client)?;
-            Some((request.arrival, client, seek(fault, table, client, grains(request.size))))
+            let needed = grains_with(fault, Fault::ComparesSizeInStepFour, request.size);
+            Some((request.arrival, client, seek(fault, table, client, needed)))
         })
         .collect();
     if fault != Fault::ByNumber {
@@ -120,12 +178,17 @@ fn dispatch(
     supplier: usize,
 ) {
     let request = take_oldest(table, client);
-    list.add(client, request, supplier);
+    let grains = grains_with(fault, Fault::ChargesSize, request.size);
+    let listed = match fault {
+        Fault::ListsCost => Waiting { size: cost(request.size), ..request },
+        _ => request,
+    };
+    list.add(client, listed, supplier);
     let lowest = if fault == Fault::ChargesClient { client } else { supplier };
     let payers: Vec<usize> = path_to_root(table, lowest).collect();
     for payer in payers {
         if payer != ROOT || fault != Fault::SparesRoot {
-            table[at(payer, BALANCE)] -= grains(request.size);
+            table[at(payer, BALANCE)] -= grains;
         }
     }
 }

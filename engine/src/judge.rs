@@ -23,8 +23,11 @@
 //! client, and for the classes below the root if they are met on the way up from
 //! the supplier that it names; a number that no joined node has leads nowhere.
 //!
+//! An entry counts cost × 1000 grains, the cost being that of the size in the
+//! list.
+//!
 //! Two things only a faulty controller does. Where a tick answers more than its
-//! list has whole entries, those in the list count. A negative size counts 0
+//! list has whole entries, those in the list count. A size below 1 counts 0
 //! grains: it makes up for nothing that was dispatched beside it.
 //!
 //! # All stretches in one pass
@@ -44,6 +47,7 @@ use std::fmt;
 use std::ops::Range;
 
 use crate::controller::{Controller, NewNode};
+use crate::cost::cost;
 use crate::rates::Division;
 use crate::steps::{Call, Reply, Step, World};
 use crate::table::{node_number, CLASS, CLIENT, FIXED, GRAINS, MAX_SHARE, NODES, ROOT, WEIGHTED};
@@ -274,8 +278,7 @@ impl Judge {
         }
         let count = usize::try_from(answer).unwrap_or(0);
         for entry in list.chunks_exact(4).take(count) {
-            // A negative size counts 0.
-            let grains = i128::from(entry[2].max(0)) * i128::from(GRAINS);
+            let grains = i128::from(cost(entry[2])) * i128::from(GRAINS);
             self.count_for_client(entry[0], grains);
             self.count_for_disk(grains);
             self.charge(entry[3], grains);

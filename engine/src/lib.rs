@@ -1,11 +1,12 @@
 //! The second engine of the disk share controller.
 //!
 //! It is written from document 01 ("Hierarchical Disk Sharing: the account
-//! table and its calls") alone, to check another implementation of the same
-//! document call by call. Quoted words in the comments are the document's.
+//! table and its calls") and document 02 up to request (a) alone, to check
+//! another implementation of them call by call. Quoted words in the comments are
+//! the documents'.
 //!
-//! * The engine: [`table`], [`order`], [`rates`], `calls`, `tick`,
-//!   [`plan`], [`mod@print`], behind the trait [`Controller`].
+//! * The engine: [`table`], [`order`], [`rates`], [`cost`](mod@cost), `calls`,
+//!   `tick`, [`plan`], [`mod@print`], behind the trait [`Controller`].
 //! * The checks: [`judge`] (demand 3), [`random`] with [`damage`] and
 //!   [`plans`] (whole runs of calls), [`steps`] and [`differential`] (two
 //!   controllers side by side), [`faulty`] (controllers with known faults).
@@ -16,6 +17,7 @@
 mod arguments;
 mod calls;
 pub mod controller;
+pub mod cost;
 pub mod damage;
 pub mod differential;
 pub mod faulty;

@@ -4,6 +4,7 @@
 //! length and neither panics nor overflows. What another clause forbids, a
 //! clause passes over.
 
+use crate::cost::cost;
 use crate::rates;
 use crate::refusal::{require, Answer, NOT_IN_ORDER};
 use crate::table::*;
@@ -29,9 +30,12 @@ pub const CLAUSES: [(&str, Clause); 18] = [
     ("no balance above the depth", balances_below_depth),
     ("client balances at least 0", client_balances),
     ("class balances not too low", class_balances),
-    ("waiting sizes 1 to the depth", waiting_sizes),
+    ("waiting sizes from 1, their costs to the depth", waiting_sizes),
     ("arrival numbers", arrivals),
 ];
+
+/// The number of the clause on waiting sizes.
+pub const SIZES_CLAUSE: usize = 16;
 
 /// Whether a slice is a table of right length that is in order.
 pub fn in_order(table: &[i64]) -> bool {
@@ -139,9 +143,15 @@ fn class_balances(table: &[i64]) -> bool {
 }
 
 fn waiting_sizes(table: &[i64]) -> bool {
+    sizes_fit(table, cost)
+}
+
+/// Whether every waiting size is 1 or more, and its cost, found by that
+/// function, no more than its client's depth.
+pub(crate) fn sizes_fit(table: &[i64], cost: impl Fn(i64) -> i64) -> bool {
     clients(table).all(|client| {
         let depth = get(table, client, DEPTH);
-        waiting(table, client).all(|request| (1..=depth).contains(&request.size))
+        waiting(table, client).all(|request| request.size >= 1 && cost(request.size) <= depth)
     })
 }
 

@@ -5,6 +5,7 @@
 //! arguments make sense; some are bent to and beyond their limits.
 
 use crate::controller::{Engine, NewNode};
+use crate::cost::largest_size;
 use crate::plan::{plan_len, Plan};
 use crate::steps::{Call, Step, World};
 use crate::table::*;
@@ -42,7 +43,7 @@ struct Generator {
     bent: usize,
     /// Percentage of requests among requests and ticks.
     busy: usize,
-    /// Into how many parts joining children divide the depth that is left.
+    /// Into how many parts joining clients divide the depth that is left.
     spread: i64,
 }
 
@@ -50,7 +51,7 @@ impl Generator {
     fn new(seed: u64, profile: Profile) -> Generator {
         let mut rng = Rng::new(seed);
         let bent = rng.pick(&[0, 1, 3, 10]);
-        let busy = rng.pick(&[30, 50, 65, 80]);
+        let busy = rng.pick(&[30, 50, 65, 85]);
         let spread = rng.pick(&[2, 5, 30, 200]);
         let world = World::default();
         Generator { rng, profile, world, damaged: false, steps: Vec::new(), bent, busy, spread }
@@ -158,10 +159,10 @@ impl Generator {
     }
 
     fn open(&mut self) {
-        let depth = self.rng.pick(&[1, 2, 3, 10, 40, 200, 5_000, 100_000, MAX_DEPTH]);
+        let depth = self.rng.pick(&[8, 16, 24, 80, 320, 1600, 40_000, 300_000, MAX_DEPTH]);
         let per_tick = depth * GRAINS;
-        let few = self.rng.pick(&[1, 7, 1000, MAX_RATE]);
-        let parts = self.rng.pick(&[50, 10, 3, 1]);
+        let few = self.rng.pick(&[1, 7, 8000, MAX_RATE]);
+        let parts = self.rng.pick(&[400, 50, 10, 3, 1]);
         let rate = self.rng.pick(&[few, per_tick / parts, per_tick / parts, 3 * per_tick]);
         let rate = self.bend(rate.clamp(1, MAX_RATE), 1, MAX_RATE);
         let depth = self.bend(depth, 1, MAX_DEPTH);
@@ -175,13 +176,16 @@ impl Generator {
         if arguments::depth_left(view, class) == 0 {
             class = arguments::class(rng, view);
         }
+        let sort = rng.pick(&[CLASS, CLIENT, CLIENT]);
+        // A class needs depth for its children.
+        let parts = if sort == CLASS { spread.min(5) } else { spread };
         let mut new = NewNode {
             node: arguments::unused_node(rng, view),
             parent: class as i64,
-            sort: rng.pick(&[CLASS, CLIENT, CLIENT]),
+            sort,
             kind: rng.pick(&[FIXED, WEIGHTED]),
             share: arguments::share(rng, view, class, None),
-            depth: arguments::depth(rng, view, class, spread),
+            depth: arguments::depth(rng, view, class, parts),
         };
         if rng.chance(2) {
             new.node = arguments::any_node(rng, view);
@@ -236,7 +240,7 @@ impl Generator {
     fn change_rate(&mut self) {
         let (rng, view) = self.rng_and_view();
         let rate = get(view, ROOT, RATE);
-        let rate = rng.pick(&[1, 10, 1000, rate / 3, rate * 2, MAX_RATE]);
+        let rate = rng.pick(&[1, 80, 8000, rate / 3, rate * 2, MAX_RATE]);
         let rate = self.bend(rate.clamp(1, MAX_RATE), 1, MAX_RATE);
         self.call(Call::ChangeRate { rate });
     }
@@ -249,7 +253,7 @@ impl Generator {
         let tag = rng.number() >> rng.below(63);
         let client = self.bend(client, 0, 63);
         let tag = self.bend(tag, i64::MIN, i64::MAX);
-        let size = self.bend(size, 1, depth);
+        let size = self.bend(size, 1, largest_size(depth).unwrap_or(0));
         self.call(Call::Request { client, tag, size });
     }
 

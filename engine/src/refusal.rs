@@ -18,7 +18,7 @@ pub const WRONG_NODE: i64 = 5;
 pub const LEVEL_TOO_LOW: i64 = 6;
 /// Fixed shares above 10,000.
 pub const SHARES_ABOVE: i64 = 7;
-/// Children's depths above the class's; size above the client's depth.
+/// Children's depths above the class's; cost above the client's depth.
 pub const DEPTH_ABOVE: i64 = 8;
 /// Leaving node has children or waiting requests.
 pub const NOT_EMPTY: i64 = 9;

@@ -79,6 +79,11 @@ pub struct Waiting {
     pub arrival: i64,
 }
 
+/// Tokens in grains. They are no more than a depth may be.
+pub fn in_grains(tokens: i64) -> i64 {
+    tokens * GRAINS
+}
+
 /// Index of a record's place in the table.
 pub fn at(node: usize, place: usize) -> usize {
     HEADER_LEN + RECORD_LEN * node + place

@@ -1,5 +1,6 @@
 //! Tick, in its four steps. The table is in order.
 
+use crate::cost::grains;
 use crate::refusal::{require, Answer, BUFFER_SHORT};
 use crate::table::*;
 
@@ -63,7 +64,7 @@ fn serve_from_own_balance(table: &mut [i64], list: &mut DispatchList) {
 /// depth and balance 0.
 pub(crate) fn cut(table: &mut [i64]) {
     for node in 0..NODES {
-        let full = grains(get(table, node, DEPTH));
+        let full = in_grains(get(table, node, DEPTH));
         let balance = get(table, node, BALANCE);
         set(table, node, BALANCE, balance.min(full));
     }
@@ -99,8 +100,8 @@ pub(crate) fn path_to_root(table: &[i64], node: usize) -> impl Iterator<Item = u
     std::iter::successors(Some(node), |&node| parent(table, node))
 }
 
-/// Takes the client's oldest request out, lists it, and charges the supplier
-/// and every node above it.
+/// Takes the client's oldest request out, lists it, and charges its cost to the
+/// supplier and every node above it.
 fn dispatch(table: &mut [i64], list: &mut DispatchList, client: usize, supplier: usize) {
     let request = take_oldest(table, client);
     list.add(client, request, supplier);
@@ -118,9 +119,4 @@ pub(crate) fn oldest(table: &[i64], client: usize) -> Option<Waiting> {
 
 pub(crate) fn has_enough(table: &[i64], node: usize, needed: i64) -> bool {
     get(table, node, BALANCE) >= needed
-}
-
-/// Tokens in grains.
-pub(crate) fn grains(tokens: i64) -> i64 {
-    tokens * GRAINS
 }

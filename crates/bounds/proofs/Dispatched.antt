@@ -31,13 +31,13 @@ module _ (st : State) (k s : ℕ) (w : whole (st .entries)) where
   sum-more f = more (sumOver f) ∙ sum-last f (told (st .entries)) (entryOf (st .table) k s)
 
   pub all-more : sumOver entryGrains (told (dispatched st k s .entries)) ≡ sumOver entryGrains (told (st .entries)) + grains (size (st .table) k 0)
-  unfolding entryOf entryGrains
+  unfolding entryOf entryGrains grains
   all-more = sum-more entryGrains
 
   pub grains-more : (j : ℕ) → sumOver (grainsForClient j) (told (dispatched st k s .entries)) ≡ sumOver (grainsForClient j) (told (st .entries)) + cond (eqb k j) (grains (size (st .table) k 0)) 0
-  unfolding entryOf entryGrains grainsForClient
+  unfolding entryOf entryGrains grainsForClient grains
   grains-more j = sum-more (grainsForClient j)
 
   pub charged-more : (tree : Tree) (x : ℕ) → sumOver (grainsToNode tree x) (told (dispatched st k s .entries)) ≡ sumOver (grainsToNode tree x) (told (st .entries)) + cond (atOrAbove tree s x) (grains (size (st .table) k 0)) 0
-  unfolding entryOf entryGrains grainsToNode atOrAbove
+  unfolding entryOf entryGrains grainsToNode atOrAbove grains
   charged-more tree x = sum-more (grainsToNode tree x)

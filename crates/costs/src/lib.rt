@@ -7,6 +7,9 @@ ghost use Rattle.table.specs.Cost.{cost, sizeWithin};
 ghost use Rattle.table.specs.Tick.{grains};
 use table::Table;
 
+// What a cost adds to a size at most, in tokens.
+const MOST_ADDED: u64 = 16;
+
 // The cost of a size, in tokens. Document 02, request (a).
 pub fn cost(size: u64) -> u64
     requires { ⌜ size ≤ greatestDepth ⌝ }
@@ -28,13 +31,17 @@ pub fn grains(size: u64) -> u64
     Table::grains(cost(size))
 }
 
-// Whether a request of this size costs more than a depth. A size above the depth does, whatever its range.
+// Whether a request of this size costs more than a depth. A size above the depth does, and one that is below it by what a
+// cost adds at most does not, whatever their ranges; so the cost is found only between the two.
 pub fn above(size: u64, depth: u64) -> bool
     requires { ⌜ depth ≤ greatestDepth ⌝ }
     ensures { λ r. ⌜ r ≡ ltb depth (cost size) ⌝ }
 {
     if depth < size {
         return true;
+    }
+    if size + MOST_ADDED <= depth {
+        return false;
     }
     let cost = cost(size);
     depth < cost

@@ -1,7 +1,8 @@
-//! Lists of steps with known numbers: the edges of document 01, every call at wrong lengths and at every limit, a plan
-//! cut short, lengthened and changed byte by byte, and a table damaged in every clause of "in order". Each begins with
-//! two zeroed tables.
+//! Lists of steps with known numbers: the edges of document 01 with the costs of document 02's request (a), every end of
+//! the ranges of cost, every call at wrong lengths and at every limit, a plan cut short, lengthened and changed byte by
+//! byte, and a table damaged in every clause of "in order". Each begins with two zeroed tables.
 
+use hds_engine::cost::{cost, largest_size, RANGE_ENDS};
 use hds_engine::damage;
 use hds_engine::order::CLAUSES;
 use hds_engine::random::{run, Profile, Rng};
@@ -18,6 +19,7 @@ pub fn all() -> Vec<Scene> {
     for (name, steps) in edges() {
         scenes.push((name.into(), steps));
     }
+    scenes.extend(costs());
     scenes.extend(lengths());
     scenes.extend(limits());
     scenes.extend(plans());
@@ -89,9 +91,14 @@ fn looks(nodes: &[i64]) -> Vec<Step> {
     nodes.iter().map(|&node| look(node)).collect()
 }
 
+fn ticks(count: usize, list_len: usize) -> Vec<Step> {
+    vec![tick(list_len); count]
+}
+
 /// The edges of document 01, marked or not, and some more. What they give is worked by hand in the engine's own tests.
 fn edges() -> Vec<(&'static str, Vec<Step>)> {
     let two = [open(1000, 40), client(5, 0, WEIGHTED, 1, 16), client(6, 0, WEIGHTED, 1, 16)];
+    let two_fast = [&two[..], &[change_rate(8000)]].concat();
     let alone = [open(1000, 40), client(5, 0, WEIGHTED, 4, 16)];
     let deep = [
         open(1000, 100),
@@ -101,7 +108,7 @@ fn edges() -> Vec<(&'static str, Vec<Step>)> {
         client(4, 3, FIXED, 5000, 20),
         client(5, 0, WEIGHTED, 5, 20),
     ];
-    let eight: Vec<Step> = (0..9).map(|tag| request(5, tag, 16)).collect();
+    let nine: Vec<Step> = (0..9).map(|tag| request(5, tag, 12)).collect();
     vec![
         (
             "the paper's rates",
@@ -159,31 +166,43 @@ fn edges() -> Vec<(&'static str, Vec<Step>)> {
             ],
         ),
         (
-            "size 3 goes at the third tick",
-            [&alone[..], &[request(5, 42, 3), tick(4), tick(4), tick(4)], &looks(&[0, 5])].concat(),
+            "size 3 goes at the eighth tick",
+            [&alone[..], &[request(5, 42, 3)], &ticks(8, 4), &looks(&[0, 5])].concat(),
         ),
         (
-            "the root supplies",
-            [&two[..], &[request(5, 1, 1), tick(4)], &looks(&[0, 5, 6])].concat(),
+            "the root supplies at the eighth tick",
+            [&two[..], &[request(5, 1, 1)], &ticks(8, 4), &looks(&[0, 5, 6])].concat(),
         ),
         (
-            "the earlier one goes first",
-            [&two[..], &[request(6, 66, 1), request(5, 55, 1), tick(8), tick(8)]].concat(),
+            "the root supplies at the first tick",
+            [&two_fast[..], &[request(5, 1, 1), tick(4)], &looks(&[0, 5, 6])].concat(),
         ),
         (
-            "the root goes into debt",
+            "the earlier one goes first, ticks 8 and 16",
+            [&two[..], &[request(6, 66, 1), request(5, 55, 1)], &ticks(16, 8), &looks(&[0, 5, 6])]
+                .concat(),
+        ),
+        (
+            "the earlier one goes first, ticks 1 and 2",
             [
-                vec![open(1000, 2), client(1, 0, WEIGHTED, 1, 1), client(2, 0, WEIGHTED, 1, 1)],
-                vec![poke(1, BALANCE, 500), poke(2, BALANCE, 1000)],
-                vec![request(1, 0, 1), request(2, 0, 1), tick(8)],
-                looks(&[0, 1, 2]),
+                &two_fast[..],
+                &[request(6, 66, 1), request(5, 55, 1)],
+                &ticks(2, 8),
+                &looks(&[0, 5, 6]),
             ]
             .concat(),
         ),
+        ("the root goes into debt, disk 1000", debt(1000, 7500, 8000)),
+        ("the root goes into debt, disk 8000", debt(8000, 4000, 8000)),
         (
             "sizes at depth 16",
-            [&alone[..], &[request(5, 0, 16), request(5, 0, 17), request(5, 0, 0), tick(8)]]
-                .concat(),
+            [
+                &alone[..],
+                &[12, 13, 16, 17, i64::MAX, 0, i64::MIN].map(|size| request(5, 0, size)),
+                &ticks(17, 8),
+                &looks(&[0, 5]),
+            ]
+            .concat(),
         ),
         (
             "depths under 40",
@@ -197,7 +216,7 @@ fn edges() -> Vec<(&'static str, Vec<Step>)> {
         ),
         (
             "the ninth waiting",
-            [&alone[..], &eight, &[look(5), tick(31), tick(32), tick(33)]].concat(),
+            [&alone[..], &nine, &[look(5), tick(31), tick(32), tick(33)]].concat(),
         ),
         (
             "lengths of the list",
@@ -205,8 +224,8 @@ fn edges() -> Vec<(&'static str, Vec<Step>)> {
                 &alone[..],
                 &[
                     tick(0),
-                    request(5, 0, 16),
-                    request(5, 0, 16),
+                    request(5, 0, 12),
+                    request(5, 0, 12),
                     tick(7),
                     tick(8),
                     tick(9),
@@ -230,15 +249,16 @@ fn edges() -> Vec<(&'static str, Vec<Step>)> {
             [
                 &deep[..],
                 &[leave(0), leave(1), leave(9), leave(64), request(4, 1, 1), leave(4)],
-                &[tick(4), tick(4), leave(4), leave(3), leave(2), leave(1), look(1), look(0)],
+                &ticks(8, 4),
+                &[leave(4), leave(3), leave(2), leave(1), look(1), look(0)],
             ]
             .concat(),
         ),
         (
             "a class in debt stays",
             [
-                vec![open(10, 10), class(1, 0, FIXED, 10_000, 5), client(2, 1, FIXED, 10_000, 5)],
-                vec![poke(2, BALANCE, 5000), request(2, 0, 5), tick(4), leave(2), leave(1)],
+                vec![open(10, 16), class(1, 0, FIXED, 10_000, 8), client(2, 1, FIXED, 10_000, 8)],
+                vec![poke(2, BALANCE, 8000), request(2, 0, 7), tick(4), leave(2), leave(1)],
                 looks(&[0, 1]),
             ]
             .concat(),
@@ -297,7 +317,71 @@ fn edges() -> Vec<(&'static str, Vec<Step>)> {
     ]
 }
 
-/// A table with a tree and requests that wait.
+/// Two clients with those balances pay for themselves, and the root for both.
+fn debt(rate: i64, first: i64, second: i64) -> Vec<Step> {
+    [
+        vec![open(rate, 16), client(1, 0, WEIGHTED, 1, 8), client(2, 0, WEIGHTED, 1, 8)],
+        vec![poke(1, BALANCE, first), poke(2, BALANCE, second)],
+        vec![request(1, 0, 1), request(2, 0, 1), tick(8)],
+        looks(&[0, 1, 2]),
+    ]
+    .concat()
+}
+
+/// Depths at and about the costs of the sizes at the ends of the ranges, and the largest.
+const DEPTHS: [i64; 17] =
+    [1, 7, 8, 9, 11, 12, 13, 67, 68, 71, 72, 519, 520, 527, 528, 529, MAX_DEPTH];
+
+/// Sizes at the ends of the ranges, at and about the largest that a depth lets wait, and ones that no request has.
+fn sizes(depth: i64) -> Vec<i64> {
+    let largest = largest_size(depth).unwrap_or(0);
+    let about = [largest - 1, largest, largest + 1, largest + 2, depth - 1, depth, depth + 1];
+    let never = [i64::MIN, i64::MIN + 16, -1, 0];
+    let too_large = [-17, -16, -15, -8, -4, -1, 0].map(|more| i64::MAX + more);
+    [&RANGE_ENDS[..], &about, &never, &too_large].concat()
+}
+
+/// Costs: which sizes a depth lets wait, by request and in a table written from outside, and what is compared with a
+/// balance and charged at every end of a range.
+fn costs() -> Vec<Scene> {
+    let mut scenes = Vec::new();
+    for depth in DEPTHS {
+        let one = [open(1, MAX_DEPTH), client(5, 0, WEIGHTED, 1, depth)];
+        let (mut asked, mut written) = (Vec::new(), Vec::new());
+        for size in sizes(depth) {
+            asked.extend([&one[..], &[request(5, 7, size), look(5), tick(4), look(5)]].concat());
+            let waits = [(WAITING, 1), (QUEUE, 7), (QUEUE + 1, size), (QUEUE + 2, 1)];
+            written.extend(one.iter().cloned());
+            written.push(Step::Poke { place: ACCEPTED, value: 1 });
+            written.extend(waits.map(|(place, value)| poke(5, place, value)));
+            written.extend([look(5), request(5, 8, 1), tick(8), leave(5), look(0)]);
+        }
+        scenes.push((format!("sizes asked for at depth {depth}"), asked));
+        scenes.push((format!("sizes waiting at depth {depth}"), written));
+    }
+    for size in RANGE_ENDS.into_iter().chain([MAX_DEPTH - 16]) {
+        let mut steps = Vec::new();
+        for missing in [0, 1] {
+            let rate = 1000 * cost(size) - missing;
+            let own = [open(rate, MAX_DEPTH), client(5, 0, WEIGHTED, 1, cost(size))];
+            let borrowed = [
+                open(rate, MAX_DEPTH),
+                class(1, 0, FIXED, 10_000, MAX_DEPTH),
+                client(5, 1, FIXED, 1, MAX_DEPTH),
+            ];
+            for tree in [&own[..], &borrowed[..]] {
+                steps.extend([tree, &[request(5, 7, size)]].concat());
+                for _ in 0..2 {
+                    steps.extend([&ticks(1, 4)[..], &looks(&[0, 1, 5])].concat());
+                }
+            }
+        }
+        scenes.push((format!("what a size of {size} costs"), steps));
+    }
+    scenes
+}
+
+/// A table with a tree and requests that wait, two of which cost their clients' depth.
 fn sound() -> Vec<Step> {
     vec![
         open(1000, 100),
@@ -305,8 +389,8 @@ fn sound() -> Vec<Step> {
         client(2, 1, FIXED, 6000, 20),
         client(3, 1, WEIGHTED, 6, 30),
         class(4, 0, WEIGHTED, 1, 50),
-        request(2, 7, 20),
-        request(3, 7, 30),
+        request(2, 7, 16),
+        request(3, 7, 26),
         request(2, 7, 9),
     ]
 }
@@ -383,7 +467,7 @@ fn plans() -> Vec<Scene> {
 /// Each argument of each call at and beyond its limits, the others sound.
 fn limits() -> Vec<Scene> {
     let mut steps = sound();
-    for low in [0, 1, 63, 64, 10_000, 1_000_000, 1_000_000_000] {
+    for low in [0, 1, 8, 26, 63, 64, 512, 10_000, 1_000_000, 1_000_000_000] {
         for value in [low - 1, low, low + 1, -low, i64::MIN, i64::MIN + 1, i64::MAX - 1, i64::MAX] {
             steps.extend([
                 look(value),

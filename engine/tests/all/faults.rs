@@ -8,10 +8,10 @@ use hds_engine::order::CLAUSES;
 use hds_engine::random::{run, Profile};
 use hds_engine::steps::{Call, Step};
 use hds_engine::table::*;
-use hds_engine::Engine;
+use hds_engine::{Controller, Engine};
 
 /// Faults that the judge must object to, with the promise that is broken.
-pub const LOUD: [(Fault, Promise); 12] = [
+pub const LOUD: [(Fault, Promise); 26] = [
     (Fault::CutsFirst, Promise::Client),
     (Fault::ChargesClient, Promise::Client),
     (Fault::SparesRoot, Promise::Disk),
@@ -24,6 +24,21 @@ pub const LOUD: [(Fault, Promise); 12] = [
     (Fault::AllAtOnce, Promise::Disk),
     (Fault::NamesNobody, Promise::Disk),
     (Fault::OwnOnce, Promise::Client),
+    // A cost too high starves the client, one too low lets the disk exceed.
+    (Fault::WrongCost(7, 11), Promise::Client),
+    (Fault::WrongCost(7, 12), Promise::Client),
+    (Fault::WrongCost(8, 8), Promise::Disk),
+    (Fault::WrongCost(63, 71), Promise::Client),
+    (Fault::WrongCost(64, 68), Promise::Disk),
+    (Fault::WrongCost(511, 527), Promise::Client),
+    (Fault::WrongCost(512, 520), Promise::Disk),
+    (Fault::WithoutFour, Promise::Disk),
+    (Fault::ChargesSize, Promise::Disk),
+    (Fault::ComparesSizeInStepTwo, Promise::Client),
+    (Fault::ComparesSizeInStepFour, Promise::Client),
+    (Fault::ListsCost, Promise::Disk),
+    (Fault::RefusesBySize, Promise::Client),
+    (Fault::CostWraps, Promise::Client),
 ];
 
 /// A list of calls that brings a fault out.
@@ -34,19 +49,42 @@ pub fn scenario(fault: Fault) -> Vec<Step> {
         Fault::FullBucket => comes_and_goes(),
         Fault::ForgivesDebt => class_in_debt_leaves(),
         Fault::SparesRoot | Fault::TakesLarger | Fault::AllAtOnce | Fault::NamesNobody => {
-            one_client(1000, 10)
+            one_client(1000, 12, 8, 14)
         }
-        _ => one_client(3500, 1),
+        Fault::WrongCost(size, wrong) => wrong_cost(size, wrong),
+        Fault::WithoutFour => wrong_cost(8, 8),
+        Fault::ComparesSizeInStepTwo | Fault::ComparesSizeInStepFour => one_then_seven(),
+        // They cost more than the depth.
+        Fault::RefusesBySize => one_client(1000, 8, 8, 12),
+        Fault::CostWraps => one_client(1000, 8, i64::MAX, 12),
+        _ => one_client(28_000, 8, 1, 12),
     })
 }
 
-/// One client that always asks for as much as it may.
-fn one_client(rate: i64, depth: i64) -> Vec<Call> {
+/// One client that always asks for that size.
+fn one_client(rate: i64, depth: i64, size: i64, ticks: usize) -> Vec<Call> {
     let mut calls = vec![open(rate, depth), Call::Join(client(1, 0, WEIGHTED, 1, depth))];
-    for _ in 0..12 {
-        calls.extend(vec![request(1, depth); 8]);
+    for _ in 0..ticks {
+        calls.extend(vec![request(1, size); 8]);
         calls.push(tick());
     }
+    calls
+}
+
+/// One client that always asks for that size, at a rate of seven at each tick
+/// and a depth that either cost fits.
+fn wrong_cost(size: i64, wrong: i64) -> Vec<Call> {
+    let right = cost_of(size);
+    one_client(7000 * right, right.max(wrong), size, 60)
+}
+
+/// A client of depth 8 asks for 1 and 7, which go at ticks 8 and 16. By its size
+/// the first would go at tick 1, and leave the client with −7000 grains; it
+/// would then wait eight ticks and more for the second.
+fn one_then_seven() -> Vec<Call> {
+    let mut calls = vec![open(1000, 8), Call::Join(client(1, 0, WEIGHTED, 1, 8))];
+    calls.extend([request(1, 1), request(1, 7)]);
+    calls.extend(vec![tick(); 16]);
     calls
 }
 
@@ -56,9 +94,10 @@ fn sleeper_wakes() -> Vec<Call> {
     let mut calls = vec![open(1000, 40)];
     calls.extend([5, 6].map(|node| Call::Join(client(node, 0, WEIGHTED, 1, 16))));
     calls.extend(vec![tick(); 40]);
-    calls.extend([16, 16, 8].map(|size| request(5, size)));
+    // They cost 16, 16 and 8.
+    calls.extend([12, 12, 1].map(|size| request(5, size)));
     calls.push(tick());
-    calls.push(request(5, 16));
+    calls.push(request(5, 12));
     for _ in 0..33 {
         calls.extend([request(6, 1), request(6, 1), tick()]);
     }
@@ -68,10 +107,10 @@ fn sleeper_wakes() -> Vec<Call> {
 /// In a class, a weight beside a fixed share of 10,000; all ask all the time.
 fn weight_beside_the_whole() -> Vec<Call> {
     let mut calls = vec![
-        open(1000, 2),
-        Call::Join(class(1, 0, FIXED, 10_000, 2)),
-        Call::Join(client(2, 1, FIXED, 10_000, 1)),
-        Call::Join(client(3, 1, WEIGHTED, 1, 1)),
+        open(8000, 16),
+        Call::Join(class(1, 0, FIXED, 10_000, 16)),
+        Call::Join(client(2, 1, FIXED, 10_000, 8)),
+        Call::Join(client(3, 1, WEIGHTED, 1, 8)),
     ];
     for _ in 0..15 {
         calls.extend([request(2, 1), request(3, 1), tick()]);
@@ -81,20 +120,20 @@ fn weight_beside_the_whole() -> Vec<Call> {
 
 /// A client comes, takes its depth and leaves, again and again.
 fn comes_and_goes() -> Vec<Call> {
-    let mut calls = vec![open(1, 10)];
+    let mut calls = vec![open(1, 12)];
     for _ in 0..8 {
-        let join = Call::Join(client(1, 0, WEIGHTED, 1, 10));
-        calls.extend([join, request(1, 10), tick(), Call::Leave { node: 1 }]);
+        let join = Call::Join(client(1, 0, WEIGHTED, 1, 12));
+        calls.extend([join, request(1, 8), tick(), Call::Leave { node: 1 }]);
     }
     calls
 }
 
 /// Clients 2 and 3 bring their class into debt, and all leave and come back.
 fn class_in_debt_leaves() -> Vec<Call> {
-    let mut calls = vec![open(1000, 2)];
+    let mut calls = vec![open(8000, 16)];
     for _ in 0..12 {
-        calls.push(Call::Join(class(1, 0, WEIGHTED, 1, 2)));
-        calls.extend([2, 3].map(|node| Call::Join(client(node, 1, WEIGHTED, 1, 1))));
+        calls.push(Call::Join(class(1, 0, WEIGHTED, 1, 16)));
+        calls.extend([2, 3].map(|node| Call::Join(client(node, 1, WEIGHTED, 1, 8))));
         calls.extend([request(3, 1), tick(), request(3, 1), tick(), request(3, 1), tick()]);
         calls.extend([request(2, 1), request(3, 1), tick()]);
         calls.extend([2, 3, 1].map(|node| Call::Leave { node }));
@@ -125,11 +164,11 @@ fn all_at_once_breaks_the_other_promise_later() {
 
 #[test]
 fn naming_nobody_breaks_the_disks_promise_alone() {
-    // Eight requests of 10 tokens go at the tick after them, and the rate is
-    // 1000: 79,000 grains above it, where five depths are 50,000.
+    // Eight requests of 12 tokens go at the tick after them, and the rate is
+    // 1000: 95,000 grains above it, where five depths are 60,000.
     let found = watch(&mut Faulty::new(Fault::NamesNobody), &scenario(Fault::NamesNobody));
     let (promise, stretch) = (Promise::Disk, 9..10);
-    assert_eq!(found, [Violation { promise, node: 0, stretch, grains: 79_000, bound: 50_000 }]);
+    assert_eq!(found, [Violation { promise, node: 0, stretch, grains: 95_000, bound: 60_000 }]);
     // No client waits after a tick and no class is ever charged, so it is the
     // disk in random runs too.
     let mut loud = 0;
@@ -150,6 +189,37 @@ fn the_differential_finds_every_fault() {
 }
 
 #[test]
+fn every_loud_fault_differs_in_its_scenario() {
+    for (fault, _) in LOUD {
+        let steps = scenario(fault);
+        let differs =
+            |fault| first_difference(&mut Engine, &mut Faulty::new(fault), &steps).is_some();
+        assert!(differs(fault), "{fault:?}");
+        assert!(!differs(Fault::None), "{fault:?}");
+    }
+}
+
+#[test]
+fn a_waiting_size_of_the_depth_is_out_of_order() {
+    // Client 5 has depth 16. A size of 12 costs 16, and 13 costs 17.
+    let mut disk = Disk::open(1, 40);
+    disk.join(client(5, 0, WEIGHTED, 1, 16)).unwrap();
+    disk.request(5, 0, 12).unwrap();
+    let mut by_size = Faulty::new(Fault::OrdersBySize);
+    for (size, right, wrong) in [
+        (12, Ok([1, 0, 1]), Ok([1, 0, 1])),
+        (13, Err(1), Ok([1, 0, 1])),
+        (16, Err(1), Ok([1, 0, 1])),
+        (17, Err(1), Err(1)),
+    ] {
+        disk.poke(5, QUEUE + 1, size);
+        assert_eq!(Engine.look(&disk.table, 5), right, "{size}");
+        assert_eq!(by_size.look(&disk.table, 5), wrong, "{size}");
+        assert_eq!(Faulty::new(Fault::None).look(&disk.table, 5), right, "{size}");
+    }
+}
+
+#[test]
 fn the_differential_finds_every_lacking_clause() {
     for (clause, (name, _)) in CLAUSES.iter().enumerate() {
         assert!(is_found(Fault::LacksClause(clause), Profile::Wild, 200), "{name}");
@@ -166,8 +236,10 @@ fn is_found(fault: Fault, profile: Profile, seeds: u64) -> bool {
 #[test]
 fn without_a_fault_there_is_no_difference() {
     let faultless = &mut Faulty::new(Fault::None);
-    if let Err(difference) = differential_runs(&mut Engine, faultless, 0..40, 400, Profile::Clean) {
-        panic!("{difference}");
+    for profile in [Profile::Clean, Profile::Wild] {
+        if let Err(difference) = differential_runs(&mut Engine, faultless, 0..20, 400, profile) {
+            panic!("{difference}");
+        }
     }
 }
 
@@ -176,7 +248,7 @@ fn a_difference_comes_with_a_short_list_of_calls() {
     for (fault, most) in [
         (Fault::FullBucket, 2),
         (Fault::CutsFirst, 8),
-        (Fault::KeepsRecord, 4),
+        (Fault::KeepsRecord, 6),
         (Fault::InventsCount, 2),
     ] {
         let mut seeds = (0..60).map(|seed| (seed, run(seed, 400, Profile::Clean)));

@@ -42,17 +42,17 @@ impl Told {
 
 #[test]
 fn a_waiting_client_gets_more_than_its_rates_less_its_depth() {
-    // After three ticks of 333 the client lags 999 grains of a depth of 1000.
-    let mut told = Told::new(333, 10);
-    told.accepted(Call::Join(client(5, 0, WEIGHTED, 1, 1)));
+    // After three ticks of 2666 the client lags 7998 grains of a depth of 8000.
+    let mut told = Told::new(2666, 80);
+    told.accepted(Call::Join(client(5, 0, WEIGHTED, 1, 8)));
     told.accepted(request(5, 1));
     (0..3).for_each(|_| told.tick(&[]));
     assert_eq!(told.found(), []);
     told.tick(&[]);
     assert_eq!(told.found(), [(Promise::Client, 5, 2..6)]);
     // Lagging by just the depth is too much.
-    let mut told = Told::new(500, 10);
-    told.accepted(Call::Join(client(5, 0, WEIGHTED, 1, 1)));
+    let mut told = Told::new(4000, 80);
+    told.accepted(Call::Join(client(5, 0, WEIGHTED, 1, 8)));
     told.accepted(request(5, 1));
     told.tick(&[]);
     assert_eq!(told.found(), []);
@@ -62,8 +62,8 @@ fn a_waiting_client_gets_more_than_its_rates_less_its_depth() {
 
 #[test]
 fn a_client_counts_only_while_it_waits() {
-    let mut told = Told::new(900, 10);
-    told.accepted(Call::Join(client(5, 0, WEIGHTED, 1, 1)));
+    let mut told = Told::new(7200, 80);
+    told.accepted(Call::Join(client(5, 0, WEIGHTED, 1, 8)));
     for _ in 0..5 {
         told.tick(&[]);
         told.accepted(request(5, 1));
@@ -85,9 +85,9 @@ fn a_client_counts_only_while_it_waits() {
 
 #[test]
 fn a_client_starts_anew_when_it_comes_back() {
-    let mut told = Told::new(900, 10);
+    let mut told = Told::new(7200, 80);
     for _ in 0..5 {
-        told.accepted(Call::Join(client(5, 0, WEIGHTED, 1, 1)));
+        told.accepted(Call::Join(client(5, 0, WEIGHTED, 1, 8)));
         told.accepted(request(5, 1));
         told.tick(&[]);
         told.accepted(Call::Leave { node: 5 });
@@ -97,9 +97,11 @@ fn a_client_starts_anew_when_it_comes_back() {
 
 #[test]
 fn the_disk_may_exceed_its_rate_by_five_depths() {
-    for (rate, found) in [(1000, vec![]), (999, vec![(Promise::Disk, 0, 2..4)])] {
-        let mut told = Told::new(rate, 1);
-        told.accepted(Call::Join(client(5, 0, WEIGHTED, 1, 1)));
+    // Seven of 8 tokens in two ticks: 56,000 grains, 40,000 above two rates of
+    // 8000.
+    for (rate, found) in [(8000, vec![]), (7999, vec![(Promise::Disk, 0, 2..4)])] {
+        let mut told = Told::new(rate, 8);
+        told.accepted(Call::Join(client(5, 0, WEIGHTED, 1, 8)));
         told.tick(&[]);
         told.tick(&[[5, 0, 1, 0]; 4]);
         told.tick(&[[5, 0, 1, 5]; 3]);
@@ -110,17 +112,17 @@ fn the_disk_may_exceed_its_rate_by_five_depths() {
 /// Numbers that name no joined node where only 0 and 5 are joined.
 const NOBODY: [i64; 7] = [i64::MIN, -1, 1, 6, 63, 64, i64::MAX];
 
-/// The disk at its boundary, with one tick that may dispatch 6 tokens: a depth
-/// of 1 gives 5000 grains beside a rate of 1000. With a rate of 999 it is one
+/// The disk at its boundary, with one tick that may dispatch 48 tokens: a depth
+/// of 8 gives 40,000 grains beside a rate of 8000. With a rate of 7999 it is one
 /// grain too much.
-const SIX_TOKENS: [(i64, usize); 2] = [(1000, 0), (999, 1)];
+const FORTY_EIGHT_TOKENS: [(i64, usize); 2] = [(8000, 0), (7999, 1)];
 
 #[test]
 fn every_entry_counts_for_the_disk_whatever_supplier_it_names() {
     for supplier in [0, 5].into_iter().chain(NOBODY) {
-        for (rate, broken) in SIX_TOKENS {
-            let mut told = Told::new(rate, 1);
-            told.accepted(Call::Join(client(5, 0, WEIGHTED, 1, 1)));
+        for (rate, broken) in FORTY_EIGHT_TOKENS {
+            let mut told = Told::new(rate, 8);
+            told.accepted(Call::Join(client(5, 0, WEIGHTED, 1, 8)));
             told.tick(&[[5, 0, 1, supplier]; 6]);
             let found = [(Promise::Disk, 0, 1..2)];
             assert_eq!(told.found(), found[..broken], "{supplier}");
@@ -131,9 +133,10 @@ fn every_entry_counts_for_the_disk_whatever_supplier_it_names() {
 #[test]
 fn every_entry_counts_for_the_disk_whatever_client_it_names() {
     for client in [0].into_iter().chain(NOBODY) {
-        for (rate, broken) in SIX_TOKENS {
-            let mut told = Told::new(rate, 1);
-            told.tick(&[[client, 0, 1, 0], [client, 0, 1, client], [client, 0, 4, 6]]);
+        for (rate, broken) in FORTY_EIGHT_TOKENS {
+            let mut told = Told::new(rate, 8);
+            // 8 tokens, 8 and 32.
+            told.tick(&[[client, 0, 1, 0], [client, 0, 7, client], [client, 0, 28, 6]]);
             let found = [(Promise::Disk, 0, 0..1)];
             assert_eq!(told.found(), found[..broken], "{client}");
         }
@@ -142,11 +145,11 @@ fn every_entry_counts_for_the_disk_whatever_client_it_names() {
 
 #[test]
 fn entries_without_a_supplier_count_in_every_stretch() {
-    // From the second tick on, 3, 1 and 4 tokens are three rates and five
-    // depths. With 2 more they are 10,000 grains where 9000 may be; all five
-    // ticks may have 10,000.
-    let mut told = Told::new(1000, 1);
-    for size in [0, 3, 1, 4, 2] {
+    // The sizes cost 0, 24, 8, 32 and 16. From the second tick on, 24, 8 and 32
+    // tokens are three rates and five depths. With 16 more they are 80,000
+    // grains where 72,000 may be; all five ticks may have 80,000.
+    let mut told = Told::new(8000, 8);
+    for size in [0, 20, 1, 28, 12] {
         assert_eq!(told.found(), []);
         told.tick(&[[5, 0, size, 64]]);
     }
@@ -155,19 +158,19 @@ fn entries_without_a_supplier_count_in_every_stretch() {
 
 #[test]
 fn a_supplier_that_left_counts_for_the_disk() {
-    for (rate, broken) in SIX_TOKENS {
-        let mut told = Told::new(rate, 1);
-        told.accepted(Call::Join(class(1, 0, WEIGHTED, 1, 1)));
+    for (rate, broken) in FORTY_EIGHT_TOKENS {
+        let mut told = Told::new(rate, 8);
+        told.accepted(Call::Join(class(1, 0, WEIGHTED, 1, 8)));
         told.accepted(Call::Leave { node: 1 });
-        told.tick(&[[5, 0, 6, 1]]);
+        told.tick(&[[5, 0, 44, 1]]);
         assert_eq!(told.found().len(), broken);
     }
 }
 
 #[test]
 fn the_disk_counts_once_and_classes_by_the_way_up() {
-    // The root and classes 1 and 2 have the disk's rate and depth 4. Seven
-    // entries of 3 tokens are 21,000 grains: five depths and a rate of 1000.
+    // The root and classes 1 and 2 have the disk's rate and depth 10. Seven
+    // entries of 8 tokens are 56,000 grains: five depths and a rate of 6000.
     for (supplier, payers) in [
         (5, vec![0, 1, 2]),
         (2, vec![0, 1, 2]),
@@ -177,11 +180,11 @@ fn the_disk_counts_once_and_classes_by_the_way_up() {
         (64, vec![0]),
         (-1, vec![0]),
     ] {
-        for (rate, broken) in [(1000, vec![]), (999, payers)] {
-            let mut told = Told::new(rate, 4);
-            told.accepted(Call::Join(class(1, 0, WEIGHTED, 1, 4)));
-            told.accepted(Call::Join(class(2, 1, WEIGHTED, 1, 4)));
-            told.accepted(Call::Join(client(5, 2, WEIGHTED, 1, 4)));
+        for (rate, broken) in [(6000, vec![]), (5999, payers)] {
+            let mut told = Told::new(rate, 10);
+            told.accepted(Call::Join(class(1, 0, WEIGHTED, 1, 10)));
+            told.accepted(Call::Join(class(2, 1, WEIGHTED, 1, 10)));
+            told.accepted(Call::Join(client(5, 2, WEIGHTED, 1, 10)));
             told.tick(&[[5, 0, 3, supplier]; 7]);
             let found: Vec<usize> = told.found().into_iter().map(|(_, node, _)| node).collect();
             assert_eq!(found, broken, "supplier {supplier}");
@@ -191,7 +194,7 @@ fn the_disk_counts_once_and_classes_by_the_way_up() {
 
 #[test]
 fn as_many_entries_count_as_the_tick_answers_and_the_list_has() {
-    // Six tokens pass. The list has seven, and half an entry behind them.
+    // Six of 8 tokens pass. The list has seven, and half an entry behind them.
     let list = [[[5, 0, 1, 64]; 7].concat(), vec![5, 0]].concat();
     for (answer, length, broken) in [
         (6, 30, 0),
@@ -202,71 +205,74 @@ fn as_many_entries_count_as_the_tick_answers_and_the_list_has() {
         (0, 30, 0),
         (-7, 30, 0),
     ] {
-        let mut told = Told::new(1000, 1);
+        let mut told = Told::new(8000, 8);
         told.tick_answers(answer, &list[..length]);
         assert_eq!(told.found().len(), broken, "{answer} of {length} numbers");
     }
 }
 
 #[test]
-fn a_negative_size_counts_nothing() {
-    for (size, broken) in [(6, 0), (7, 1)] {
-        let mut told = Told::new(1000, 1);
-        told.accepted(Call::Join(client(5, 0, WEIGHTED, 1, 1)));
-        told.tick(&[[5, 0, -1, 5], [5, 0, size, 64], [5, 0, i64::MIN, 0]]);
+fn a_size_below_one_counts_nothing() {
+    // 44 costs 48 tokens, which may be, and 45 costs 49.
+    for (size, broken) in [(44, 0), (45, 1)] {
+        let mut told = Told::new(8000, 8);
+        told.accepted(Call::Join(client(5, 0, WEIGHTED, 1, 8)));
+        told.tick(&[[5, 0, -1, 5], [5, 0, size, 64], [5, 0, 0, 5], [5, 0, i64::MIN, 0]]);
         assert_eq!(told.found().len(), broken);
     }
-    // A client of depth 1 may lag 500 grains, and not 1000.
-    let mut told = Told::new(500, 1);
-    told.accepted(Call::Join(client(5, 0, WEIGHTED, 1, 1)));
+    // A client of depth 8 may lag 4000 grains, and not 8000.
+    let mut told = Told::new(4000, 8);
+    told.accepted(Call::Join(client(5, 0, WEIGHTED, 1, 8)));
     (0..3).for_each(|_| told.accepted(request(5, 1)));
     told.tick(&[[5, 0, -1, 5]]);
     assert_eq!(told.found(), []);
-    told.tick(&[[5, 0, -1, 5]]);
+    told.tick(&[[5, 0, 0, 5]]);
     assert_eq!(told.found(), [(Promise::Client, 5, 4..6)]);
 }
 
 #[test]
 fn a_join_of_the_root_leaves_the_disk_its_promise() {
-    let mut told = Told::new(1000, 1);
+    let mut told = Told::new(8000, 8);
     told.accepted(Call::Join(client(0, 0, WEIGHTED, 1, 1000)));
     told.accepted(Call::Join(class(0, 0, FIXED, 10_000, 1000)));
-    told.tick(&[[5, 0, 7, 0]]);
+    told.tick(&[[5, 0, 45, 0]]);
     assert_eq!(told.found(), [(Promise::Disk, 0, 2..3)]);
 }
 
 #[test]
 fn a_class_may_exceed_its_rate_by_five_depths() {
+    // A size of 20 costs 24: 48,000 grains, five depths and a rate of 8000.
     for (share, found) in [(5000, vec![]), (4999, vec![(Promise::Class, 1, 2..3)])] {
-        let mut told = Told::new(2000, 9);
-        told.accepted(Call::Join(class(1, 0, FIXED, share, 1)));
-        told.accepted(Call::Join(client(5, 1, WEIGHTED, 1, 1)));
+        let mut told = Told::new(16_000, 72);
+        told.accepted(Call::Join(class(1, 0, FIXED, share, 8)));
+        told.accepted(Call::Join(client(5, 1, WEIGHTED, 1, 8)));
         // What the root supplies does not count for the class.
-        told.tick(&[[5, 0, 3, 5], [5, 0, 3, 1], [5, 0, 3, 0]]);
+        told.tick(&[[5, 0, 20, 5], [5, 0, 20, 1], [5, 0, 20, 0]]);
         assert_eq!(told.found(), found);
     }
 }
 
 #[test]
 fn a_class_starts_anew_when_it_comes_back() {
+    // The class's rate is 0, and a size of 36 costs its five depths.
     let mut told = Told::new(1, 1000);
     for _ in 0..4 {
-        told.accepted(Call::Join(class(1, 0, FIXED, 1, 1)));
-        told.tick(&[[5, 0, 5, 1]]);
+        told.accepted(Call::Join(class(1, 0, FIXED, 1, 8)));
+        told.tick(&[[5, 0, 36, 1]]);
         told.accepted(Call::Leave { node: 1 });
     }
     assert_eq!(told.found(), []);
-    told.accepted(Call::Join(class(1, 0, FIXED, 1, 1)));
-    told.tick(&[[5, 0, 5, 1]]);
+    told.accepted(Call::Join(class(1, 0, FIXED, 1, 8)));
+    told.tick(&[[5, 0, 36, 1]]);
     told.tick(&[[5, 0, 1, 1]]);
     assert_eq!(told.found(), [(Promise::Class, 1, 13..15)]);
 }
 
 #[test]
 fn rates_are_those_of_the_tree_before_the_tick() {
-    let mut told = Told::new(1000, 100);
-    told.accepted(Call::Join(client(5, 0, WEIGHTED, 1, 1)));
-    told.accepted(Call::Join(client(6, 0, FIXED, 9000, 1)));
+    let mut told = Told::new(8000, 100);
+    told.accepted(Call::Join(client(5, 0, WEIGHTED, 1, 8)));
+    told.accepted(Call::Join(client(6, 0, FIXED, 9000, 8)));
     told.accepted(request(5, 1));
     (0..9).for_each(|_| told.tick(&[]));
     assert_eq!(told.found(), []);
@@ -275,7 +281,7 @@ fn rates_are_those_of_the_tree_before_the_tick() {
     assert_eq!(told.found(), []);
     told.accepted(Call::ChangeRate { rate: 10 });
     told.tick(&[]);
-    assert_eq!(told.found(), [], "900 and 99 and 0 grains");
+    assert_eq!(told.found(), [], "7200 and 799 and 0 grains");
     told.accepted(Call::Leave { node: 6 });
     told.tick(&[]);
     assert_eq!(told.found(), [(Promise::Client, 5, 3..18)]);
@@ -290,7 +296,7 @@ fn a_list_starts_at_open_and_ends_at_a_write_from_outside() {
     told.accepted(open(1000, 10));
     (0..9).for_each(|_| told.tick(&[]));
     assert_eq!(told.found(), []);
-    let waits = [open(1000, 10), Call::Join(client(5, 0, WEIGHTED, 1, 1)), request(5, 1)];
+    let waits = [open(1000, 10), Call::Join(client(5, 0, WEIGHTED, 1, 8)), request(5, 1)];
     let mut list = steps(&waits);
     list.push(Step::Poke { place: at(5, WAITING), value: 1 });
     list.extend(steps(&vec![tick(); 20]));
@@ -298,6 +304,69 @@ fn a_list_starts_at_open_and_ends_at_a_write_from_outside() {
     assert_eq!(watch(silent, &list), []);
     list.remove(3);
     assert_eq!(watch(silent, &list).len(), 1);
+}
+
+#[test]
+fn an_entry_counts_its_cost_for_the_disk_and_the_class() {
+    // Six entries are five depths and a rate, where the depth is the cost.
+    for (size, cost) in COSTS {
+        for (rate, broken) in [(1000 * cost, vec![]), (1000 * cost - 1, vec![0, 1])] {
+            let mut told = Told::new(rate, cost);
+            told.accepted(Call::Join(class(1, 0, FIXED, 10_000, cost)));
+            told.tick(&[[5, 0, size, 1]; 6]);
+            let found: Vec<usize> = told.found().into_iter().map(|(_, node, _)| node).collect();
+            assert_eq!(found, broken, "{size}");
+        }
+    }
+}
+
+#[test]
+fn an_entry_counts_its_cost_for_the_client() {
+    // The depth is the cost. Twice three quarters of it less one entry is half
+    // of it, and the last tick brings the other half, or a grain less.
+    for (size, cost) in COSTS {
+        for (last, broken) in [(500 * cost, 1), (500 * cost - 1, 0)] {
+            let mut told = Told::new(750 * cost, cost);
+            told.accepted(Call::Join(client(5, 0, WEIGHTED, 1, cost)));
+            (0..2).for_each(|_| told.accepted(request(5, size)));
+            told.tick(&[]);
+            told.tick(&[[5, 0, size, 5]]);
+            told.accepted(Call::ChangeRate { rate: last });
+            assert_eq!(told.found(), [], "{size}");
+            told.tick(&[]);
+            let found = [(Promise::Client, 5, 3..7)];
+            assert_eq!(told.found(), found[..broken], "{size}");
+        }
+    }
+}
+
+#[test]
+fn an_entry_of_the_largest_size_counts() {
+    let mut told = Told::new(MAX_RATE, MAX_DEPTH);
+    told.tick(&[[5, 0, i64::MAX, 5], [0, 0, i64::MAX, 0]]);
+    assert_eq!(told.found(), [(Promise::Disk, 0, 0..1)]);
+}
+
+#[test]
+fn counting_sizes_raises_a_false_alarm() {
+    // The right engine dispatches seven of size 1 in two ticks of 28 tokens. By
+    // their sizes they are 7 tokens, and the client would lag by far more than
+    // its depth of 8.
+    let steps = scenario(Fault::ChargesSize);
+    assert_eq!(watch(&mut Engine, &steps), []);
+    assert_eq!(all_pairs(&mut Engine, &steps, cost_of), Ends::new());
+    assert!(all_pairs(&mut Engine, &steps, |size| size).contains_key(&1));
+}
+
+#[test]
+fn counting_sizes_misses_a_broken_promise() {
+    // Eight of size 1 at each tick cost 64 tokens, where 28 may be, and by their
+    // sizes they are 8.
+    let steps = scenario(Fault::ChargesSize);
+    let charges_size = &mut Faulty::new(Fault::ChargesSize);
+    assert!(watch(charges_size, &steps).iter().any(|found| found.promise == Promise::Disk));
+    assert!(all_pairs(charges_size, &steps, cost_of).contains_key(&0));
+    assert!(!all_pairs(charges_size, &steps, |size| size).contains_key(&0));
 }
 
 #[test]
@@ -337,13 +406,15 @@ type Ends = BTreeMap<usize, usize>;
 #[test]
 fn running_extremes_find_what_all_pairs_find() {
     let mut loud = 0;
-    for fault in LOUD.map(|(fault, _)| fault).into_iter().chain([Fault::None]) {
-        let mut runs: Vec<Vec<Step>> = (0..8).map(|seed| run(seed, 110, Profile::Clean)).collect();
+    let faults = LOUD.map(|(fault, _)| fault).into_iter().chain([Fault::None]);
+    for (seed, fault) in (0..).step_by(4).zip(faults) {
+        let seeds = seed..seed + 4;
+        let mut runs: Vec<Vec<Step>> = seeds.map(|seed| run(seed, 110, Profile::Clean)).collect();
         runs.push(scenario(fault));
         for mut steps in runs {
             steps.truncate(150);
             let quick = earliest(&watch(&mut Faulty::new(fault), &steps));
-            assert_eq!(quick, all_pairs(&mut Faulty::new(fault), &steps), "{fault:?}");
+            assert_eq!(quick, all_pairs(&mut Faulty::new(fault), &steps, cost_of), "{fault:?}");
             loud += quick.len();
         }
     }
@@ -370,10 +441,13 @@ struct Moment {
     left: Option<usize>,
 }
 
+/// What an entry of that size counts, in tokens.
+type Count = fn(i64) -> i64;
+
 /// The promises over all pairs of a start and an end, straight from the words
 /// of document 01.
-fn all_pairs(controller: &mut dyn Controller, steps: &[Step]) -> Ends {
-    let moments = history(controller, steps);
+fn all_pairs(controller: &mut dyn Controller, steps: &[Step], count: Count) -> Ends {
+    let moments = history(controller, steps, count);
     let mut ends = Ends::new();
     for end in 0..moments.len() {
         for start in 0..=end {
@@ -403,7 +477,7 @@ fn is_broken(before: &Moment, calls: &[Moment], node: usize, new: &NewNode) -> b
     }
 }
 
-fn history(controller: &mut dyn Controller, steps: &[Step]) -> Vec<Moment> {
+fn history(controller: &mut dyn Controller, steps: &[Step], count: Count) -> Vec<Moment> {
     let mut world = World::default();
     let mut moments: Vec<Moment> = Vec::new();
     controller.start();
@@ -416,14 +490,20 @@ fn history(controller: &mut dyn Controller, steps: &[Step]) -> Vec<Moment> {
                 moments = vec![Moment { tree, disk_rate: rate, ..Moment::default() }];
             }
         } else if let Some(last) = moments.last() {
-            let next = next_moment(last, call, reply, world.list.inner());
+            let next = next_moment(last, call, reply, world.list.inner(), count);
             moments.push(next);
         }
     }
     moments
 }
 
-fn next_moment(last: &Moment, call: &Call, reply: Option<Reply>, list: &[i64]) -> Moment {
+fn next_moment(
+    last: &Moment,
+    call: &Call,
+    reply: Option<Reply>,
+    list: &[i64],
+    count: Count,
+) -> Moment {
     let mut next = Moment {
         tree: last.tree.clone(),
         disk_rate: last.disk_rate,
@@ -452,7 +532,7 @@ fn next_moment(last: &Moment, call: &Call, reply: Option<Reply>, list: &[i64]) -
         Call::Tick { .. } => {
             next.rates = last.tree.keys().map(|&node| (node, rate_of(last, node))).collect();
             for entry in list.chunks(4).take(answer as usize) {
-                let (client, grains) = (entry[0] as usize, entry[2] * 1000);
+                let (client, grains) = (entry[0] as usize, count(entry[2]) * 1000);
                 *next.dispatched.entry(client).or_insert(0) += grains;
                 *next.open_requests.get_mut(&client).unwrap() -= 1;
                 *next.charged.entry(0).or_insert(0) += grains;

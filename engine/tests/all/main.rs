@@ -1,5 +1,6 @@
 //! All tests, by subject.
 
+mod costs;
 mod edges;
 mod faults;
 mod judging;

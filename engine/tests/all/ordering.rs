@@ -4,21 +4,22 @@ use std::collections::BTreeSet;
 
 use crate::support::*;
 use hds_engine::damage::{any, failing, isolated};
-use hds_engine::order::{in_order, CLAUSES};
+use hds_engine::order::{in_order, CLAUSES, SIZES_CLAUSE};
 use hds_engine::random::{run, Profile, Rng};
 use hds_engine::refusal::NOT_IN_ORDER;
-use hds_engine::steps::World;
+use hds_engine::steps::{Step, World};
 use hds_engine::table::*;
 use hds_engine::{Controller, Engine};
 
-/// Class 1 with clients 2 and 3, class 4 alone; three requests wait.
+/// Class 1 with clients 2 and 3, class 4 alone; three requests wait, whose costs
+/// are 20, 30 and 13.
 fn sound() -> Disk {
     let mut disk = Disk::open(1000, 100);
     disk.join(class(1, 0, FIXED, 5000, 50)).unwrap();
     disk.join(client(2, 1, FIXED, 6000, 20)).unwrap();
     disk.join(client(3, 1, WEIGHTED, 6, 30)).unwrap();
     disk.join(class(4, 0, WEIGHTED, 1, 50)).unwrap();
-    for (client, size) in [(2, 20), (3, 30), (2, 9)] {
+    for (client, size) in [(2, 16), (3, 26), (2, 9)] {
         disk.request(client, 7, size).unwrap();
     }
     disk
@@ -190,9 +191,15 @@ fn balances() {
 fn waiting_requests() {
     let size = QUEUE + 1;
     let arrival = QUEUE + 2;
-    assert!(!holds(&[(2, size, 0)]));
-    assert!(!holds(&[(2, size, 21)]));
-    assert!(holds(&[(2, size, 1)]));
+    // Client 2 has depth 20, and the requests behind the oldest count as well.
+    for place in [size, size + QUEUE_STEP] {
+        for right in [1, 7, 8, 15, 16] {
+            assert!(holds(&[(2, place, right)]), "{right}");
+        }
+        for wrong in [i64::MIN, -1, 0, 17, 20, 21, 64, 512, i64::MAX - 15, i64::MAX] {
+            assert!(!holds(&[(2, place, wrong)]), "{wrong}");
+        }
+    }
     assert!(!holds(&[(2, WAITING, 1)]));
     assert!(!holds(&[(2, WAITING, 3)]));
     assert!(!holds(&[(2, WAITING, 9)]));
@@ -203,6 +210,24 @@ fn waiting_requests() {
     assert!(!holds(&[(2, arrival, 3), (2, arrival + 3, 1)]));
     assert!(!holds(&[(2, arrival + 3, 4)]));
     assert!(holds(&[(2, arrival, 2), (3, arrival, 1)]));
+}
+
+#[test]
+fn waiting_sizes_go_by_their_cost() {
+    for (size, cost) in COSTS {
+        for (depth, right) in [(cost - 1, false), (cost, true)] {
+            let mut disk = Disk::open(1, MAX_DEPTH);
+            disk.join(client(5, 0, WEIGHTED, 1, depth)).unwrap();
+            // A request as the table would hold it.
+            disk.table[ACCEPTED] = 1;
+            disk.poke(5, WAITING, 1);
+            disk.poke(5, QUEUE + 1, size);
+            disk.poke(5, QUEUE + 2, 1);
+            assert_eq!(in_order(&disk.table), right, "size {size} at depth {depth}");
+            let sizes_alone: &[usize] = if right { &[] } else { &[SIZES_CLAUSE] };
+            assert_eq!(failing(&disk.table), sizes_alone);
+        }
+    }
 }
 
 #[test]
@@ -245,6 +270,34 @@ fn no_clause_panics_on_any_contents() {
         failing(&[number; TABLE_LEN]);
         assert!(!in_order(&[number; TABLE_LEN]));
     }
+}
+
+#[test]
+fn damage_meets_the_limits_of_waiting_sizes() {
+    // Client 2 has depth 20, which a size of 16 costs, and client 3 depth 30,
+    // which 26 costs. Both are full, so that a depth one less is one too low.
+    let mut rng = Rng::new(4);
+    let table = sound().table;
+    let mut seen = BTreeSet::new();
+    for _ in 0..5000 {
+        for step in any(&mut rng, &table) {
+            if let Step::Poke { place, value } = step {
+                seen.insert((place, value));
+            }
+        }
+    }
+    for (client, depth, largest) in [(2, 20, 16), (3, 30, 26)] {
+        let around = [largest - 1, largest + 1, depth, depth + 1];
+        let ends = [1, 7, 8, 63, 64, 511, 512];
+        let never = [i64::MIN, -1, 0, i64::MAX - 15, i64::MAX];
+        for size in around.into_iter().chain(ends).chain(never) {
+            assert!(seen.contains(&(at(client, QUEUE + 1), size)), "client {client}, size {size}");
+        }
+        assert!(seen.contains(&(at(client, DEPTH), depth - 1)));
+    }
+    // The second of client 2 has size 9.
+    assert!(seen.contains(&(at(2, QUEUE + QUEUE_STEP + 1), 16)));
+    assert!(seen.contains(&(at(2, QUEUE + QUEUE_STEP + 1), 17)));
 }
 
 #[test]

@@ -127,7 +127,7 @@ fn a_table_out_of_order_comes_first() {
     ];
     // One request waits, and the plan of five nodes has 9 + 11 × 5 bytes.
     let mut disk = deep();
-    disk.request(4, 0, 20).unwrap();
+    disk.request(4, 0, 16).unwrap();
     let sound = disk.table;
     let mut damaged = sound.clone();
     damaged[7] = 1;
@@ -218,7 +218,7 @@ fn causes_of_join() {
 #[test]
 fn causes_of_leave() {
     let mut disk = deep();
-    disk.request(4, 0, 20).unwrap();
+    disk.request(4, 0, 16).unwrap();
     first_cause_counts(&disk.table, &OUTSIDE_NODES.map(|node| (&[2, 3][..], leave(node))));
     first_cause_counts(
         &disk.table,
@@ -319,10 +319,11 @@ fn causes_of_change_rate() {
 
 #[test]
 fn causes_of_request() {
-    // Eight wait at client 4; clients 4 and 5 have depth 20.
+    // Eight wait at client 4; clients 4 and 5 have depth 20, which a size of 16
+    // costs.
     let mut disk = deep();
     for _ in 0..8 {
-        disk.request(4, i64::MIN, 20).unwrap();
+        disk.request(4, i64::MIN, 16).unwrap();
     }
     outside_limits(&disk.table, [i64::MIN, -1, 0].map(|size| request(5, size)));
     first_cause_counts(&disk.table, &OUTSIDE_NODES.map(|node| (&[2, 3][..], request(node, 1))));
@@ -337,12 +338,18 @@ fn causes_of_request() {
             (&[3], request(60, i64::MAX)),
             (&[5], request(3, 1)),
             (&[5], request(0, i64::MAX)),
+            (&[8], request(5, 17)),
+            (&[8], request(5, 20)),
             (&[8], request(5, 21)),
+            (&[8], request(5, 512)),
+            (&[8], request(5, i64::MAX - 16)),
+            (&[8], request(5, i64::MAX - 15)),
             (&[8], request(5, i64::MAX)),
-            (&[8, 11], request(4, 21)),
-            (&[11], request(4, 20)),
+            (&[8, 11], request(4, 17)),
+            (&[8, 11], request(4, i64::MAX)),
+            (&[11], request(4, 16)),
             (&[11], request(4, 1)),
-            (&[], request(5, 20)),
+            (&[], request(5, 16)),
             (&[], request(5, 1)),
         ],
     );
@@ -356,23 +363,24 @@ fn causes_of_request() {
             (&[2, 11, 12], request(4, 0)),
             (&[3, 12], request(60, 1)),
             (&[5, 12], request(3, 1)),
-            (&[8, 12], request(5, 21)),
-            (&[8, 11, 12], request(4, 21)),
-            (&[11, 12], request(4, 20)),
-            (&[12], request(5, 20)),
+            (&[8, 12], request(5, 17)),
+            (&[8, 12], request(5, i64::MAX)),
+            (&[8, 11, 12], request(4, 17)),
+            (&[11, 12], request(4, 16)),
+            (&[12], request(5, 16)),
         ],
     );
     disk.table[ACCEPTED] = MAX_ACCEPTED - 1;
-    assert_eq!(disk.request(5, i64::MAX, 20), Ok(MAX_ACCEPTED));
-    assert_eq!(disk.request(5, 0, 20), Err(12));
+    assert_eq!(disk.request(5, i64::MAX, 16), Ok(MAX_ACCEPTED));
+    assert_eq!(disk.request(5, 0, 16), Err(12));
 }
 
 #[test]
 fn causes_of_tick() {
     let mut disk = deep();
     first_cause_counts(&disk.table, &[(&[], tick_with(0)), (&[], tick_with(1))]);
-    disk.request(4, 0, 20).unwrap();
-    disk.request(5, 0, 20).unwrap();
+    disk.request(4, 0, 16).unwrap();
+    disk.request(5, 0, 16).unwrap();
     first_cause_counts(
         &disk.table,
         &[(&[13], tick_with(0)), (&[13], tick_with(7)), (&[], tick_with(8)), (&[], tick_with(9))],
@@ -387,7 +395,7 @@ fn causes_of_look() {
     first_cause_counts(&disk.table, &OUTSIDE_NODES.map(|node| (&[2, 3][..], look(node))));
     first_cause_counts(&disk.table, &[(&[3], look(60)), (&[3], look(6)), (&[3], look(63))]);
     assert_eq!(disk.look(0), Ok([1000, 0, 0]));
-    disk.request(4, 0, 20).unwrap();
+    disk.request(4, 0, 16).unwrap();
     assert_eq!(disk.tick(), Vec::<Entry>::new());
     assert_eq!(disk.look(4), Ok([62, 62, 1]));
 }

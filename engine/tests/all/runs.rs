@@ -1,6 +1,6 @@
 //! Random runs: the engine against itself, and what the runs reach.
 
-use std::collections::BTreeSet;
+use std::collections::{BTreeMap, BTreeSet};
 
 use crate::support::*;
 use hds_engine::differential::{differential, differential_runs, first_difference, shorten};
@@ -122,6 +122,83 @@ fn clean_runs_reach_deep_trees_and_every_supplier() {
         most_nodes > 55 && most_waiting > 100 && lowest < -1000,
         "{most_nodes} {most_waiting} {lowest}"
     );
+}
+
+/// How often something happened to requests of a size.
+type Counts = BTreeMap<i64, usize>;
+
+/// What the requests of some runs met.
+#[derive(Debug, Default)]
+struct Met {
+    accepted: Counts,
+    dispatched: Counts,
+    /// Accepted with a cost of just the depth, and refused with 8: with a cost
+    /// one above it, the size itself being the depth, and at the largest size.
+    just_fits: usize,
+    one_above: usize,
+    size_is_depth: usize,
+    largest: usize,
+}
+
+impl Met {
+    fn request(&mut self, depth: i64, size: i64, answer: i64) {
+        let cost = if size > MAX_DEPTH { size } else { cost_of(size) };
+        match answer {
+            0 => {
+                *self.accepted.entry(size).or_default() += 1;
+                self.just_fits += usize::from(cost == depth);
+            }
+            8 => {
+                self.one_above += usize::from(cost == depth + 1);
+                self.size_is_depth += usize::from(size == depth);
+                self.largest += usize::from(size == i64::MAX);
+            }
+            _ => {}
+        }
+    }
+
+    fn tick(&mut self, entries: &[i64]) {
+        for entry in entries.chunks(4) {
+            *self.dispatched.entry(entry[2]).or_default() += 1;
+        }
+    }
+}
+
+fn met_in_runs(profile: Profile) -> Met {
+    let mut met = Met::default();
+    for seed in 0..40 {
+        let mut world = World::default();
+        for step in run(seed, 500, profile) {
+            let before = world.table.inner().to_vec();
+            let reply = world.run(&mut Engine, &step);
+            match (&step, reply) {
+                (Step::Call(call @ Call::Request { client, size, .. }), Some(reply)) => {
+                    let answer = refusal(call, reply);
+                    if answer == 0 || answer == 8 {
+                        met.request(get(&before, *client as usize, DEPTH), *size, answer);
+                    }
+                }
+                (Step::Call(Call::Tick { .. }), Some(Reply::Number(count))) => {
+                    met.tick(&world.list.inner()[..4 * count as usize]);
+                }
+                _ => {}
+            }
+        }
+    }
+    met
+}
+
+#[test]
+fn runs_meet_every_end_of_the_ranges_of_cost() {
+    for (profile, least) in [(Profile::Clean, 15), (Profile::Wild, 5)] {
+        let met = met_in_runs(profile);
+        for end in [1, 7, 8, 63, 64, 511, 512] {
+            let counts = [&met.accepted, &met.dispatched].map(|counts| counts.get(&end));
+            assert!(counts.into_iter().all(|count| count >= Some(&least)), "{end}: {counts:?}");
+        }
+        assert!(met.just_fits > 10 * least && met.one_above > least, "{met:?}");
+        assert!(met.size_is_depth > least && met.largest > least, "{met:?}");
+    }
 }
 
 #[test]

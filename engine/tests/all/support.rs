@@ -213,6 +213,25 @@ pub fn refusal(call: &Call, reply: Reply) -> i64 {
     }
 }
 
+/// Sizes with their costs: the ends of every range, and the largest size that
+/// any client may ask for.
+pub const COSTS: [(i64, i64); 8] =
+    [(1, 8), (7, 8), (8, 12), (63, 67), (64, 72), (511, 519), (512, 528), (999_984, 1_000_000)];
+
+/// The cost of a size from 1 on, as what it adds to the size.
+pub fn cost_of(size: i64) -> i64 {
+    let added = if size < 8 {
+        8 - size
+    } else if size < 64 {
+        4
+    } else if size < 512 {
+        8
+    } else {
+        16
+    };
+    size + added
+}
+
 /// Calls as steps.
 pub fn steps(calls: &[Call]) -> Vec<Step> {
     calls.iter().cloned().map(Step::Call).collect()

@@ -46,7 +46,7 @@ small : (c : tie.After-natural) → c .natural .result ≤ greatestDepth
 small c = let s = start c in omega (arith, size-at (s .args .table .now) (s .pre .0) (s .args .k) (s .pre .1))
 
 amount-is : (c : tie.After-grains) → c .grains .result ≡ grains (size (start (sized (c .before)) .args .table .now) (start (sized (c .before)) .args .k) 0)
-unfolding size
+unfolding size grains
 amount-is c = c .grains .ensures ∙ ap grains (sized (c .before) .natural .ensures)
 
 add-get : tie.Need-add-get

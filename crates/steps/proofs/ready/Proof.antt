@@ -15,7 +15,7 @@ start c = c .before .before .before .before
 
 -- The amount is that of the oldest request.
 amount-is : (c : tie.After-grains) → c .grains .result ≡ grains (size (start c .args .table .now) (start c .args .k) 0)
-unfolding size
+unfolding size grains
 amount-is c = c .grains .ensures ∙ ap grains (c .before .natural2 .ensures)
 
 natural-requires : tie.Need-natural-requires

@@ -40,7 +40,7 @@ natural-requires-2 c κs = (c .before .before .pre .0 .long, c .before .before .
 
 -- The amount is that of the oldest request.
 amount-is : (c : tie.After-grains Inv-loop μ-loop) → c .grains .result ≡ grains (size (c .before .before .args .table .now) (c .before .before .args .k) 0)
-unfolding size
+unfolding size grains
 amount-is c = c .grains .ensures ∙ ap grains (c .before .natural .ensures)
 
 loop-holds : tie.Need-loop-holds Inv-loop μ-loop
