@@ -18,6 +18,8 @@
 #define TABLE table, HDS_TABLE_LENGTH
 #define LIST list, HDS_LONGEST_LIST
 #define HIGHEST_TAG INT64_MAX
+#define CLIENT_DEPTH 1000
+#define LARGEST_SIZE 984 /* costs a client's whole depth */
 
 static int64_t table[HDS_TABLE_LENGTH], other[HDS_TABLE_LENGTH], list[HDS_LONGEST_LIST], seen[HDS_SEEN_LENGTH];
 static uint8_t plan[HDS_LONGEST_PLAN], longest[HDS_LONGEST_PLAN];
@@ -58,10 +60,10 @@ static void grow(int64_t last, int waiting)
     for (int64_t node = 1; node <= 3; node++)
         hds_join_class(TABLE, node, node - 1, hds_fixed(5000), HDS_GREATEST_DEPTH - 100000 * node);
     for (int64_t node = 4; node <= last; node++)
-        hds_join_client(TABLE, node, node % 4, hds_weighted(node), 1000);
+        hds_join_client(TABLE, node, node % 4, hds_weighted(node), CLIENT_DEPTH);
     for (int i = 0; i < waiting; i++)
         for (int64_t node = 4; node <= last; node++)
-            hds_request(TABLE, node, HIGHEST_TAG, 1000);
+            hds_request(TABLE, node, HIGHEST_TAG, LARGEST_SIZE);
 }
 
 static void nothing(void)
@@ -105,7 +107,7 @@ static int64_t open_call(void)
 
 static int64_t join_call(void)
 {
-    return hds_join(TABLE, HDS_LAST_NODE, 3, HDS_CLIENT, HDS_WEIGHTED, 1, 1000);
+    return hds_join(TABLE, HDS_LAST_NODE, 3, HDS_CLIENT, HDS_WEIGHTED, 1, CLIENT_DEPTH);
 }
 
 static int64_t leave_call(void)
@@ -125,7 +127,7 @@ static int64_t change_rate_call(void)
 
 static int64_t request_call(void)
 {
-    return hds_request(TABLE, HDS_LAST_NODE - 1, HIGHEST_TAG, 1000);
+    return hds_request(TABLE, HDS_LAST_NODE - 1, HIGHEST_TAG, LARGEST_SIZE);
 }
 
 static int64_t tick_call(void)

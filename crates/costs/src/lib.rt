@@ -31,8 +31,7 @@ pub fn grains(size: u64) -> u64
     Table::grains(cost(size))
 }
 
-// Whether a request of this size costs more than a depth. A size above the depth does, and one that is below it by what a
-// cost adds at most does not, whatever their ranges; so the cost is found only between the two.
+// Whether a request of this size costs more than a depth. A size above the depth does, whatever its range.
 pub fn above(size: u64, depth: u64) -> bool
     requires { ⌜ depth ≤ greatestDepth ⌝ }
     ensures { λ r. ⌜ r ≡ ltb depth (cost size) ⌝ }
@@ -40,19 +39,21 @@ pub fn above(size: u64, depth: u64) -> bool
     if depth < size {
         return true;
     }
-    if size + MOST_ADDED <= depth {
-        return false;
-    }
     let cost = cost(size);
     depth < cost
 }
 
-// Whether a request of this size may wait at a client of this depth.
+// Whether a request of this size may wait at a client of this depth. A size that is below the depth by what a cost adds at
+// most may, whatever its range.
 pub fn within(size: i64, depth: u64) -> bool
     requires { ⌜ depth ≤ greatestDepth ⌝ }
     ensures { λ r. ⌜ r ≡ sizeWithin depth size ⌝ }
 {
     let tokens = numbers::natural(size);
+    let least = 1 <= tokens;
+    if tokens + MOST_ADDED <= depth {
+        return least;
+    }
     let above = above(tokens, depth);
-    (1 <= tokens) & !above
+    least & !above
 }

@@ -51,10 +51,10 @@ fn request_in_order(table: &[i64], k: usize, i: usize) -> bool
     let place = Table::QUEUE + Table::REQUEST * i;
     let size = Table::get(table, k, place + Table::SIZE);
     let depth = Table::natural(table, k, Table::DEPTH);
-    let size = costs::within(size, depth);
+    let fits = costs::within(size, depth);
     let number = places::place_within(table, k, place + Table::ARRIVAL, 1, Table::count(table));
     let rising = rising(table, k, i);
-    size & number & rising
+    fits & number & rising
 }
 
 // Whether every request of node k is in order.

@@ -1,9 +1,8 @@
--- `costs::above` meets its contract. The first two tests change no verdict, since a cost is above its size by a few tokens at
--- most.
+-- `costs::above` meets its contract. The first test changes no verdict, since a cost is above its size.
 use mathlib.Core.Path.{sym, ap}
 use native.Mathlib.Omega.{arith}
 use borrow.Author.Needs.{needs}
-use borrow.Author.Tests.{lt-ltb, le-ltb}
+use borrow.Author.Tests.{lt-ltb}
 use lib.Dec.{ltb}
 use Rattle.table.specs.Cost.{cost}
 use Rattle.table.proofs.Cost.{cost-bounds}
@@ -13,19 +12,11 @@ use Rattle.costs.proofs.above.Tie as tie
 returns : tie.Need-returns
 returns c = let a = c .before .args in sym (lt-ltb (a .depth) (cost (a .size)) (omega (arith, cost-bounds (a .size))))
 
-add-if2 : tie.Need-add-if2
-add-if2 c = search needs
-
-returns-2 : tie.Need-returns-2
-returns-2 c =
-    let a = c .before .before .args in
-    sym (le-ltb (a .depth) (cost (a .size)) (omega (arith, cost-bounds (a .size))))
-
 cost-requires : tie.Need-cost-requires
 cost-requires c κs = search needs
 
-returns-3 : tie.Need-returns-3
-returns-3 c = ap (ltb (c .before .before .before .args .depth)) (c .cost .ensures)
+returns-2 : tie.Need-returns-2
+returns-2 c = ap (ltb (c .before .before .args .depth)) (c .cost .ensures)
 
 pub above-spec : {M : Type 1} → statement M
-above-spec = tie.close (tie.spec returns add-if2 returns-2 cost-requires returns-3)
+above-spec = tie.close (tie.spec returns cost-requires returns-2)
