@@ -74,9 +74,10 @@ int main(void)
 {
     static int64_t before[HDS_TABLE_LENGTH];
 
-    /* The disk: 8000 grains a tick, 72 tokens. Suite 1 has half of it; its streams 2 and 3 share that by weight. */
     look(0);
     plans();
+
+    /* The disk: 8000 grains a tick, depth 72. Suite 1 has half of it; its streams 2 and 3 share that by weight. */
     answer("open", hds_open(TABLE, 8000, 72));
     answer("join suite 1", hds_join_class(TABLE, 1, 0, hds_fixed(5000), 40));
     answer("join stream 2", hds_join_client(TABLE, 2, 1, hds_weighted(3), 16));
@@ -87,7 +88,7 @@ int main(void)
     for (int64_t node = 0; node <= 5; node++)
         look(node);
 
-    /* Stream 2 asks for 1, the backup for 7, stream 3 for 12. At depth 16 a request of 13 costs too much. */
+    /* Stream 2 asks for 1, the backup for 7, stream 3 for 12; these cost 8, 8 and 16. At depth 16, 13 costs too much. */
     answer("cost of 1", hds_cost(1));
     answer("cost of 7", hds_cost(7));
     answer("cost of 12", hds_cost(12));

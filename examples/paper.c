@@ -27,7 +27,7 @@ enum {
     TOKENS_PER_MB = 1000,
     TICKS_PER_SECOND = 200,
     REQUEST_TOKENS = 16,
-    REQUEST_COST = REQUEST_TOKENS + 4,
+    REQUEST_COST = HDS_COST(REQUEST_TOKENS),
     QUEUE_TOKENS = HDS_MOST_WAITING * REQUEST_TOKENS,
     QUEUE_COST = HDS_MOST_WAITING * REQUEST_COST,
     DISK_RATE = DISK_MB_PER_SECOND * TOKENS_PER_MB * HDS_GRAIN_SCALE / TICKS_PER_SECOND / REQUEST_TOKENS * REQUEST_COST,
@@ -270,10 +270,6 @@ static void run(const struct experiment *experiment)
 
 int main(void)
 {
-    if (hds_cost(REQUEST_TOKENS) != REQUEST_COST) {
-        fprintf(stderr, "a request of %d tokens does not cost %d\n", REQUEST_TOKENS, REQUEST_COST);
-        return EXIT_FAILURE;
-    }
     for (size_t i = 0; i < sizeof experiments / sizeof experiments[0]; i++) {
         if (i > 0)
             printf("\n");

@@ -25,7 +25,8 @@
  * holds no pointers, and the calls keep nothing outside it: a copy of it is a table like the first.
  *   In memory    an array of int64_t, aligned to 8 bytes.
  *   On disk      its HDS_TABLE_BYTES bytes as they are, each number low byte first. There is no checksum: the calls
- *                test that a table is in order, not that it is the one that was stored.
+ *                test that a table is in order, not that it is the one that was stored, nor by which version. Keep a
+ *                checksum and HDS_VERSION_MAJOR beside it.
  *   One writer   While a call that may write a table runs, no other call on that table may. Calls that only read it
  *                (look, same, plan write) may run side by side, and so may calls on different buffers. An interrupt
  *                or signal handler counts as another thread.
@@ -89,6 +90,16 @@ extern "C" {
 
 /* Grains in a token. */
 #define HDS_GRAIN_SCALE 1000
+
+/* The cost of the smallest request, and the size of the largest, which costs HDS_GREATEST_DEPTH; in tokens. */
+#define HDS_LEAST_COST 8
+#define HDS_GREATEST_SIZE 999984
+
+/*
+ * What a request of a size of 1 to HDS_GREATEST_SIZE costs, in tokens: a constant where the size is one. Sizes up to 7
+ * cost 8, up to 63 size + 4, up to 511 size + 8, larger ones size + 16. hds_cost, below, takes any size.
+ */
+#define HDS_COST(size) ((size) <= 7 ? 8 : (size) <= 63 ? (size) + 4 : (size) <= 511 ? (size) + 8 : (size) + 16)
 
 /*
  * Where things stand, for one who reads a table: table[HDS_PLACE(node, HDS_RATE_AT)] is a node's rate, and
@@ -233,7 +244,8 @@ int64_t hds_open(int64_t *table, size_t table_length, int64_t rate, int64_t dept
 
 /*
  * Joins a node, 1 to 63, under a class, with balance 0: an hds_sort, an hds_kind, share 1 to 10,000 (ten-thousandths
- * of the class's rate where fixed, else a weight), depth 1 to 1,000,000. Renews all rates. Answers 0. With
+ * of the class's rate where fixed, else a weight), depth 1 to 1,000,000. Renews all rates. Answers 0. A client's depth
+ * is at least the cost of its largest request: with less than HDS_LEAST_COST it joins and can never ask. With
  * hds_join_class and hds_join_client, below, a compiler tells sort, kind and share apart. Refused:
  *   HDS_NOT_IN_ORDER      the table
  *   HDS_OUTSIDE_LIMITS    node, parent, sort, kind, share or depth
@@ -276,8 +288,8 @@ int64_t hds_change_share(int64_t *table, size_t table_length, int64_t node, int6
 int64_t hds_change_rate(int64_t *table, size_t table_length, int64_t rate);
 
 /*
- * A request of a client, with any tag and a size whose cost, below, is at most its depth: a client of a depth below
- * HDS_LEAST_COST can never ask. Answers its arrival number, 1 or more. Refused:
+ * A request of a client, with any tag and a size of 1 or more whose cost is at most the client's depth. Answers its
+ * arrival number, 1 or more. Refused:
  *   HDS_NOT_IN_ORDER      the table
  *   HDS_OUTSIDE_LIMITS    client not 0 to 63, or size below 1
  *   HDS_NOT_THERE         no node has this number
@@ -339,25 +351,14 @@ int64_t hds_plan_write(const int64_t *table, size_t table_length, uint8_t *buffe
  */
 uint32_t hds_plan_check(const uint8_t *plan, size_t plan_length);
 
-/* The cost of the smallest request, in tokens. */
-#define HDS_LEAST_COST 8
-
 /*
- * What a request of this size costs, in tokens: it is charged 1000 grains for each. Sizes of 1 to 7 cost 8, of 8 to 63
- * size + 4, of 64 to 511 size + 8, larger ones size + 16. For a size that no request has, below 1 or above
- * HDS_GREATEST_DEPTH, INT64_MAX, which no depth reaches.
+ * What a request of this size costs, in tokens; it is charged HDS_GRAIN_SCALE grains for each. For a size that no
+ * request can have, below 1 or above HDS_GREATEST_SIZE, INT64_MAX, which no depth reaches: compare a cost with a depth
+ * before you multiply it.
  */
 static inline int64_t hds_cost(int64_t size)
 {
-    if (size < 1 || size > HDS_GREATEST_DEPTH)
-        return INT64_MAX;
-    if (size <= 7)
-        return HDS_LEAST_COST;
-    if (size <= 63)
-        return size + 4;
-    if (size <= 511)
-        return size + 8;
-    return size + 16;
+    return size < 1 || size > HDS_GREATEST_SIZE ? INT64_MAX : HDS_COST(size);
 }
 
 /* Checks a plan as hds_plan_check does, and answers as all other calls do: 0 or the negated number. */

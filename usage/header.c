@@ -90,7 +90,7 @@ static int64_t charged(int64_t size)
 static void costs(void)
 {
     static const int64_t ends[][2] = {{1, 8}, {7, 8}, {8, 12}, {63, 67}, {64, 72}, {511, 519}, {512, 528}};
-    static const int64_t none[] = {INT64_MIN, -1, 0, HDS_GREATEST_DEPTH + 1, INT64_MAX};
+    static const int64_t none[] = {INT64_MIN, -1, 0, HDS_GREATEST_SIZE + 1, INT64_MAX};
 
     for (size_t i = 0; i < sizeof ends / sizeof *ends; i++)
         check(hds_cost(ends[i][0]) == ends[i][1], "hds_cost at the end of a range");
@@ -105,6 +105,9 @@ static void costs(void)
     check(judged, "hds_cost is what a depth is compared with");
     check(paid, "hds_cost is what is charged");
     check(hds_cost(1) == HDS_LEAST_COST, "HDS_LEAST_COST");
+    check(hds_cost(HDS_GREATEST_SIZE) == HDS_GREATEST_DEPTH, "HDS_GREATEST_SIZE");
+    check(asked(HDS_GREATEST_SIZE, HDS_GREATEST_DEPTH) == 1, "the largest request");
+    check(asked(HDS_GREATEST_SIZE + 1, HDS_GREATEST_DEPTH) == -HDS_DEPTH_ABOVE, "a larger request");
 }
 
 static void plan_judge(void)
