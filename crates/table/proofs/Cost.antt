@@ -40,10 +40,6 @@ module _ (n : ℕ) where
       (λ j. omega (arith, cost-above-511 (leb-false n 511 j)))))
 
 module _ (depth : ℕ) (size : ℤ) where
-  pub least-size : sizeWithin depth size ≡ true → leZ (pos 1) size ≡ true
-  unfolding sizeWithin
-  least-size h = head-holds _ _ h
-
   pub most-cost : sizeWithin depth size ≡ true → cost (plus size) ≤ depth
   unfolding sizeWithin
   most-cost h = leb-true (cost (plus size)) depth (head-holds _ _ (rest-hold _ _ h))
