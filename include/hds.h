@@ -326,7 +326,7 @@ int64_t hds_same(const int64_t *first, size_t first_length, const int64_t *secon
 
 /*
  * Reads a plan: opens the table and joins the plan's entries in turn. The table may hold anything before. Answers 0.
- * Refused:
+ * As in join, a client of a depth below HDS_LEAST_COST is accepted and can never ask. Refused:
  *   HDS_NOT_IN_ORDER      the table's length (its contents are not judged)
  *   HDS_PLAN_WRONG        the plan's length, count, an offset or a kind
  *   HDS_OUTSIDE_LIMITS to HDS_DEPTH_ABOVE    as open refuses the disk's rate and depth, then as join refuses the

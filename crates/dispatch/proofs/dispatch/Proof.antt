@@ -45,9 +45,13 @@ list-after list new t n k s m x hx hm e = cc
 small : (c : tie.After-natural) → c .natural .result ≤ greatestDepth
 small c = let s = start c in omega (arith, size-at (s .args .table .now) (s .pre .0) (s .args .k) (s .pre .1))
 
+weighed-is : (c : tie.After-grains) → c .grains .result ≡ grains (sized (c .before) .natural .result)
+unfolding grains
+weighed-is c = c .grains .ensures
+
 amount-is : (c : tie.After-grains) → c .grains .result ≡ grains (size (start (sized (c .before)) .args .table .now) (start (sized (c .before)) .args .k) 0)
-unfolding size grains
-amount-is c = c .grains .ensures ∙ ap grains (sized (c .before) .natural .ensures)
+unfolding size
+amount-is c = weighed-is c ∙ ap grains (sized (c .before) .natural .ensures)
 
 add-get : tie.Need-add-get
 add-get c = search needs
@@ -95,7 +99,7 @@ returns c =
     let weighed = charged c .before in
     let size = sized (weighed .before) .natural .ensures in
     let tagged = sized (weighed .before) .before .before in (
-      table-after _ _ _ _ _ _ _ size (weighed .grains .ensures) (charged c .charge .ensures) (c .before .take-out .ensures),
+      table-after _ _ _ _ _ _ _ size (weighed-is weighed) (charged c .charge .ensures) (c .before .take-out .ensures),
       list-after _ _ _ _ _ _ _ _ (toZ-ofZ w64 _ (sfits-of (tagged .get .ok)) ∙ tagged .get .ensures) size (weighed .before .before .before .write-entry .ensures),
     )
 
