@@ -31,8 +31,8 @@ static void look(int64_t node)
     if (number < 0)
         answer("look", number);
     else
-        printf("node %" PRId64 ": rate %" PRId64 ", balance %" PRId64 ", waiting %" PRId64 "\n", node,
-               seen[HDS_SEEN_RATE], seen[HDS_SEEN_BALANCE], seen[HDS_SEEN_WAITING]);
+        printf("node %" PRId64 ": rate %" PRId64 ", balance %" PRId64 ", waiting %" PRId64 ", lost %" PRId64 "\n", node,
+               seen[HDS_SEEN_RATE], seen[HDS_SEEN_BALANCE], seen[HDS_SEEN_WAITING], seen[HDS_SEEN_LOST]);
 }
 
 static void tick(void)
@@ -104,11 +104,16 @@ int main(void)
     for (int64_t node = 0; node <= 4; node++)
         look(node);
 
-    /* A change of shares is a change of the tree, and changing back undoes it. */
+    /*
+     * A change of shares is a change of the tree, and changing back undoes it. With fixed shares alone the disk loses
+     * what they leave, and what rounding takes off; the suite's streams by weight lose a grain.
+     */
     for (int i = 0; i < HDS_TABLE_LENGTH; i++)
         before[i] = table[i];
     answer("change share of 4", hds_set_share(TABLE, 4, hds_fixed(2000)));
-    answer("change rate", hds_change_rate(TABLE, 16000));
+    answer("change rate", hds_change_rate(TABLE, 16003));
+    look(0);
+    look(1);
     look(4);
     answer("same", hds_same(before, HDS_TABLE_LENGTH, TABLE));
     answer("change share of 4", hds_set_share(TABLE, 4, hds_weighted(1)));

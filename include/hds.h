@@ -26,7 +26,7 @@
  *   In memory    an array of int64_t, aligned to 8 bytes.
  *   On disk      its HDS_TABLE_BYTES bytes as they are, each number low byte first. There is no checksum: the calls
  *                test that a table is in order, not that it is the one that was stored, nor by which version. Keep a
- *                checksum and HDS_VERSION_MAJOR beside it.
+ *                checksum and HDS_VERSION_MAJOR beside it. Versions 2 and 3 have the same tables.
  *   One writer   While a call that may write a table runs, no other call on that table may. Calls that only read it
  *                (look, same, plan write) may run side by side, and so may calls on different buffers. An interrupt
  *                or signal handler counts as another thread.
@@ -62,9 +62,9 @@ extern "C" {
  * The version of this header and of the archives that come with it. The first number rises when what a call takes or
  * answers, or what a table holds, changes; the second when something is added. Nothing compares them at run time.
  */
-#define HDS_VERSION_MAJOR 2
+#define HDS_VERSION_MAJOR 3
 #define HDS_VERSION_MINOR 0
-#define HDS_VERSION "2.0"
+#define HDS_VERSION "3.0"
 
 /* The table: a header, then a record for each node. */
 #define HDS_TABLE_LENGTH 2568
@@ -139,11 +139,12 @@ extern "C" {
 #define HDS_ENTRY_SIZE 2
 #define HDS_ENTRY_SUPPLIER 3
 
-/* What look shows. */
-#define HDS_SEEN_LENGTH 3
+/* What look shows. Lost grains are those of a class's rate that none of its children gets, in grains per tick. */
+#define HDS_SEEN_LENGTH 4
 #define HDS_SEEN_RATE 0
 #define HDS_SEEN_BALANCE 1
 #define HDS_SEEN_WAITING 2
+#define HDS_SEEN_LOST 3
 
 /* Bytes of a plan's head, of an entry and of a body; of the plan of n nodes below the root, and of the longest. */
 #define HDS_PLAN_HEAD 9
@@ -309,8 +310,8 @@ int64_t hds_request(int64_t *table, size_t table_length, int64_t client, int64_t
 int64_t hds_tick(int64_t *table, size_t table_length, int64_t *list, size_t list_length);
 
 /*
- * Shows a node: its rate, its balance and how many of its requests wait, at seen[HDS_SEEN_RATE] and so on. Answers 0.
- * Refused:
+ * Shows a node: its rate, its balance, how many of its requests wait and its lost grains, at seen[HDS_SEEN_RATE] and so
+ * on. A class's lost grains and its children's rates add up to its rate; a client has none. Answers 0. Refused:
  *   HDS_NOT_IN_ORDER      the table
  *   HDS_OUTSIDE_LIMITS    node not 0 to 63
  *   HDS_NOT_THERE         no node has this number

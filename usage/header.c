@@ -1,6 +1,7 @@
 /*
- * What include/hds.h itself computes: names and texts of the refusals, the calls with types of their own beside the plain
- * ones, and costs beside what a request is charged. It is compiled as C and as C++. Prints what fails, then 'N passed, 0 failed'.
+ * What include/hds.h itself says: names and texts of the refusals, the calls with types of their own beside the plain ones, the
+ * places of what look shows, and costs beside what a request is charged. It is compiled as C and as C++. Prints what fails, then
+ * 'N passed, 0 failed'.
  */
 #include <stdio.h>
 #include <string.h>
@@ -110,6 +111,31 @@ static void costs(void)
     check(asked(HDS_GREATEST_SIZE + 1, HDS_GREATEST_DEPTH) == -HDS_DEPTH_ABOVE, "a larger request");
 }
 
+/* Look writes HDS_SEEN_LENGTH numbers and no more, each at its place, and none where it is refused. */
+static void looks(void)
+{
+    static int64_t list[HDS_LONGEST_LIST];
+    int64_t seen[HDS_SEEN_LENGTH + 1];
+
+    hds_open(TABLE, 1000, 40);
+    for (int64_t node = 1; node <= 3; node++)
+        hds_join_client(TABLE, node, HDS_ROOT, hds_weighted(1), 8);
+    hds_request(TABLE, 2, 7, 1);
+    hds_tick(TABLE, list, HDS_LONGEST_LIST);
+    for (int i = 0; i <= HDS_SEEN_LENGTH; i++)
+        seen[i] = -7;
+    check(hds_look(TABLE, 4, seen) == -HDS_NOT_THERE, "a node that is not there");
+    for (int i = 0; i <= HDS_SEEN_LENGTH; i++)
+        check(seen[i] == -7, "a refused look writes nothing");
+    check(hds_look(TABLE, HDS_ROOT, seen) == 0, "look at a class");
+    check(seen[HDS_SEEN_RATE] == 1000 && seen[HDS_SEEN_BALANCE] == 1000, "a class's rate and balance");
+    check(seen[HDS_SEEN_WAITING] == 0 && seen[HDS_SEEN_LOST] == 1, "a class's waiting requests and lost grains");
+    check(hds_look(TABLE, 2, seen) == 0, "look at a client");
+    check(seen[HDS_SEEN_RATE] == 333 && seen[HDS_SEEN_BALANCE] == 333, "a client's rate and balance");
+    check(seen[HDS_SEEN_WAITING] == 1 && seen[HDS_SEEN_LOST] == 0, "a client's waiting requests and lost grains");
+    check(seen[HDS_SEEN_LENGTH] == -7, "look writes no further number");
+}
+
 static void plan_judge(void)
 {
     static uint8_t plan[HDS_LONGEST_PLAN];
@@ -128,6 +154,7 @@ int main(void)
     refusals();
     typed_calls();
     plan_judge();
+    looks();
     costs();
     printf("%d passed, %d failed\n", passed, failed);
     return failed != 0;

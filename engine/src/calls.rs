@@ -4,7 +4,7 @@
 //! before, by [`crate::Engine`]. Each judges its refusals in rising order and
 //! writes nothing before the last of them.
 
-use crate::controller::NewNode;
+use crate::controller::{NewNode, Seen};
 use crate::cost::cost;
 use crate::rates;
 use crate::refusal::*;
@@ -104,11 +104,12 @@ pub(crate) fn request(table: &mut [i64], client: i64, tag: i64, size: i64) -> An
     Ok(arrival)
 }
 
-/// Look: rate, balance and waiting count.
-pub(crate) fn look(table: &[i64], node: i64) -> Answer<[i64; 3]> {
+/// Look.
+pub(crate) fn look(table: &[i64], node: i64) -> Answer<Seen> {
     let node = existing_number(node)?;
     require(is_used(table, node), NOT_THERE)?;
-    Ok([RATE, BALANCE, WAITING].map(|place| get(table, node, place)))
+    let [rate, balance, waiting] = [RATE, BALANCE, WAITING].map(|place| get(table, node, place));
+    Ok([rate, balance, waiting, rates::lost_grains(table, node)])
 }
 
 /// Same: both tables have the same nodes with equal sorts and places 1 to 5,

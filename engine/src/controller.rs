@@ -21,6 +21,10 @@ pub struct NewNode {
     pub depth: i64,
 }
 
+/// What a look answers: rate, balance, waiting count, and the grains nobody
+/// gets.
+pub type Seen = [i64; 4];
+
 /// A disk share controller: one method for each call, over raw buffers.
 ///
 /// Tables are slices of any length with any contents, and arguments are any
@@ -52,8 +56,8 @@ pub trait Controller {
     /// Tick, with a dispatch list: answers how many were dispatched.
     fn tick(&mut self, table: &mut [i64], list: &mut [i64]) -> Answer<i64>;
 
-    /// Look: answers rate, balance and waiting count.
-    fn look(&mut self, table: &[i64], node: i64) -> Answer<[i64; 3]>;
+    /// Look at a node.
+    fn look(&mut self, table: &[i64], node: i64) -> Answer<Seen>;
 
     /// Same: whether two tables have the same tree.
     fn same(&mut self, first: &[i64], second: &[i64]) -> Answer<bool>;
@@ -109,7 +113,7 @@ impl Controller for Engine {
         tick::tick(table, list)
     }
 
-    fn look(&mut self, table: &[i64], node: i64) -> Answer<[i64; 3]> {
+    fn look(&mut self, table: &[i64], node: i64) -> Answer<Seen> {
         order::check(table)?;
         calls::look(table, node)
     }

@@ -1,13 +1,14 @@
 //! Controllers with one known fault each: the paper's slips, the fakes that
-//! document 01 names, misreadings of what a request costs, and some more. The
-//! judge or the differential must object to every one of them.
+//! document 01 names, misreadings of what a request costs and of the grains
+//! nobody gets, and some more. The judge or the differential must object to
+//! every one of them.
 
-use crate::controller::{Controller, Engine, NewNode};
+use crate::controller::{Controller, Engine, NewNode, Seen};
 use crate::damage::failing;
 use crate::plan::{Plan, MAX_COUNT};
 use crate::refusal::*;
 use crate::table::*;
-use crate::{calls, faulty_parts, order, plan, tick};
+use crate::{calls, faulty_parts, order, plan, rates, tick};
 
 /// A fault.
 #[derive(Clone, Copy, Debug, PartialEq, Eq)]
@@ -93,12 +94,45 @@ pub enum Fault {
     OrdersBySize,
     /// Cause 8 and the in-order test let the cost of the largest sizes wrap.
     CostWraps,
+    /// A look answers a wrong number for the grains nobody gets.
+    WrongLost(Lost),
     /// The in-order test lacks the clause of that number.
     LacksClause(usize),
 }
 
+/// Misreadings of the grains nobody gets.
+#[derive(Clone, Copy, Debug, PartialEq, Eq)]
+pub enum Lost {
+    /// The sum is over all nodes below the class.
+    AllBelow,
+    /// The weighted children are not in the sum.
+    WithoutWeighted,
+    /// The fixed children are not in the sum.
+    WithoutFixed,
+    /// The children that are classes are not in the sum.
+    WithoutClasses,
+    /// The sum is of the children's shares.
+    OfShares,
+    /// The sum is of the children's balances.
+    OfBalances,
+    /// A class has 0.
+    ZeroForClass,
+    /// A class without children has 0.
+    ZeroForChildless,
+    /// A client, which has no children, has its rate.
+    RateForClient,
+    /// The root, its own parent, is among its children.
+    RootAmongChildren,
+    /// Where no child is weighted, what the fixed shares leave does not count.
+    WithoutUnclaimed,
+    /// What rounding took off the fixed children does not count.
+    WithoutFixedRounding,
+    /// It is the number from before the last change of the tree.
+    FromBefore,
+}
+
 /// All faults that are no lacking clause.
-pub const FAULTS: [Fault; 45] = [
+pub const FAULTS: [Fault; 58] = [
     Fault::CutsFirst,
     Fault::ChargesClient,
     Fault::SparesRoot,
@@ -146,6 +180,19 @@ pub const FAULTS: [Fault; 45] = [
     Fault::RefusesBySize,
     Fault::OrdersBySize,
     Fault::CostWraps,
+    Fault::WrongLost(Lost::AllBelow),
+    Fault::WrongLost(Lost::WithoutWeighted),
+    Fault::WrongLost(Lost::WithoutFixed),
+    Fault::WrongLost(Lost::WithoutClasses),
+    Fault::WrongLost(Lost::OfShares),
+    Fault::WrongLost(Lost::OfBalances),
+    Fault::WrongLost(Lost::ZeroForClass),
+    Fault::WrongLost(Lost::ZeroForChildless),
+    Fault::WrongLost(Lost::RateForClient),
+    Fault::WrongLost(Lost::RootAmongChildren),
+    Fault::WrongLost(Lost::WithoutUnclaimed),
+    Fault::WrongLost(Lost::WithoutFixedRounding),
+    Fault::WrongLost(Lost::FromBefore),
 ];
 
 impl Fault {
@@ -159,6 +206,7 @@ impl Fault {
                 | Fault::WritesByNumber
                 | Fault::SameForgetsDepths
                 | Fault::OrdersBySize
+                | Fault::WrongLost(_)
                 | Fault::LacksClause(_)
         )
     }
@@ -172,12 +220,15 @@ pub struct Faulty {
     fired: bool,
     /// The table as this controller last left it.
     own: Vec<i64>,
+    /// The table before this controller last changed its tree, at first a zeroed
+    /// one.
+    before: Vec<i64>,
 }
 
 impl Faulty {
     /// A controller with that fault.
     pub fn new(fault: Fault) -> Faulty {
-        Faulty { fault, fired: false, own: Vec::new() }
+        Faulty { fault, fired: false, own: Vec::new(), before: vec![0; TABLE_LEN] }
     }
 
     fn has(&self, fault: Fault) -> bool {
@@ -203,7 +254,11 @@ impl Faulty {
         body: impl FnOnce(&mut Faulty, &mut [i64]) -> Answer<i64>,
     ) -> Answer<i64> {
         self.check(table)?;
+        let before = table.to_vec();
         let answer = body(self, table);
+        if !calls::same(&before, table) {
+            self.before = before;
+        }
         self.own = table.to_vec();
         answer
     }
@@ -347,9 +402,17 @@ impl Controller for Faulty {
         self.change(table, |this, table| this.tick_body(table, list))
     }
 
-    fn look(&mut self, table: &[i64], node: i64) -> Answer<[i64; 3]> {
+    fn look(&mut self, table: &[i64], node: i64) -> Answer<Seen> {
         self.check(table)?;
-        calls::look(table, node)
+        let [rate, balance, waiting, right] = calls::look(table, node)?;
+        let lost = match self.fault {
+            Fault::WrongLost(Lost::FromBefore) if table == self.own => {
+                rates::lost_grains(&self.before, node as usize)
+            }
+            Fault::WrongLost(misread) => faulty_parts::lost_grains(misread, table, node as usize),
+            _ => right,
+        };
+        Ok([rate, balance, waiting, lost])
     }
 
     fn same(&mut self, first: &[i64], second: &[i64]) -> Answer<bool> {

@@ -1,15 +1,15 @@
-//! Parts of the controllers with faults: wrong rates and costs, and a request
-//! and a tick that can go wrong. Without a fault these are document 01's once
-//! more.
+//! Parts of the controllers with faults: wrong rates, costs and lost grains, and
+//! a request and a tick that can go wrong. Without a fault these are document
+//! 01's once more.
 
 use crate::cost::cost;
 use crate::damage::failing;
-use crate::faulty::Fault;
+use crate::faulty::{Fault, Lost};
 use crate::order::{sizes_fit, SIZES_CLAUSE};
 use crate::refusal::*;
 use crate::table::*;
 use crate::tick::{cut, find_supplier, grow, has_enough, oldest, path_to_root, DispatchList};
-use crate::{calls, rates};
+use crate::{arguments, calls, rates};
 
 /// The cost of a size, wherever a cost counts.
 fn cost_with(fault: Fault, size: i64) -> i64 {
@@ -220,5 +220,39 @@ pub(crate) fn give_remainder(table: &mut [i64]) {
     let first = children(table, ROOT).next();
     if let (false, Some(child)) = (fixed, first) {
         table[at(child, RATE)] += get(table, ROOT, RATE) - sum;
+    }
+}
+
+/// The grains nobody gets, misread. Where the misreading does not touch the node
+/// it is the right number.
+pub(crate) fn lost_grains(misread: Lost, table: &[i64], node: usize) -> i64 {
+    let right = rates::lost_grains(table, node);
+    let rate = get(table, node, RATE);
+    if is_client(table, node) {
+        return if misread == Lost::RateForClient { rate } else { right };
+    }
+    let sum_of = |place: usize, counts: &dyn Fn(usize) -> bool| -> i64 {
+        let counted = children(table, node).filter(|&child| counts(child));
+        counted.map(|child| get(table, child, place)).sum()
+    };
+    let is_fixed = |child: usize| get(table, child, KIND) == FIXED;
+    let is_weighted = |child: usize| !is_fixed(child);
+    let left = rate * (MAX_SHARE - sum_of(SHARE, &is_fixed)) / MAX_SHARE;
+    match misread {
+        Lost::AllBelow => {
+            let below = arguments::family(table, node).into_iter().skip(1);
+            rate - below.map(|node| get(table, node, RATE)).sum::<i64>()
+        }
+        Lost::WithoutWeighted => rate - sum_of(RATE, &is_fixed),
+        Lost::WithoutFixed => rate - sum_of(RATE, &is_weighted),
+        Lost::WithoutClasses => rate - sum_of(RATE, &|child| is_client(table, child)),
+        Lost::OfShares => rate - sum_of(SHARE, &|_| true),
+        Lost::OfBalances => rate - sum_of(BALANCE, &|_| true),
+        Lost::ZeroForClass => 0,
+        Lost::ZeroForChildless if children(table, node).next().is_none() => 0,
+        Lost::RootAmongChildren if node == ROOT => right - rate,
+        Lost::WithoutUnclaimed if !children(table, node).any(is_weighted) => right - left,
+        Lost::WithoutFixedRounding => left - sum_of(RATE, &is_weighted),
+        _ => right,
     }
 }

@@ -1,7 +1,7 @@
 //! The second engine of the disk share controller.
 //!
 //! It is written from document 01 ("Hierarchical Disk Sharing: the account
-//! table and its calls") and document 02 up to request (a) alone, to check
+//! table and its calls") and document 02 up to request (b) alone, to check
 //! another implementation of them call by call. Quoted words in the comments are
 //! the documents'.
 //!
@@ -35,5 +35,5 @@ pub mod steps;
 pub mod table;
 mod tick;
 
-pub use controller::{Controller, Engine, NewNode};
+pub use controller::{Controller, Engine, NewNode, Seen};
 pub use refusal::Answer;

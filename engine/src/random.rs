@@ -268,11 +268,15 @@ impl Generator {
         self.call(Call::Tick { list_len });
     }
 
+    /// Looks at a class and at any node.
     fn look(&mut self) {
         let (rng, view) = self.rng_and_view();
-        let node = arguments::any_node(rng, view);
-        let node = self.bend(node, 0, 63);
-        self.call(Call::Look { node });
+        let class = arguments::class(rng, view) as i64;
+        let any = arguments::any_node(rng, view);
+        for node in [class, any] {
+            let node = self.bend(node, 0, 63);
+            self.call(Call::Look { node });
+        }
     }
 
     fn same(&mut self) {

@@ -1,4 +1,5 @@
-//! Rates: how a class's rate is divided among its children.
+//! Rates: how a class's rate is divided among its children, and what none of
+//! them gets.
 
 use crate::table::*;
 
@@ -83,4 +84,14 @@ pub(crate) fn are_obeyed(table: &[i64]) -> bool {
         Some(parent) => i128::from(get(table, node, RATE)) == sums.rate(table, node, parent),
         None => true,
     })
+}
+
+/// "The grains nobody gets": of a class, "its rate less the sum of its
+/// children's rates, exactly. For a client it is 0."
+pub(crate) fn lost_grains(table: &[i64], node: usize) -> i64 {
+    if is_client(table, node) {
+        return 0;
+    }
+    let given: i64 = children(table, node).map(|child| get(table, child, RATE)).sum();
+    get(table, node, RATE) - given
 }

@@ -2,7 +2,7 @@
 
 use std::panic::{catch_unwind, AssertUnwindSafe};
 
-use crate::controller::{Controller, NewNode};
+use crate::controller::{Controller, NewNode, Seen};
 use crate::refusal::Answer;
 use crate::table::TABLE_LEN;
 
@@ -106,8 +106,8 @@ pub enum Step {
 pub enum Reply {
     /// A number.
     Number(i64),
-    /// Rate, balance and waiting count.
-    Look([i64; 3]),
+    /// What a look answers.
+    Look(Seen),
     /// Yes or no.
     Same(bool),
     /// A refusal, with its number.

@@ -114,9 +114,9 @@ pub extern "C" fn hds_tick(table: &mut [i64], list: &mut [i64]) -> i64
     answer_number(accounts::tick(table, list))
 }
 
-// Look (node): 0, and in seen the rate, balance and waiting count.
+// Look (node): 0, and in seen the rate, balance, waiting count and lost grains.
 #[no_mangle]
-pub extern "C" fn hds_look(table: &[i64], node: i64, seen: &mut [i64; 3]) -> i64
+pub extern "C" fn hds_look(table: &[i64], node: i64, seen: &mut [i64; Table::SEEN]) -> i64
     ensures answer { λ r. ⌜ r ≡ exportedBare (lookAnswer (now (table .entry)) node) ⌝ }
     ensures seen { λ _. ⌜ now (seen .exit) ≡ shown (lookAnswer (now (table .entry)) node) (now (seen .entry)) ⌝ }
 {
@@ -126,8 +126,9 @@ pub extern "C" fn hds_look(table: &[i64], node: i64, seen: &mut [i64; 3]) -> i64
             rate,
             balance,
             waiting,
+            lost,
         } => {
-            *seen = [rate, balance, waiting];
+            *seen = [rate, balance, waiting, lost];
             0
         }
         Seen::Refused(why) => negated(why),

@@ -5,11 +5,11 @@ use lib.IntN.{pos, negℤ}
 use Rattle.table.specs.Limits.{root, class, client, fixed, weighted, wholeShare, greatestRate, greatestCount, sortAt, parentAt, levelAt, kindAt, shareAt, depthAt, rateAt, balanceAt, waitingAt, spareAt, spareLength, tagAt, sizeAt, arrivalAt}
 use Rattle.table.specs.Places.{queuePlace}
 use Rattle.table.specs.Refusals.{refused}
-use Rattle.scenarios.specs.Scenario.{Scenario, disk, join, leave, request, look, tick, dispatch, atPlace, atHeader, _gives_, _answers_leaving_, _lists_, fits, spoils, setBalance, number, seen, greatestNumber}
+use Rattle.scenarios.specs.Scenario.{Scenario, disk, join, leave, changeRate, request, look, tick, dispatch, atPlace, atHeader, _gives_, _answers_leaving_, _lists_, fits, spoils, setBalance, number, seen, greatestNumber}
 
 -- The cases by name.
 pub data Case : Type 0 where
-  roundedDown emptyBuckets restOfList cutToDepth firstSupplier headerPlaces nodesInOrder sumsInOrder requestsInOrder : Case
+  roundedDown lostByClasses emptyBuckets restOfList cutToDepth firstSupplier headerPlaces nodesInOrder sumsInOrder requestsInOrder : Case
 
 unfoldable pub scenario : Case → Scenario
 -- "rounded down", what the fixed shares leave too: of 1000, fixed 3333 gets 333, and 666 are left for one weight; of these
@@ -18,23 +18,45 @@ scenario roundedDown =
     disk 1000 40 gives number 0
     ∷ join 1 root client fixed 3333 10 gives number 0
     ∷ join 2 root client weighted 3 10 gives number 0
-    ∷ look 1 gives seen 333 (pos 0) 0
-    ∷ look 2 gives seen 666 (pos 0) 0
+    ∷ look 1 gives seen 333 (pos 0) 0 0
+    ∷ look 2 gives seen 666 (pos 0) 0 0
     ∷ join 3 root client weighted 4 10 gives number 0
-    ∷ look 2 gives seen 285 (pos 0) 0
-    ∷ look 3 gives seen 380 (pos 0) 0
+    ∷ look 2 gives seen 285 (pos 0) 0 0
+    ∷ look 3 gives seen 380 (pos 0) 0 0
+    ∷ []
+-- "Look on a class also returns its rate less the sum of its children's rates, exactly. For a client it is 0." Class 1 has
+-- 200: of that fixed 3333 gets 66, and of the 133 that are left the weights 1 and 2 get 44 and 88. The disk has two children,
+-- with 200 and 100.
+scenario lostByClasses =
+    disk 1000 60 gives number 0
+    ∷ join 1 root class fixed 2000 30 gives number 0
+    ∷ join 2 1 client fixed 3333 10 gives number 0
+    ∷ join 3 1 client weighted 1 10 gives number 0
+    ∷ join 4 1 client weighted 2 10 gives number 0
+    ∷ join 5 root client fixed 1000 10 gives number 0
+    ∷ look root gives seen 1000 (pos 0) 0 700
+    ∷ look 1 gives seen 200 (pos 0) 0 2
+    ∷ look 2 gives seen 66 (pos 0) 0 0
+    ∷ look 4 gives seen 88 (pos 0) 0 0
+    ∷ leave 4 gives number 0
+    ∷ look 1 gives seen 200 (pos 0) 0 1
+    ∷ leave 3 gives number 0
+    ∷ look 1 gives seen 200 (pos 0) 0 134
+    ∷ changeRate 1 gives number 0
+    ∷ look root gives seen 1 (pos 0) 0 1
+    ∷ look 1 gives seen 0 (pos 0) 0 0
     ∷ []
 -- "Open .. makes the root with balance 0. Join .. starts at balance 0", also where a node leaves and comes back.
 scenario emptyBuckets =
     disk 900 40 gives number 0
-    ∷ look root gives seen 900 (pos 0) 0
+    ∷ look root gives seen 900 (pos 0) 0 900
     ∷ join 1 root client weighted 1 16 gives number 0
-    ∷ look 1 gives seen 900 (pos 0) 0
+    ∷ look 1 gives seen 900 (pos 0) 0 0
     ∷ tick 0 lists []
-    ∷ look 1 gives seen 900 (pos 900) 0
+    ∷ look 1 gives seen 900 (pos 900) 0 0
     ∷ leave 1 gives number 0
     ∷ join 1 root client fixed 5000 16 gives number 0
-    ∷ look 1 gives seen 450 (pos 0) 0
+    ∷ look 1 gives seen 450 (pos 0) 0 0
     ∷ []
 -- "The list gets four numbers each: client, tag, size, supplier. The answer is how many were dispatched; the list beyond
 -- them stays untouched."
@@ -50,13 +72,13 @@ scenario cutToDepth =
     ∷ join 1 root client weighted 1 8 gives number 0
     ∷ tick 0 lists []
     ∷ tick 0 lists []
-    ∷ look 1 gives seen 8000 (pos 8000) 0
-    ∷ look root gives seen 8000 (pos 16000) 0
+    ∷ look 1 gives seen 8000 (pos 8000) 0 0
+    ∷ look root gives seen 8000 (pos 16000) 0 0
     ∷ request 1 10 1 gives number 1
     ∷ request 1 11 1 gives number 2
     ∷ tick 8 lists (dispatch 1 10 1 1 ∷ dispatch 1 11 1 1 ∷ [])
-    ∷ look 1 gives seen 8000 (pos 0) 0
-    ∷ look root gives seen 8000 (pos 8000) 0
+    ∷ look 1 gives seen 8000 (pos 0) 0 0
+    ∷ look root gives seen 8000 (pos 8000) 0 0
     ∷ []
 -- "The supplier is the first node with enough balance on the way from the client up to the root"; a dispatch charges it "and
 -- every node above it, the root included, and .. none below it". At the third tick client 2 has 6000, class 1 has 12000.
@@ -69,9 +91,9 @@ scenario firstSupplier =
     ∷ tick 0 lists []
     ∷ request 2 20 1 gives number 1
     ∷ tick 4 lists (dispatch 2 20 1 1 ∷ [])
-    ∷ look 2 gives seen 2000 (pos 6000) 0
-    ∷ look 1 gives seen 4000 (pos 4000) 0
-    ∷ look root gives seen 8000 (pos 16000) 0
+    ∷ look 2 gives seen 2000 (pos 6000) 0 0
+    ∷ look 1 gives seen 4000 (pos 4000) 0 0
+    ∷ look root gives seen 8000 (pos 16000) 0 4000
     ∷ []
 -- "places 1 to 7 are zero", and the count is 0 to 9,000,000,000,000,000,000.
 scenario headerPlaces =

@@ -42,7 +42,7 @@ scenario tableLengths =
     ∷ spoils oneLess
     ∷ look root gives refused 1
     ∷ fits oneMore
-    ∷ look root gives seen 1000 (pos 0) 0
+    ∷ look root gives seen 1000 (pos 0) 0 1000
     ∷ spoils oneMore
     ∷ look root gives refused 1
     ∷ []
@@ -118,10 +118,10 @@ scenario leaves =
     ∷ setBalance 3 (negℤ (pos 1))
     ∷ leave 3 gives refused 10
     ∷ setBalance 3 (pos 0)
-    ∷ look 4 gives seen 250 (pos 0) 0
+    ∷ look 4 gives seen 250 (pos 0) 0 0
     ∷ leave 3 gives number 0
     ∷ look 3 gives refused 3
-    ∷ look 4 gives seen 500 (pos 0) 0
+    ∷ look 4 gives seen 500 (pos 0) 0 0
     ∷ []
 -- Change share: 2, 2 before 3, 2 before 5, 3, 5, 7, and none: 500 are left, and weights 3 and 1 get 375 and 125.
 scenario changesShare =
@@ -143,8 +143,8 @@ scenario changesShare =
     ∷ changeShare 3 fixed 1 gives refused 7
     ∷ changeShare 2 fixed 5000 gives number 0
     ∷ changeShare 2 weighted 3 gives number 0
-    ∷ look 2 gives seen 375 (pos 0) 0
-    ∷ look 3 gives seen 125 (pos 0) 0
+    ∷ look 2 gives seen 375 (pos 0) 0 0
+    ∷ look 3 gives seen 125 (pos 0) 0 0
     ∷ []
 -- Change rate: 2, and none.
 scenario changesRate =
@@ -154,8 +154,8 @@ scenario changesRate =
     ∷ changeRateℤ (negℤ (pos 1)) gives refused 2
     ∷ changeRate (suc greatestRate) gives refused 2
     ∷ changeRate greatestRate gives number 0
-    ∷ look root gives seen greatestRate (pos 0) 0
-    ∷ look 1 gives seen 500000000 (pos 0) 0
+    ∷ look root gives seen greatestRate (pos 0) 0 500000000
+    ∷ look 1 gives seen 500000000 (pos 0) 0 0
     ∷ []
 -- Request: 2, 2 before 3, 2 before 5, 3 before 8, 5, 5 before 8, 8, none, 11, 8 before 11, 11 before 12, 12, and the last
 -- number. At depth 16 size 12 costs 16, and 13 costs 17. A tag is any number.
@@ -198,7 +198,7 @@ scenario looks =
     ∷ lookℤ (negℤ (pos 1)) gives refused 2
     ∷ look nodes gives refused 2
     ∷ look lastNode gives refused 3
-    ∷ look root gives seen 1000 (pos 0) 0
+    ∷ look root gives seen 1000 (pos 0) 0 1000
     ∷ []
 -- Same: 1 for either table; yes is 1 and no is 0. It goes by nodes, shares and disk rate, and not by requests and balances.
 scenario compares =

@@ -1,57 +1,74 @@
 -- The marked edges of document 01 with the costs of document 02, request (a), each a scenario under its words; where costs
 -- change them, the words here are those worked anew. What the words leave open, as the depth of a node or the tag of a
--- request, is chosen so that nothing else is met.
+-- request, is chosen so that nothing else is met. Looks also show the lost grains of request (b).
 use mathlib.Core.List.{[], _∷_}
 use lib.IntN.{pos, negℤ}
 use Rattle.table.specs.Limits.{root, class, client, fixed, weighted, wholeShare}
 use Rattle.table.specs.Refusals.{refused}
 use Rattle.scenarios.specs.Scenario.{Scenario, disk, join, request, look, tick, dispatch, _gives_, _lists_, _refuses_, setBalance, times, number, seen}
 
--- The edges by name, in document 01's order; those of the ranges' ends stand beside the sizes.
+-- The edges by name, in document 01's order; those of lost grains stand beside the rates, those of the ranges' ends beside
+-- the sizes.
 pub data Edge : Type 0 where
-  paper thirds nothingLeft nothingLeftOfThirds aboveWhole alone oneAsks bothAsk debt sizes costsAbove costsCharged depths ninth listLengths : Edge
+  paper thirds nothingLeft nothingLeftOfThirds noChildren aboveWhole alone oneAsks bothAsk debt sizes costsAbove costsCharged depths ninth listLengths : Edge
 
 unfoldable pub scenario : Edge → Scenario
--- "Disk 1000; class 1 fixed 5000: rate 500. Under it fixed 4000: 200; weights 4 and 6: 120 and 180."
+-- "Disk 1000; class 1 fixed 5000: rate 500. Under it fixed 4000: 200; weights 4 and 6: 120 and 180." The class loses nothing,
+-- the disk the 500 that no share claims.
 scenario paper =
     disk 1000 40 gives number 0
     ∷ join 1 root class fixed 5000 40 gives number 0
     ∷ join 2 1 client fixed 4000 10 gives number 0
     ∷ join 3 1 client weighted 4 10 gives number 0
     ∷ join 4 1 client weighted 6 10 gives number 0
-    ∷ look 1 gives seen 500 (pos 0) 0
-    ∷ look 2 gives seen 200 (pos 0) 0
-    ∷ look 3 gives seen 120 (pos 0) 0
-    ∷ look 4 gives seen 180 (pos 0) 0
+    ∷ look root gives seen 1000 (pos 0) 0 500
+    ∷ look 1 gives seen 500 (pos 0) 0 0
+    ∷ look 2 gives seen 200 (pos 0) 0 0
+    ∷ look 3 gives seen 120 (pos 0) 0 0
+    ∷ look 4 gives seen 180 (pos 0) 0 0
     ∷ []
--- "Three weights 1 under 1000: 333 each."
+-- "Three weights 1 under 1000: 333 each." The disk loses 1.
 scenario thirds =
     disk 1000 40 gives number 0
     ∷ join 1 root client weighted 1 10 gives number 0
     ∷ join 2 root client weighted 1 10 gives number 0
     ∷ join 3 root client weighted 1 10 gives number 0
-    ∷ look 1 gives seen 333 (pos 0) 0
-    ∷ look 2 gives seen 333 (pos 0) 0
-    ∷ look 3 gives seen 333 (pos 0) 0
+    ∷ look root gives seen 1000 (pos 0) 0 1
+    ∷ look 1 gives seen 333 (pos 0) 0 0
+    ∷ look 2 gives seen 333 (pos 0) 0 0
+    ∷ look 3 gives seen 333 (pos 0) 0 0
     ∷ []
--- "A weighted child beside fixed 10,000: 0".
+-- "A weighted child beside fixed 10,000: 0". The disk loses nothing.
 scenario nothingLeft =
     disk 1000 40 gives number 0
     ∷ join 1 root client fixed wholeShare 10 gives number 0
     ∷ join 2 root client weighted 1 10 gives number 0
-    ∷ look 2 gives seen 0 (pos 0) 0
+    ∷ look root gives seen 1000 (pos 0) 0 0
+    ∷ look 2 gives seen 0 (pos 0) 0 0
     ∷ []
--- ".. also where that is 3333, 3333 and 3334 of 1000, which get 333 each."
+-- ".. also where that is 3333, 3333 and 3334 of 1000, which get 333 each." The disk loses 1.
 scenario nothingLeftOfThirds =
     disk 1000 40 gives number 0
     ∷ join 1 root client fixed 3333 10 gives number 0
     ∷ join 2 root client fixed 3333 10 gives number 0
     ∷ join 3 root client fixed 3334 10 gives number 0
     ∷ join 4 root client weighted 1 10 gives number 0
-    ∷ look 1 gives seen 333 (pos 0) 0
-    ∷ look 2 gives seen 333 (pos 0) 0
-    ∷ look 3 gives seen 333 (pos 0) 0
-    ∷ look 4 gives seen 0 (pos 0) 0
+    ∷ look root gives seen 1000 (pos 0) 0 1
+    ∷ look 1 gives seen 333 (pos 0) 0 0
+    ∷ look 2 gives seen 333 (pos 0) 0 0
+    ∷ look 3 gives seen 333 (pos 0) 0 0
+    ∷ look 4 gives seen 0 (pos 0) 0 0
+    ∷ []
+-- A class without children loses its whole rate, the disk as any other; a client loses nothing.
+scenario noChildren =
+    disk 1000 40 gives number 0
+    ∷ look root gives seen 1000 (pos 0) 0 1000
+    ∷ join 1 root class fixed 5000 20 gives number 0
+    ∷ look root gives seen 1000 (pos 0) 0 500
+    ∷ look 1 gives seen 500 (pos 0) 0 500
+    ∷ join 2 1 client weighted 1 20 gives number 0
+    ∷ look 1 gives seen 500 (pos 0) 0 0
+    ∷ look 2 gives seen 500 (pos 0) 0 0
     ∷ []
 -- "Fixed 10,001 in all: 7."
 scenario aboveWhole =
@@ -67,8 +84,8 @@ scenario alone =
     ∷ request 5 50 3 gives number 1
     ∷ times 7 (tick 4 lists [])
     (tick 4 lists (dispatch 5 50 3 5 ∷ [])
-    ∷ look 5 gives seen 1000 (pos 0) 0
-    ∷ look root gives seen 1000 (pos 0) 0
+    ∷ look 5 gives seen 1000 (pos 0) 0 0
+    ∷ look root gives seen 1000 (pos 0) 0 0
     ∷ [])
 -- Disk 1000, root depth 40, clients 5 and 6, weight 1, depth 16, only 5 asks, size 1, which costs 8: eighth tick, supplier 0;
 -- 5 keeps 4000, root 0.
@@ -79,8 +96,8 @@ scenario oneAsks =
     ∷ request 5 50 1 gives number 1
     ∷ times 7 (tick 4 lists [])
     (tick 4 lists (dispatch 5 50 1 root ∷ [])
-    ∷ look 5 gives seen 500 (pos 4000) 0
-    ∷ look root gives seen 1000 (pos 0) 0
+    ∷ look 5 gives seen 500 (pos 4000) 0 0
+    ∷ look root gives seen 1000 (pos 0) 0 0
     ∷ [])
 -- The same, 6 asked before 5, both size 1: 6 at the eighth tick from 0, 5 at the sixteenth from itself.
 scenario bothAsk =
@@ -102,20 +119,20 @@ scenario debt =
     ∷ request 2 20 1 gives number 2
     ∷ setBalance 1 (pos 7500)
     ∷ setBalance 2 (pos 8000)
-    ∷ look root gives seen 1000 (pos 0) 0
-    ∷ look 1 gives seen 500 (pos 7500) 1
-    ∷ look 2 gives seen 500 (pos 8000) 1
+    ∷ look root gives seen 1000 (pos 0) 0 0
+    ∷ look 1 gives seen 500 (pos 7500) 1 0
+    ∷ look 2 gives seen 500 (pos 8000) 1 0
     ∷ tick 8 lists (dispatch 1 10 1 1 ∷ dispatch 2 20 1 2 ∷ [])
-    ∷ look root gives seen 1000 (negℤ (pos 15000)) 0
-    ∷ look 1 gives seen 500 (pos 0) 0
-    ∷ look 2 gives seen 500 (pos 500) 0
+    ∷ look root gives seen 1000 (negℤ (pos 15000)) 0 0
+    ∷ look 1 gives seen 500 (pos 0) 0 0
+    ∷ look 2 gives seen 500 (pos 500) 0 0
     ∷ []
 -- At depth 16 size 12, which costs 16, waits; 13 gets 8; 0 gets 2.
 scenario sizes =
     disk 1000 40 gives number 0
     ∷ join 5 root client weighted 4 16 gives number 0
     ∷ request 5 50 12 gives number 1
-    ∷ look 5 gives seen 1000 (pos 0) 1
+    ∷ look 5 gives seen 1000 (pos 0) 1 0
     ∷ request 5 50 13 gives refused 8
     ∷ request 5 50 16 gives refused 8
     ∷ request 5 50 0 gives refused 2
@@ -172,14 +189,14 @@ scenario costsCharged =
     ∷ setBalance 6 (pos 519000)
     ∷ setBalance 7 (pos 528000)
     ∷ tick 28 lists (dispatch 1 10 1 1 ∷ dispatch 2 20 7 2 ∷ dispatch 3 30 8 3 ∷ dispatch 4 40 63 4 ∷ dispatch 5 50 64 5 ∷ dispatch 6 60 511 6 ∷ dispatch 7 70 512 7 ∷ [])
-    ∷ look 1 gives seen 0 (pos 0) 0
-    ∷ look 2 gives seen 0 (pos 0) 0
-    ∷ look 3 gives seen 0 (pos 0) 0
-    ∷ look 4 gives seen 0 (pos 0) 0
-    ∷ look 5 gives seen 0 (pos 0) 0
-    ∷ look 6 gives seen 0 (pos 0) 0
-    ∷ look 7 gives seen 0 (pos 0) 0
-    ∷ look root gives seen 1 (negℤ (pos 1213998)) 0
+    ∷ look 1 gives seen 0 (pos 0) 0 0
+    ∷ look 2 gives seen 0 (pos 0) 0 0
+    ∷ look 3 gives seen 0 (pos 0) 0 0
+    ∷ look 4 gives seen 0 (pos 0) 0 0
+    ∷ look 5 gives seen 0 (pos 0) 0 0
+    ∷ look 6 gives seen 0 (pos 0) 0 0
+    ∷ look 7 gives seen 0 (pos 0) 0 0
+    ∷ look root gives seen 1 (negℤ (pos 1213998)) 0 1
     ∷ []
 -- "Depths 16 and 24 under 40 join; 16 and 25 get 8."
 scenario depths =

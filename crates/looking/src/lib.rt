@@ -1,8 +1,14 @@
-// Look: the rate, balance and waiting count of a node.
+// Look: the rate, balance and waiting count of a node, and the grains of its rate that nobody gets.
 ghost use mathlib.Core.Path.{_≡_};
-ghost use Prim.Native.Nat.{_≤_};
+ghost use mathlib.Core.Bool.{true};
+ghost use Prim.Native.Nat.{_≤_, _<_};
+ghost use Rattle.table.specs.Limits.{nodes};
+ghost use Rattle.table.specs.Order.{inOrder};
 ghost use Rattle.table.specs.Answers.{toldSeen};
-ghost use Rattle.table.specs.Calls.{lookRefusal, lookAnswer};
+ghost use Rattle.table.specs.Calls.{lostGrains, lookRefusal, lookAnswer};
+use rating::sums;
+use rating::sums::Summand;
+use rating::tree;
 use table::Seen;
 use table::Table;
 
@@ -17,13 +23,25 @@ fn look_refusal(table: &[i64], node: i64) -> u64
     if !numbers::within(node, 0, Table::LAST_NODE) {
         return 2;
     }
-    if !rating::tree::there(table, numbers::natural(node) as usize) {
+    if !tree::there(table, numbers::natural(node) as usize) {
         return 3;
     }
     0
 }
 
-// Look. Document 01, "Calls".
+// The grains that nobody gets: a class's rate less the sum of its children's rates; for a client 0. Document 02, (b).
+fn lost_grains(table: &[i64], k: usize) -> i64
+    requires { ⌜ (inOrder (now table) ≡ true) × (k < nodes) ⌝ }
+    ensures { λ r. ⌜ r ≡ lostGrains (now (table .entry)) k ⌝ }
+{
+    if !tree::is_class(table, k) {
+        return 0;
+    }
+    let given = sums::sum_under(table, Summand::Rates, k);
+    numbers::lowered(Table::get(table, k, Table::RATE), given)
+}
+
+// Look. Document 01, "Calls", and document 02, (b).
 pub fn look(table: &[i64], node: i64) -> Seen
     ensures { λ r. ⌜ toldSeen r ≡ lookAnswer (now (table .entry)) node ⌝ }
 {
@@ -35,9 +53,11 @@ pub fn look(table: &[i64], node: i64) -> Seen
     let rate = Table::get(table, k, Table::RATE);
     let balance = Table::get(table, k, Table::BALANCE);
     let waiting = Table::get(table, k, Table::WAITING);
+    let lost = lost_grains(table, k);
     Seen::Node {
         rate,
         balance,
         waiting,
+        lost,
     }
 }

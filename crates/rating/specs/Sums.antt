@@ -1,4 +1,4 @@
--- What is summed over the children of a class, by kind: fixed shares, weights, depths, and both parts of the balances.
+-- What is summed over the children of a class, by kind: fixed shares, weights, depths, rates, and both parts of the balances.
 use Prim.Native.Nat.{ℕ, _≤_, _<_, _^_}
 use mathlib.Core.Path.{_≡_}
 use mathlib.Core.Bool.{true}
@@ -6,17 +6,18 @@ use mathlib.Core.List.{List}
 use lib.IntN.{ℤ}
 use Rattle.numbers.specs.Whole.{plus, minus}
 use Rattle.table.specs.Limits.{nodes, root}
-use Rattle.table.specs.Places.{balance}
+use Rattle.table.specs.Places.{rate, balance}
 use Rattle.table.specs.Tree.{treeOf, there}
 use Rattle.table.specs.Rates.{fixedShare, weight}
 use Rattle.rating.specs.declared.sums.Summand.{Summand}
-use Rattle.rating.specs.declared.sums.Summand.the-variants.{FixedShares, Weights, Depths, Credits, Debts}
+use Rattle.rating.specs.declared.sums.Summand.the-variants.{FixedShares, Weights, Depths, Rates, Credits, Debts}
 
 -- The summand of node k.
 unfoldable pub term : Summand → List ℤ → ℕ → ℕ
 term FixedShares t k = fixedShare (treeOf t) k
 term Weights t k = weight (treeOf t) k
 term Depths t k = treeOf t .depth k
+term Rates t k = rate t k
 term Credits t k = plus (balance t k)
 term Debts t k = minus (balance t k)
 

@@ -16,6 +16,7 @@ pub enum Summand {
     FixedShares,
     Weights,
     Depths,
+    Rates,
     Credits,
     Debts,
 }
@@ -51,6 +52,7 @@ pub fn term(table: &[i64], which: Summand, k: usize) -> u64
         Summand::FixedShares => fixed_share(table, k),
         Summand::Weights => weight(table, k),
         Summand::Depths => Table::natural(table, k, Table::DEPTH),
+        Summand::Rates => Table::natural(table, k, Table::RATE),
         Summand::Credits => Table::natural(table, k, Table::BALANCE),
         Summand::Debts => numbers::negative(Table::get(table, k, Table::BALANCE)),
     }

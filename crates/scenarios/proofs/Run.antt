@@ -21,11 +21,11 @@ use Rattle.table.specs.Tick.{grains, enough, supplierFrom, supplier, lower, cha
 use Rattle.scenarios.specs.Scenario.{Scenario, lentTo, entries, keptAfter, after, sevens, Passes}
 use Rattle.scenarios.proofs.Judge.{sameList, sameOutcome, holds, run, run-hold}
 use Rattle.scenarios.proofs.Near.{zeros, few, recordOn, placeNear, putNear, treeNear, unusedAt, unusedNear, nextNear, lentNear}
-use Rattle.scenarios.proofs.Short.{by, with, each, shortLimits, shortSpare, shortClass, shortRate, shortChild, shortBalance, shortArrivals, shortInOrder, shortJoinRefusal, shortLeaveRefusal, shortChangeShareRefusal, shortChangeRateRefusal, shortRequestRefusal, shortLookRefusal, shortSameRefusal, shortWaiting, shortAllWaiting, shortTickRefusal, shortGrown, shortServed, shortCut, shortStepTwo, shortStepThree, shortTicked, shortStep}
+use Rattle.scenarios.proofs.Short.{by, with, each, shortLimits, shortSpare, shortClass, shortRate, shortChild, shortBalance, shortArrivals, shortInOrder, shortJoinRefusal, shortLeaveRefusal, shortChangeShareRefusal, shortChangeRateRefusal, shortRequestRefusal, shortLookRefusal, shortSameRefusal, shortRates, shortLost, shortWaiting, shortAllWaiting, shortTickRefusal, shortGrown, shortServed, shortCut, shortStepTwo, shortStepThree, shortTicked, shortStep}
 
 -- A scenario run by the short forms of its steps. The line under the signature names what antt unfolds to compute it.
 unfoldable pub shortRun : Scenario → (kept t : List ℤ) → Bool
-unfolding plus sameℤ withinℤ every sumBelow sumℤBelow allBelow forBelow place put header putHeader count tag size arrival treeOf there isClass isClient isFixed childOf childless countIf testIf sumUnder eachNode eachClass eachClient fixedShare weight fixedSum weightSum fixedRate leftRate weightedRate childRate rateAtLevel rateIn writeRates isZero headerInOrder rootInOrder parentInOrder cost sizeWithin requestInOrder queueInOrder differsAt first outcome kept blank opened openRefusal openTable openAnswer joined cleared reshared requested grains enough supplierFrom supplier lower charge takenOut dispatched ready served supplied better listed lentTo entries sameList sameOutcome zeros few recordOn placeNear putNear treeNear unusedAt unusedNear nextNear lentNear by with each shortLimits shortSpare shortClass shortRate shortChild shortBalance shortArrivals shortInOrder shortJoinRefusal shortLeaveRefusal shortChangeShareRefusal shortChangeRateRefusal shortRequestRefusal shortLookRefusal shortSameRefusal shortWaiting shortAllWaiting shortTickRefusal shortGrown shortServed shortCut shortStepTwo shortStepThree shortTicked shortStep
+unfolding plus sameℤ withinℤ every sumBelow sumℤBelow allBelow forBelow place put header putHeader count tag size arrival treeOf there isClass isClient isFixed childOf childless countIf testIf sumUnder eachNode eachClass eachClient fixedShare weight fixedSum weightSum fixedRate leftRate weightedRate childRate rateAtLevel rateIn writeRates isZero headerInOrder rootInOrder parentInOrder cost sizeWithin requestInOrder queueInOrder differsAt first outcome kept blank opened openRefusal openTable openAnswer joined cleared reshared requested grains enough supplierFrom supplier lower charge takenOut dispatched ready served supplied better listed lentTo entries sameList sameOutcome zeros few recordOn placeNear putNear treeNear unusedAt unusedNear nextNear lentNear by with each shortLimits shortSpare shortClass shortRate shortChild shortBalance shortArrivals shortInOrder shortJoinRefusal shortLeaveRefusal shortChangeShareRefusal shortChangeRateRefusal shortRequestRefusal shortLookRefusal shortSameRefusal shortRates shortLost shortWaiting shortAllWaiting shortTickRefusal shortGrown shortServed shortCut shortStepTwo shortStepThree shortTicked shortStep
 shortRun [] = λ kept t. true
 shortRun (step ∷ steps) = λ kept t. shortStep step (shortRun steps) kept t .value
 

@@ -8,7 +8,7 @@ use lib.IntN.{ℤ, pos}
 use Rattle.table.specs.Places.{rate, balance, waiting, depthGrains}
 use Rattle.table.specs.Rates.{renewed}
 use Rattle.table.specs.Order.{limitsKept, spareInOrder, classInOrder, rateInOrder, childBalance, childBalances, balanceInOrder, arrivalsDiffer, inOrder}
-use Rattle.table.specs.Calls.{sharesAbove, depthsAbove, joinRefusal, joinTable, joinAnswer, leaveRefusal, leaveTable, leaveAnswer, changeShareRefusal, changeShareTable, changeShareAnswer, changeRateRefusal, changeRateTable, changeRateAnswer, requestRefusal, requestTable, requestAnswer, lookRefusal, lookAnswer, sameTree, sameRefusal, sameAnswer}
+use Rattle.table.specs.Calls.{sharesAbove, depthsAbove, joinRefusal, joinTable, joinAnswer, leaveRefusal, leaveTable, leaveAnswer, changeShareRefusal, changeShareTable, changeShareAnswer, changeRateRefusal, changeRateTable, changeRateAnswer, requestRefusal, requestTable, requestAnswer, lostGrains, lookRefusal, lookAnswer, sameTree, sameRefusal, sameAnswer}
 use Rattle.table.specs.Tick.{State, grown, servedAll, cut, allWaiting, stepTwo, stepThree, ticked, tickRefusal, tickTable, tickList, tickAnswer}
 use Rattle.scenarios.specs.Scenario.{openℤ, joinℤ, leaveℤ, changeShareℤ, changeRateℤ, requestℤ, lookℤ, same, Step, _gives_, _answers_leaving_, keep, fits, spoils, lentTo, answer, called, changed, after, keptAfter}
 use Rattle.scenarios.proofs.Judge.{holds}
@@ -99,6 +99,15 @@ unfoldable pub shortLookRefusal : (t : List ℤ) (node : ℤ) → Short (lookRef
 unfolding lookRefusal
 shortLookRefusal t node = by (λ y e. simp (is shortInOrder) at e)
 
+-- What look shows.
+unfoldable pub shortRates : (t : List ℤ) → Short (rate t)
+unfolding rate
+shortRates t = each (λ k. by (λ y e. simp place-is at e))
+
+unfoldable pub shortLost : (t : List ℤ) (k : ℕ) → Short (lostGrains t k)
+unfolding lostGrains
+shortLost t k = by (λ y e. simp (tree-is, shortRates t .same) at e)
+
 unfoldable pub shortWaiting : (t : List ℤ) → Short (waiting t)
 unfolding waiting
 shortWaiting t = each (λ k. by (λ y e. simp place-is at e))
@@ -149,7 +158,7 @@ shortStep (changeRateℤ rate gives o) rest kept t =
     with (shortChangeRateRefusal t rate) (λ n h. by (λ y e. simp (h, tree-is) at e))
 shortStep (requestℤ client tag size gives o) rest kept t =
     with (shortRequestRefusal t client tag size) (λ n h. by (λ y e. simp h at e))
-shortStep (lookℤ node gives o) rest kept t = with (shortLookRefusal t node) (λ n h. by (λ y e. simp h at e))
+shortStep (lookℤ node gives o) rest kept t = with (shortLookRefusal t node) (λ n h. by (λ y e. simp (h, is (shortLost t)) at e))
 shortStep (same gives o) rest kept t = with (shortSameRefusal kept t) (λ n h. by (λ y e. simp (h, place-is) at e))
 shortStep (c answers o leaving list) rest kept t =
     with (shortTickRefusal t (lentTo c)) (λ n h. with (shortTicked t) (λ st k. by (λ y e. simp (h, k) at e)))

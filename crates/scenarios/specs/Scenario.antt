@@ -73,12 +73,12 @@ pub data Step : Type 0 where
 abbrev pub Scenario : Type 0
 Scenario = List Step
 
--- Accepted with one number; and what look returns: rate, balance and waiting count.
+-- Accepted with one number; and what look returns: rate, balance, waiting count and lost grains.
 abbrev pub number : ℕ → Outcome
 number n = accepted (pos n ∷ [])
 
-abbrev pub seen : ℕ → ℤ → ℕ → Outcome
-seen rate balance waiting = accepted (pos rate ∷ balance ∷ pos waiting ∷ [])
+abbrev pub seen : ℕ → ℤ → ℕ → ℕ → Outcome
+seen rate balance waiting lost = accepted (pos rate ∷ balance ∷ pos waiting ∷ pos lost ∷ [])
 
 -- The greatest number that a place or an argument can have.
 abbrev pub greatestNumber : ℕ

@@ -17,11 +17,10 @@ use Rattle.table.specs.Order.{inOrder}
 use Rattle.table.proofs.Facts.{InOrder, facts}
 use Rattle.table.proofs.Cost.{cost-bounds, most-cost}
 use Rattle.treelaws.proofs.Floors.{floor-of-node, levels, grounds, under-of}
-use Rattle.treelaws.proofs.Rounding.{rates-in-order}
+use Rattle.treelaws.proofs.Rounding.{rate-in-order, rates-in-order}
 use Rattle.ticklaws.proofs.Frame.{frame-rate}
 use Rattle.ticklaws.proofs.Queues.{queues-of}
 use Rattle.ticklaws.proofs.Reached.{Reached, reached-first, reached-long}
-use Rattle.ticklaws.proofs.Grown.{rate-in-order}
 use Rattle.ticklaws.proofs.Lent.{Settled}
 use Rattle.balances.specs.Within.{Within}
 

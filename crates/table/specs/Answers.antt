@@ -35,9 +35,9 @@ unfoldable pub told : Answer → Outcome
 told (answer.Accepted value) = accepted (value ∷ [])
 told (answer.Refused why) = refused (numberOf why)
 
--- What look tells: rate, balance and waiting count.
+-- What look tells: rate, balance, waiting count and lost grains.
 unfoldable pub toldSeen : Seen → Outcome
-toldSeen (seen.Node rate balance waiting) = accepted (rate ∷ balance ∷ waiting ∷ [])
+toldSeen (seen.Node rate balance waiting lost) = accepted (rate ∷ balance ∷ waiting ∷ lost ∷ [])
 toldSeen (seen.Refused why) = refused (numberOf why)
 
 -- What same tells: 1 for yes, 0 for no.

@@ -5,13 +5,13 @@ use mathlib.Core.Bool.{Bool, not, cond, _||_}
 use mathlib.Core.List.{List, [], _∷_}
 use lib.ListN.{length, replicate}
 use lib.Dec.{eqb, ltb}
-use lib.IntN.{ℤ, pos}
+use lib.IntN.{ℤ, pos, _-ℤ_}
 use lib.Signed.{ltZ, leZ}
 use Rattle.numbers.specs.Whole.{plus, sameℤ, withinℤ}
 use Rattle.numbers.specs.Tests.{every}
 use Rattle.numbers.specs.Below.{allBelow, forBelow}
 use Rattle.table.specs.Limits.{tableLength, recordLength, nodes, lastNode, sortAt, parentAt, levelAt, kindAt, shareAt, depthAt, rateAt, balanceAt, waitingAt, tagAt, sizeAt, arrivalAt, class, client, fixed, weighted, root, lastClassLevel, wholeShare, greatestDepth, greatestRate, greatestCount, mostWaiting}
-use Rattle.table.specs.Places.{place, put, header, putHeader, count, balance, waiting, queuePlace}
+use Rattle.table.specs.Places.{place, put, header, putHeader, count, rate, balance, waiting, queuePlace}
 use Rattle.table.specs.Tree.{treeOf, there, isClass, isClient, childless, sumUnder}
 use Rattle.table.specs.Rates.{fixedSum, renewed}
 use Rattle.table.specs.Cost.{cost}
@@ -164,7 +164,11 @@ requestTable t node tag size = kept (requestRefusal t node tag size) (requested 
 unfoldable pub requestAnswer : List ℤ → ℤ → ℤ → ℤ → Outcome
 requestAnswer t node tag size = outcome (requestRefusal t node tag size) (pos (suc (count t)) ∷ [])
 
--- Look (node) returns rate, balance and waiting count.
+-- The grains that nobody gets: a class's rate less the sum of its children's rates; for a client 0. Document 02, (b).
+unfoldable pub lostGrains : List ℤ → ℕ → ℤ
+lostGrains t k = cond (isClass (treeOf t) k) (place t k rateAt -ℤ pos (sumUnder (treeOf t) k (rate t))) (pos 0)
+
+-- Look (node) returns rate, balance and waiting count, and these grains.
 unfoldable pub lookRefusal : List ℤ → ℤ → ℕ
 lookRefusal t node =
     first
@@ -176,7 +180,7 @@ lookRefusal t node =
 unfoldable pub lookAnswer : List ℤ → ℤ → Outcome
 lookAnswer t node =
     outcome (lookRefusal t node)
-    (place t (plus node) rateAt ∷ place t (plus node) balanceAt ∷ place t (plus node) waitingAt ∷ [])
+    (place t (plus node) rateAt ∷ place t (plus node) balanceAt ∷ place t (plus node) waitingAt ∷ lostGrains t (plus node) ∷ [])
 
 -- Same (two tables): yes exactly when both have the same nodes with equal places 1 to 5 and sorts, and equal disk rates.
 unfoldable pub sameTree : List ℤ → List ℤ → Bool

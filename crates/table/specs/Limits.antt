@@ -122,3 +122,7 @@ grainScale = 1000
 -- Numbers of one entry of the dispatch list: client, tag, size, supplier.
 abbrev pub entryLength : ℕ
 entryLength = 4
+
+-- Numbers that look shows: rate, balance, waiting count, lost grains.
+abbrev pub seenLength : ℕ
+seenLength = 4

@@ -43,6 +43,7 @@ pub enum Seen {
         rate: i64,
         balance: i64,
         waiting: i64,
+        lost: i64,
     },
     Refused(Refusal),
 }
@@ -120,6 +121,9 @@ impl Table {
 
     // Numbers of one entry of the dispatch list.
     pub const ENTRY: usize = 4;
+
+    // Numbers that look shows.
+    pub const SEEN: usize = 4;
 
     // Sorts and kinds.
     pub const UNUSED: u64 = 0;

@@ -16,7 +16,7 @@ use Rattle.table.specs.Rates.{rateIn, childRate}
 use Rattle.table.specs.Tick.{grown}
 use Rattle.table.proofs.Facts.{InOrder}
 use Rattle.treelaws.proofs.Children.{class-there}
-use Rattle.treelaws.proofs.Rounding.{children-rates, rate-of-child}
+use Rattle.treelaws.proofs.Rounding.{fair-rates}
 use Rattle.treelaws.proofs.Children.{under-le, under-add}
 use Rattle.treelaws.proofs.Floors.{Floor}
 use Rattle.ticklaws.proofs.Frame.{only-frame, frame-rate}
@@ -54,29 +54,6 @@ module _ (tree : Tree) (r : ℕ → ℕ) (fair : (c : ℕ) → c < nodes → isC
               client = λ c. omega (arith, f .room k hk h .client c, grows k hk);
             };
       }
-
--- A node's rate is the one that the tree gives it.
-pub rate-in-order : (t : List ℤ) → InOrder t → (k : ℕ) → k < nodes → there (treeOf t) k ≡ true → rate t k ≡ rateIn (treeOf t) (rate t root) k
-unfolding rate
-rate-in-order t f k hk h = ap plus (f .rates k hk h) ∙ plus-pos (rateIn (treeOf t) (rate t root) k)
-
-fair-rates : (t : List ℤ) → InOrder t → (c : ℕ) → c < nodes → isClass (treeOf t) c ≡ true → sumUnder (treeOf t) c (rate t) ≤ rate t c
-fair-rates t f c hc e =
-    let tree = treeOf t in
-    let disk = rate t root in
-    omega (
-      arith,
-      under-le tree c (rate t) (childRate tree (rateIn tree disk c))
-          (λ k hk child.
-          omega (
-            arith,
-            rate-in-order t f k hk (child .there),
-            rate-of-child tree disk k (f .child k hk (child .there) (child .below) .level),
-            ap (λ p. childRate tree (rateIn tree disk p) k) (child .parent),
-          )),
-      children-rates tree c (rateIn tree disk c) (f .class c hc e .shares),
-      rate-in-order t f c hc (class-there tree c e),
-    )
 
 no-rate : (t : List ℤ) → InOrder t → (k : ℕ) → k < nodes → there (treeOf t) k ≡ false → rate t k ≡ 0
 unfolding rate

@@ -96,6 +96,9 @@ module _ (tree : Tree) (c : ℕ) where
       sum-mono nodes (λ k. countIf (childOf tree c k) f k) (λ k. countIf (childOf tree c k) g k)
       (λ k hk. count-le (childOf tree c k) f g k (λ e. h k hk (child-facts tree c k e)))
 
+  pub under-cong : (f g : ℕ → ℕ) → ((k : ℕ) → k < nodes → ChildOf tree c k → f k ≡ g k) → sumUnder tree c f ≡ sumUnder tree c g
+  under-cong f g h = omega (arith, under-le f g (λ k hk child. omega (arith, h k hk child)), under-le g f (λ k hk child. omega (arith, h k hk child)))
+
   pub under-add : (f g : ℕ → ℕ) → sumUnder tree c (λ k. f k + g k) ≡ sumUnder tree c f + sumUnder tree c g
   unfolding sumUnder
   under-add f g =
@@ -109,6 +112,9 @@ module _ (tree : Tree) (c : ℕ) where
       sum-cong nodes (λ k. countIf (childOf tree c k) (λ j. f j * n) k) (λ k. countIf (childOf tree c k) f k * n)
       (λ k hk. count-scale (childOf tree c k) f n k)
       ∙ sum-scale nodes (λ k. countIf (childOf tree c k) f k) n
+
+  pub under-zero : (f : ℕ → ℕ) → ((k : ℕ) → k < nodes → ChildOf tree c k → f k ≡ 0) → sumUnder tree c f ≡ 0
+  under-zero f h = omega (arith, under-cong f (λ k. 0) h, under-scale (λ k. 0) 0)
 
   -- Two sums on each side.
   pub under-sums : (f g f' g' : ℕ → ℕ) → ((k : ℕ) → k < nodes → ChildOf tree c k → f k + g k ≤ f' k + g' k) → sumUnder tree c f + sumUnder tree c g ≤ sumUnder tree c f' + sumUnder tree c g'

@@ -2,5 +2,6 @@ pub mod Renewed
 pub mod Children
 pub mod Floors
 pub mod Rounding
+pub mod Lost
 pub mod Joined
 pub mod Joining

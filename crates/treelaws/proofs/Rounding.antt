@@ -2,23 +2,26 @@
 -- kinds. Rounding down each part of a sum gives at most the sum rounded down; so the fixed children get at most the
 -- class's rate x their shares / 10,000, and the weighted ones at most what is left.
 use Prim.Native.Nat.{ℕ, zero, suc, _+_, _*_, _-_, _/_, _≤_, _<_}
-use mathlib.Core.Path.{_≡_, refl, _∙_}
+use mathlib.Core.Path.{_≡_, refl, sym, ap, _∙_}
 use mathlib.Core.Bool.{true, false, cond}
 use mathlib.Core.List.{List, [], _∷_}
 use native.Mathlib.Omega.{arith}
 use native.Mathlib.Nat.{div-mul-le-self, le-div-iff-mul-le, div-le-of-le-mul, div-zero, mul-le-mul-left, add-zero}
 use native.Mathlib.Decide.{ℕ-discrete}
 use lib.IntN.{ℤ}
+use lib.ListN.{length}
+use Rattle.numbers.specs.Whole.{plus}
 use Rattle.numbers.specs.Below.{sumBelow}
 use Rattle.numbers.proofs.Tests.{by-test, cond-true, cond-false}
 use Rattle.numbers.proofs.Parts.{plus-pos, zarith}
 use Rattle.table.specs.Limits.{nodes, root, wholeShare}
-use Rattle.table.specs.Tree.{Tree, treeOf, there, isFixed, childOf, countIf, sumUnder}
+use Rattle.table.specs.Tree.{Tree, treeOf, there, isClass, isFixed, childOf, countIf, sumUnder}
 use Rattle.table.specs.Places.{rate}
 use Rattle.table.specs.Rates.{fixedShare, weight, fixedSum, weightSum, fixedRate, leftRate, weightedRate, childRate, rateAtLevel, rateIn}
 use Rattle.table.proofs.Facts.{InOrder}
-use Rattle.treelaws.proofs.Children.{class-there, child-facts, child-of, child-le-sum}
+use Rattle.treelaws.proofs.Children.{class-there, child-facts, child-of, child-le-sum, under-cong}
 use Rattle.treelaws.specs.Shares.{Share, fixed, weighted, fixedPart, weightPart, sumOf, shareRate, ratesOf}
+use Rattle.treelaws.specs.Lost.{childCount}
 
 -- Rounding down.
 parts-le : (a s u m : ℕ) → a * s / m + a * u / m ≤ a * (s + u) / m
@@ -44,14 +47,14 @@ unfolding weightedRate
 weighted-le l s w h = part-le l s w h
 
 -- The rates of any list of shares, whatever sums they are reckoned with.
-rates-le : (r f w : ℕ) (shares : List Share) → sumOf (shareRate r f w) shares ≤ fixedRate r (sumOf fixedPart shares) + weightedRate (leftRate r f) (sumOf weightPart shares) w
+pub rates-le : (r f w : ℕ) (shares : List Share) → sumOf (shareRate r f w) shares ≤ fixedRate r (sumOf fixedPart shares) + weightedRate (leftRate r f) (sumOf weightPart shares) w
 unfolding sumOf shareRate fixedPart weightPart fixedRate weightedRate
 rates-le r f w [] = omega arith
 rates-le r f w (fixed s ∷ shares) = rw add-zero (omega (arith, rates-le r f w shares, parts-le r (sumOf fixedPart shares) s wholeShare))
 rates-le r f w (weighted s ∷ shares) = omega (arith, rates-le r f w shares, parts-le (leftRate r f) (sumOf weightPart shares) s w)
 
 -- The fixed part and what is left are at most the whole.
-fixed-and-left : (r f : ℕ) → f ≤ wholeShare → fixedRate r f + leftRate r f ≤ r
+pub fixed-and-left : (r f : ℕ) → f ≤ wholeShare → fixedRate r f + leftRate r f ≤ r
 unfolding fixedRate leftRate
 fixed-and-left r f h = let whole : f + (wholeShare - f) ≡ wholeShare = omega arith in omega (arith, rw whole at (parts-le r f (wholeShare - f) wholeShare))
 
@@ -91,15 +94,37 @@ rate-share : (tree : Tree) (r c k : ℕ) → tree .parent k ≡ c → childRate 
 unfolding childRate shareRate shareOf
 rate-share tree r c k p = rw p (by-test (isFixed tree k) (λ e. rw e) (λ e. rw e))
 
--- The law by node numbers: the rates of the children of class c, where its rate is r.
-pub children-rates : (tree : Tree) (c r : ℕ) → fixedSum tree c ≤ wholeShare → sumUnder tree c (childRate tree r) ≤ r
-unfolding fixedSum weightSum sumUnder ratesOf
-children-rates tree c r h =
+sum-of-ones : (shares : List Share) → sumOf (λ s. 1) shares ≡ length shares
+unfolding sumOf
+sum-of-ones [] = refl
+sum-of-ones (s ∷ shares) = omega (arith, sum-of-ones shares)
+
+-- The shares of the children of class c as one list, with the sums over the children as sums over the list; the class has
+-- the rate r.
+pub record Listed (tree : Tree) (c r : ℕ) : Type 0 where
+  pub shares : List Share
+  pub fixedShares : fixedSum tree c ≡ sumOf fixedPart shares
+  pub weights : weightSum tree c ≡ sumOf weightPart shares
+  pub rates : sumUnder tree c (childRate tree r) ≡ ratesOf r shares
+  pub count : childCount tree c ≡ length shares
+
+pub listed : (tree : Tree) (c r : ℕ) → Listed tree c r
+unfolding fixedSum weightSum sumUnder ratesOf childCount
+listed tree c r =
     let shares : List Share = children tree c nodes in
     let fixedShares : fixedSum tree c ≡ sumOf fixedPart shares = sum-of-children tree c nodes (fixedShare tree) fixedPart (λ k e. fixed-share tree k) in
     let weights : weightSum tree c ≡ sumOf weightPart shares = sum-of-children tree c nodes (weight tree) weightPart (λ k e. weight-share tree k) in
-    let rates = sum-of-children tree c nodes (childRate tree r) (shareRate r (sumOf fixedPart shares) (sumOf weightPart shares)) (λ k e. rate-share tree r c k (child-facts tree c k e .parent) ∙ rw (fixedShares, weights)) in
-    omega (arith, rounding r shares (omega arith))
+    record {
+      shares = shares;
+      fixedShares = fixedShares;
+      weights = weights;
+      rates = sum-of-children tree c nodes (childRate tree r) (shareRate r (sumOf fixedPart shares) (sumOf weightPart shares)) (λ k e. rate-share tree r c k (child-facts tree c k e .parent) ∙ rw (fixedShares, weights));
+      count = sum-of-children tree c nodes (λ k. 1) (λ s. 1) (λ k e. refl) ∙ sum-of-ones shares;
+    }
+
+-- The law by node numbers: the rates of the children of class c, where its rate is r.
+pub children-rates : (tree : Tree) (c r : ℕ) → fixedSum tree c ≤ wholeShare → sumUnder tree c (childRate tree r) ≤ r
+children-rates tree c r h = let l = listed tree c r in omega (arith, rounding r (l .shares) (omega arith))
 
 -- A node one level below its parent has the rate of a child of it.
 pub rate-of-child : (tree : Tree) (disk k : ℕ) → tree .level k ≡ suc (tree .level (tree .parent k)) → rateIn tree disk k ≡ childRate tree (rateIn tree disk (tree .parent k)) k
@@ -158,7 +183,27 @@ in-order-bounded t f =
       above = λ k hk e. elim (ℕ-discrete k 0) [ yes z ↦ rw (z, f .root .parent, plus-pos) (rw z at e) | no ne ↦ class-there (treeOf t) (treeOf t .parent k) (f .child k hk e ne .class) ];
     }
 
--- So its rates are at most the disk's.
+-- A node's rate, as it stands in a table in order, is the one that the tree gives it.
+pub rate-in-order : (t : List ℤ) → InOrder t → (k : ℕ) → k < nodes → there (treeOf t) k ≡ true → rate t k ≡ rateIn (treeOf t) (rate t root) k
+unfolding rate
+rate-in-order t f k hk h = ap plus (f .rates k hk h) ∙ plus-pos (rateIn (treeOf t) (rate t root) k)
+
+-- So the rates of a class's children are those of children of its own rate, and sum to at most that.
+pub rates-under : (t : List ℤ) → InOrder t → (c : ℕ) → c < nodes → isClass (treeOf t) c ≡ true → sumUnder (treeOf t) c (rate t) ≡ sumUnder (treeOf t) c (childRate (treeOf t) (rate t c))
+rates-under t f c hc e =
+    let tree = treeOf t in
+    let disk = rate t root in
+    under-cong tree c (rate t) (childRate tree (rate t c))
+    (λ k hk child.
+    rate-in-order t f k hk (child .there)
+    ∙ rate-of-child tree disk k (f .child k hk (child .there) (child .below) .level)
+    ∙ ap (λ p. childRate tree (rateIn tree disk p) k) (child .parent)
+    ∙ ap (λ r. childRate tree r k) (sym (rate-in-order t f c hc (class-there tree c e))))
+
+pub fair-rates : (t : List ℤ) → InOrder t → (c : ℕ) → c < nodes → isClass (treeOf t) c ≡ true → sumUnder (treeOf t) c (rate t) ≤ rate t c
+fair-rates t f c hc e = omega (arith, rates-under t f c hc e, children-rates (treeOf t) c (rate t c) (f .class c hc e .shares))
+
+-- No rate exceeds the disk's.
 pub rates-in-order : (t : List ℤ) → InOrder t → (k : ℕ) → k < nodes → there (treeOf t) k ≡ true → rateIn (treeOf t) (rate t root) k ≤ rate t root
 unfolding rateIn
 rates-in-order t f k hk e = rate-bounded (treeOf t) (in-order-bounded t f) (rate t root) (treeOf t .level k) k hk e

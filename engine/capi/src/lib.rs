@@ -88,7 +88,7 @@ pub unsafe extern "C" fn hds_tick(
     number(Engine.tick(lent_mut(table, table_length), lent_mut(list, list_length)))
 }
 
-/// Look: `seen` gets rate, balance and waiting count.
+/// Look: `seen` gets rate, balance, waiting count and the grains nobody gets.
 #[no_mangle]
 pub unsafe extern "C" fn hds_look(
     table: *const i64,

@@ -1,6 +1,6 @@
 //! The boundary to the archive: the exported functions of `include/hds.h`, and the controller over them.
 
-use hds_engine::{Answer, Controller, NewNode};
+use hds_engine::{Answer, Controller, NewNode, Seen};
 
 extern "C" {
     fn hds_open(table: *mut i64, len: usize, rate: i64, depth: i64) -> i64;
@@ -19,7 +19,7 @@ extern "C" {
     fn hds_change_rate(table: *mut i64, len: usize, rate: i64) -> i64;
     fn hds_request(table: *mut i64, len: usize, client: i64, tag: i64, size: i64) -> i64;
     fn hds_tick(table: *mut i64, len: usize, list: *mut i64, list_len: usize) -> i64;
-    fn hds_look(table: *const i64, len: usize, node: i64, seen: *mut [i64; 3]) -> i64;
+    fn hds_look(table: *const i64, len: usize, node: i64, seen: *mut Seen) -> i64;
     fn hds_same(first: *const i64, first_len: usize, second: *const i64, second_len: usize) -> i64;
     fn hds_plan_read(table: *mut i64, len: usize, plan: *const u8, plan_len: usize) -> i64;
     fn hds_plan_write(table: *const i64, len: usize, buffer: *mut u8, buffer_len: usize) -> i64;
@@ -40,7 +40,7 @@ fn answer(number: i64) -> Answer<i64> {
 }
 
 /// What stands in `seen` before a look; a refused look must leave it.
-const BEFORE: [i64; 3] = [-31, -32, -33];
+const BEFORE: Seen = [-31, -32, -33, -34];
 
 // Each call lends its slices for the time of the call only, and the archive's contract is to write within them.
 impl Controller for Cabinet {
@@ -75,7 +75,7 @@ impl Controller for Cabinet {
         answer(unsafe { hds_tick(numbers, len, list.as_mut_ptr(), list.len()) })
     }
 
-    fn look(&mut self, table: &[i64], node: i64) -> Answer<[i64; 3]> {
+    fn look(&mut self, table: &[i64], node: i64) -> Answer<Seen> {
         let mut seen = BEFORE;
         let told = answer(unsafe { hds_look(table.as_ptr(), table.len(), node, &mut seen) });
         match told {

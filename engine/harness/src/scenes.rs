@@ -1,14 +1,18 @@
 //! Lists of steps with known numbers: the edges of document 01 with the costs of document 02's request (a), every end of
-//! the ranges of cost, every call at wrong lengths and at every limit, a plan cut short, lengthened and changed byte by
-//! byte, and a table damaged in every clause of "in order". Each begins with two zeroed tables.
+//! the ranges of cost, the grains nobody gets before and after every change, every call at wrong lengths and at every
+//! limit, a plan cut short, lengthened and changed byte by byte, and a table damaged in every clause of "in order". Each
+//! begins with two zeroed tables.
 
 use hds_engine::cost::{cost, largest_size, RANGE_ENDS};
 use hds_engine::damage;
 use hds_engine::order::CLAUSES;
+use hds_engine::plan::Plan;
 use hds_engine::random::{run, Profile, Rng};
 use hds_engine::steps::{Call, Step, World};
 use hds_engine::table::*;
 use hds_engine::{Engine, NewNode};
+
+use crate::trees;
 
 /// A name and its steps.
 pub type Scene = (String, Vec<Step>);
@@ -20,6 +24,7 @@ pub fn all() -> Vec<Scene> {
         scenes.push((name.into(), steps));
     }
     scenes.extend(costs());
+    scenes.extend(lost_grains());
     scenes.extend(lengths());
     scenes.extend(limits());
     scenes.extend(plans());
@@ -89,6 +94,11 @@ fn poke(node: usize, place: usize, value: i64) -> Step {
 
 fn looks(nodes: &[i64]) -> Vec<Step> {
     nodes.iter().map(|&node| look(node)).collect()
+}
+
+/// Looks at every node number, and at one beyond them at either end.
+fn look_everywhere() -> Vec<Step> {
+    (-1..=NODES as i64).map(look).collect()
 }
 
 fn ticks(count: usize, list_len: usize) -> Vec<Step> {
@@ -381,6 +391,143 @@ fn costs() -> Vec<Scene> {
     scenes
 }
 
+/// The grains nobody gets: after each step every node is looked at.
+fn lost_grains() -> Vec<Scene> {
+    let weights =
+        |count| -> Vec<Step> { (1..=count).map(|node| client(node, 0, WEIGHTED, 1, 1)).collect() };
+    let thirds =
+        [(1, 3333), (2, 3333), (3, 3334)].map(|(node, share)| client(node, 0, FIXED, share, 1));
+    let nested = [1, 2, 3].map(|node| class(node, node - 1, FIXED, 5000, 40));
+    let tiny = |rate| {
+        [
+            open(rate, 40),
+            class(1, 0, FIXED, 1000, 20),
+            client(2, 1, FIXED, 10_000, 1),
+            client(3, 1, WEIGHTED, 1, 1),
+            client(4, 0, WEIGHTED, 1, 1),
+            client(5, 0, WEIGHTED, 1, 1),
+            change_share(1, FIXED, 10_000),
+        ]
+    };
+    let scenes = vec![
+        (
+            "the paper's rates",
+            vec![
+                open(1000, 40),
+                class(1, 0, FIXED, 5000, 30),
+                client(2, 1, FIXED, 4000, 10),
+                client(3, 1, WEIGHTED, 4, 10),
+                client(4, 1, WEIGHTED, 6, 10),
+            ],
+        ),
+        ("three weights of 1", [vec![open(1000, 40)], weights(3)].concat()),
+        (
+            "three thirds, with a weight and without",
+            [&[open(1000, 40)], &thirds[..], &[client(4, 0, WEIGHTED, 1, 1), leave(4)]].concat(),
+        ),
+        (
+            "no children on any level",
+            [
+                &[open(1000, 40)],
+                &nested[..],
+                &[client(4, 3, WEIGHTED, 1, 8), leave(4), leave(3), leave(2), leave(1)],
+            ]
+            .concat(),
+        ),
+        (
+            "every change of the tree, accepted and refused",
+            vec![
+                open(1000, 40),
+                client(1, 0, WEIGHTED, 1, 1),
+                client(2, 0, WEIGHTED, 2, 1),
+                class(3, 0, FIXED, 3333, 9),
+                class(3, 0, FIXED, 1, 1),
+                client(4, 3, FIXED, 5000, 1),
+                change_share(4, WEIGHTED, 9),
+                change_share(4, FIXED, 9999),
+                change_share(4, FIXED, 10_001),
+                change_share(1, FIXED, 1),
+                change_share(2, FIXED, 1),
+                change_share(2, FIXED, 9999),
+                change_rate(10_000),
+                change_rate(0),
+                leave(1),
+                leave(3),
+                leave(4),
+                leave(3),
+                leave(2),
+            ],
+        ),
+        (
+            "a change at the root",
+            vec![
+                open(1000, 40),
+                class(1, 0, WEIGHTED, 1, 30),
+                class(2, 1, WEIGHTED, 1, 30),
+                client(3, 2, WEIGHTED, 1, 10),
+                client(4, 2, WEIGHTED, 1, 10),
+                client(5, 2, WEIGHTED, 1, 10),
+                change_rate(1001),
+                change_rate(999),
+                client(6, 0, WEIGHTED, 1, 10),
+            ],
+        ),
+        (
+            "ticks and requests",
+            [
+                vec![open(1000, 40), class(4, 0, FIXED, 1, 8)],
+                (1..=3).map(|node| client(node, 0, WEIGHTED, 1, 8)).collect(),
+                vec![request(1, 7, 1), request(2, 7, 7), request(2, 7, 1)],
+                ticks(30, 12),
+            ]
+            .concat(),
+        ),
+        (
+            "63 children of weight 1",
+            [vec![open(1000, 63)], weights(63), vec![change_rate(MAX_RATE)]].concat(),
+        ),
+        (
+            "63 children of the weights 1 to 63",
+            [
+                vec![open(MAX_RATE, 63)],
+                (1..64).map(|node| client(node, 0, WEIGHTED, node, 1)).collect(),
+                vec![change_rate(2016), change_rate(2015), change_rate(1)],
+            ]
+            .concat(),
+        ),
+        (
+            "63 fixed children, then weighted ones",
+            [
+                vec![open(MAX_RATE, 63)],
+                (1..64).map(|node| client(node, 0, FIXED, 1 + node % 3, 1)).collect(),
+                vec![change_rate(1000)],
+                (1..64).map(|node| change_share(node, WEIGHTED, 1)).collect(),
+            ]
+            .concat(),
+        ),
+        (
+            "63 nodes on all levels",
+            [
+                vec![plan_read(&Plan::of_table(&trees::large(1_000_000)).encode())],
+                [1, 2, 3, 4].map(|node| change_share(node, FIXED, 77)).to_vec(),
+                [1, 2, 3, 4].map(|node| change_share(node, WEIGHTED, 77)).to_vec(),
+                [1, 7, 999_983, MAX_RATE].map(change_rate).to_vec(),
+                (5..63).map(leave).collect(),
+                [3, 2, 1, 4].map(leave).to_vec(),
+            ]
+            .concat(),
+        ),
+        ("rates too small to divide", (1..=12).flat_map(tiny).collect()),
+    ];
+    let looked_at = |step| [vec![step], look_everywhere()].concat();
+    scenes
+        .into_iter()
+        .map(|(name, steps)| {
+            (format!("lost grains, {name}"), steps.into_iter().flat_map(looked_at).collect())
+        })
+        .collect()
+}
+
 /// A table with a tree and requests that wait, two of which cost their clients' depth.
 fn sound() -> Vec<Step> {
     vec![
@@ -497,7 +644,8 @@ fn limits() -> Vec<Scene> {
     vec![("limits".into(), steps)]
 }
 
-/// Tables with one clause of "in order" broken and no other, and every call on each of them. Every clause is reached.
+/// Tables with one clause of "in order" broken and no other, and every call and a look at every node on each of them.
+/// Every clause is reached. Then tables with another tree written from outside, in order, and looks at every node.
 fn damaged() -> Vec<Scene> {
     let mut scenes = Vec::new();
     let mut reached = [false; CLAUSES.len()];
@@ -508,18 +656,24 @@ fn damaged() -> Vec<Scene> {
             world.run(&mut Engine, step);
         }
         let mut rng = Rng::new(seed);
-        for clause in 0..CLAUSES.len() {
+        for (clause, reached) in reached.iter_mut().enumerate() {
             if let Some(damage) = damage::isolated(&mut rng, world.table.inner(), clause) {
-                reached[clause] = true;
+                *reached = true;
                 for call in every_call() {
-                    steps.push(Step::Keep);
-                    steps.extend(damage.iter().cloned());
-                    steps.extend([call, Step::Restore]);
+                    steps.extend(episode(&damage, &[call]));
                 }
+                steps.extend(episode(&damage, &look_everywhere()));
             }
         }
+        let other = damage::other_tree(&mut rng, world.table.inner());
+        steps.extend(episode(&other, &look_everywhere()));
         scenes.push((format!("damage {seed}"), steps));
     }
     assert!(reached.iter().all(|&clause| clause), "a clause is never broken alone: {reached:?}");
     scenes
+}
+
+/// Calls on a table that was written from outside, which is put back afterwards.
+fn episode(damage: &[Step], calls: &[Step]) -> Vec<Step> {
+    [&[Step::Keep], damage, calls, &[Step::Restore]].concat()
 }

@@ -76,6 +76,11 @@ pub fn renumber(table: &mut [i64], number: fn(i64) -> i64) {
     table[ACCEPTED] = number(table[ACCEPTED]);
 }
 
+/// The class of the highest number, the root where it is the only one.
+pub fn last_class(table: &[i64]) -> i64 {
+    hds_engine::table::classes(table).last().unwrap_or(0) as i64
+}
+
 /// The client of the highest number.
 pub fn last_client(table: &[i64]) -> i64 {
     hds_engine::table::clients(table).last().unwrap_or(0) as i64

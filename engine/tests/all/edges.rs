@@ -162,7 +162,7 @@ fn looks_at_no_node() {
     for (node, number) in [(-1, 2), (64, 2), (4, 3), (6, 3), (63, 3)] {
         assert_eq!(disk.look(node), Err(number));
     }
-    assert_eq!([0, 5].map(|node| disk.look(node)), [Ok([1000, 0, 0]); 2]);
+    assert_eq!([0, 5].map(|node| disk.look(node)), [Ok([1000, 0, 0, 0]); 2]);
 }
 
 #[test]
@@ -216,7 +216,7 @@ fn the_ninth_waiting_request() {
         assert_eq!(disk.request(5, -arrival, 12), Ok(arrival));
     }
     assert_eq!(disk.request(5, 0, 1), Err(QUEUE_FULL));
-    assert_eq!(disk.look(5), Ok([1, 0, 8]));
+    assert_eq!(disk.look(5), Ok([1, 0, 8, 0]));
 }
 
 #[test]

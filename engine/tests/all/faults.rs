@@ -207,9 +207,9 @@ fn a_waiting_size_of_the_depth_is_out_of_order() {
     disk.request(5, 0, 12).unwrap();
     let mut by_size = Faulty::new(Fault::OrdersBySize);
     for (size, right, wrong) in [
-        (12, Ok([1, 0, 1]), Ok([1, 0, 1])),
-        (13, Err(1), Ok([1, 0, 1])),
-        (16, Err(1), Ok([1, 0, 1])),
+        (12, Ok([1, 0, 1, 0]), Ok([1, 0, 1, 0])),
+        (13, Err(1), Ok([1, 0, 1, 0])),
+        (16, Err(1), Ok([1, 0, 1, 0])),
         (17, Err(1), Err(1)),
     ] {
         disk.poke(5, QUEUE + 1, size);

@@ -4,6 +4,7 @@ mod costs;
 mod edges;
 mod faults;
 mod judging;
+mod lost_grains;
 mod ordering;
 mod plan_files;
 mod refusals;

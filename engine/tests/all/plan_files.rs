@@ -80,7 +80,7 @@ fn a_table_of_any_contents_is_read_into() {
     assert_eq!(Engine.plan_read(&with_byte(8, 2), &mut table), Err(14));
     assert_eq!(table, vec![-1; TABLE_LEN]);
     assert_eq!(Engine.plan_read(&PAPER, &mut table), Ok(0));
-    assert_eq!(Engine.look(&table, 5), Ok([1000, 0, 0]));
+    assert_eq!(Engine.look(&table, 5), Ok([1000, 0, 0, 0]));
     let mut short = vec![-1; TABLE_LEN - 1];
     assert_eq!(Engine.plan_read(&[], &mut short), Err(1));
 }

@@ -394,10 +394,10 @@ fn causes_of_look() {
     let mut disk = deep();
     first_cause_counts(&disk.table, &OUTSIDE_NODES.map(|node| (&[2, 3][..], look(node))));
     first_cause_counts(&disk.table, &[(&[3], look(60)), (&[3], look(6)), (&[3], look(63))]);
-    assert_eq!(disk.look(0), Ok([1000, 0, 0]));
+    assert_eq!(disk.look(0), Ok([1000, 0, 0, 0]));
     disk.request(4, 0, 16).unwrap();
     assert_eq!(disk.tick(), Vec::<Entry>::new());
-    assert_eq!(disk.look(4), Ok([62, 62, 1]));
+    assert_eq!(disk.look(4), Ok([62, 62, 1, 0]));
 }
 
 #[test]

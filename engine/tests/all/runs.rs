@@ -7,7 +7,7 @@ use hds_engine::differential::{differential, differential_runs, first_difference
 use hds_engine::random::{run, Profile, Rng};
 use hds_engine::steps::{Call, Reply, Step, World};
 use hds_engine::table::*;
-use hds_engine::{plans, Answer, Controller, Engine, NewNode};
+use hds_engine::{plans, Answer, Controller, Engine, NewNode, Seen};
 
 #[test]
 fn two_hundred_thousand_calls_against_itself() {
@@ -271,7 +271,7 @@ impl Controller for Panicking {
         }
         Engine.tick(table, list)
     }
-    fn look(&mut self, table: &[i64], node: i64) -> Answer<[i64; 3]> {
+    fn look(&mut self, table: &[i64], node: i64) -> Answer<Seen> {
         Engine.look(table, node)
     }
     fn same(&mut self, first: &[i64], second: &[i64]) -> Answer<bool> {

@@ -4,7 +4,7 @@
 use hds_engine::differential::first_difference;
 use hds_engine::random::{run, Profile};
 use hds_engine::refusal::NOT_IN_ORDER;
-use hds_engine::{Answer, Controller, Engine, NewNode};
+use hds_engine::{Answer, Controller, Engine, NewNode, Seen};
 
 #[derive(Clone, Copy, Debug, PartialEq)]
 enum Name {
@@ -92,8 +92,8 @@ impl Controller for Stuck {
         self.make(Name::Tick, 0, list, |list| Engine.tick(table, list))
     }
 
-    fn look(&mut self, table: &[i64], node: i64) -> Answer<[i64; 3]> {
-        self.make(Name::Look, [0; 3], &mut [0], |_| Engine.look(table, node))
+    fn look(&mut self, table: &[i64], node: i64) -> Answer<Seen> {
+        self.make(Name::Look, Seen::default(), &mut [0], |_| Engine.look(table, node))
     }
 
     fn same(&mut self, first: &[i64], second: &[i64]) -> Answer<bool> {

@@ -3,7 +3,7 @@
 use hds_engine::order;
 use hds_engine::steps::{Call, Reply, Step, World};
 use hds_engine::table::*;
-use hds_engine::{Answer, Controller, Engine, NewNode};
+use hds_engine::{Answer, Controller, Engine, NewNode, Seen};
 
 /// A table under the engine, with short calls.
 pub struct Disk {
@@ -41,7 +41,7 @@ impl Disk {
         self.engine.request(&mut self.table, client, tag, size)
     }
 
-    pub fn look(&mut self, node: i64) -> Answer<[i64; 3]> {
+    pub fn look(&mut self, node: i64) -> Answer<Seen> {
         self.engine.look(&self.table, node)
     }
 
@@ -76,6 +76,11 @@ impl Disk {
 
     pub fn balance(&mut self, node: i64) -> i64 {
         self.look(node).unwrap()[1]
+    }
+
+    /// The grains that nobody gets of a node's rate.
+    pub fn lost(&mut self, node: i64) -> i64 {
+        self.look(node).unwrap()[3]
     }
 
     /// Writes a place of a record from outside.
@@ -148,7 +153,7 @@ impl<C: Controller> Controller for Watched<C> {
         answer
     }
 
-    fn look(&mut self, table: &[i64], node: i64) -> Answer<[i64; 3]> {
+    fn look(&mut self, table: &[i64], node: i64) -> Answer<Seen> {
         self.0.look(table, node)
     }
 

@@ -123,7 +123,7 @@ fn those_behind_move_up_and_leave_zeros() {
     let queue = &record(&disk.table, 1)[QUEUE..];
     assert_eq!(queue[..6], [-6, 9, 2, i64::MAX, 8, 3]);
     assert!(queue[6..].iter().all(|&number| number == 0));
-    assert_eq!(disk.look(1), Ok([8000, 0, 2]));
+    assert_eq!(disk.look(1), Ok([8000, 0, 2, 0]));
 }
 
 #[test]
@@ -135,7 +135,7 @@ fn all_balances_at_their_largest() {
         disk.request(1, 0, MAX_DEPTH - 16).unwrap();
     }
     assert_eq!(disk.tick().len(), 2);
-    assert_eq!(disk.look(1), Ok([MAX_RATE, 0, 6]));
+    assert_eq!(disk.look(1), Ok([MAX_RATE, 0, 6, 0]));
 }
 
 #[test]

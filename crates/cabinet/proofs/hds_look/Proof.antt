@@ -1,4 +1,4 @@
--- `cabinet::hds_look` meets its contract: accepted, the three values stand in the lent buffer; refused, it is as it came.
+-- `cabinet::hds_look` meets its contract: accepted, the four values stand in the lent buffer; refused, it is as it came.
 use mathlib.Core.Path.{_≡_, sym, ap, _∙_}
 use mathlib.Core.List.{List, [], _∷_}
 use borrow.Author.Needs.{needs, sfits-of}
@@ -19,15 +19,15 @@ use Rattle.cabinet.proofs.hds_look.Tie as tie
 promised : (c : tie.After-look) → let s = c .before in toldSeen (c .look .result) ≡ lookAnswer (s .args .table .now) (s .args .node)
 promised c = let s = c .before in rw (toZ-ofZ w64 (s .args .node) (s .fits .node)) at (c .look .ensures)
 
-three : {a b c x y z : ℤ} → x ≡ a → y ≡ b → z ≡ c → _≡_ {A = List ℤ} (x ∷ y ∷ z ∷ []) (a ∷ b ∷ c ∷ [])
-three p q r = cc
+four : {a b c d w x y z : ℤ} → w ≡ a → x ≡ b → y ≡ c → z ≡ d → _≡_ {A = List ℤ} (w ∷ x ∷ y ∷ z ∷ []) (a ∷ b ∷ c ∷ d ∷ [])
+four p q r s = cc
 
 -- The number and the buffer of an outcome that a node, or a refusal, tells.
-number-of-node : {r : Seen} {o : Outcome} {a b c : ℤ} → r ≡ Node a b c → toldSeen r ≡ o → pos 0 ≡ exportedBare o
+number-of-node : {r : Seen} {o : Outcome} {a b c d : ℤ} → r ≡ Node a b c d → toldSeen r ≡ o → pos 0 ≡ exportedBare o
 unfolding exportedBare toldSeen
 number-of-node e h = sym (sym (ap exportedBare h) ∙ ap (λ (x : Seen). exportedBare (toldSeen x)) e)
 
-buffer-of-node : {r : Seen} {o : Outcome} {a b c : ℤ} (old : List ℤ) → r ≡ Node a b c → toldSeen r ≡ o → a ∷ b ∷ c ∷ [] ≡ shown o old
+buffer-of-node : {r : Seen} {o : Outcome} {a b c d : ℤ} (old : List ℤ) → r ≡ Node a b c d → toldSeen r ≡ o → a ∷ b ∷ c ∷ d ∷ [] ≡ shown o old
 unfolding shown toldSeen
 buffer-of-node old e h = sym (sym (ap (λ (x : Outcome). shown x old) h) ∙ ap (λ (x : Seen). shown (toldSeen x) old) e)
 
@@ -60,10 +60,11 @@ returns c =
     let h = promised look in
     let fits = c .before .known-told .given in (
       number-of-node e h,
-      three
+      four
           (toZ-ofZ w64 _ (record { sfits = fits .0 .1 }))
           (toZ-ofZ w64 _ (record { sfits = fits .1 .0 .1 }))
           (toZ-ofZ w64 _ (record { sfits = fits .1 .1 .0 .1 }))
+          (toZ-ofZ w64 _ (record { sfits = fits .1 .1 .1 .0 .1 }))
           ∙ buffer-of-node (s .args .seen .now) e h,
     )
 

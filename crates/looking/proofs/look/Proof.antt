@@ -1,16 +1,17 @@
--- `looking::look` meets its contract: refused, the number only; accepted, three places of the record.
+-- `looking::look` meets its contract: refused, the number only; accepted, three places of the record and the lost grains.
 use Prim.Native.Nat.{_<_}
 use mathlib.Core.Path.{_≡_, sym, ap, _∙_}
+use mathlib.Core.Bool.{true}
 use mathlib.Core.List.{List, [], _∷_}
 use native.Mathlib.Omega.{arith}
 use borrow.Author.Needs.{sfits-of}
 use borrow.Author.Tests.{not-false}
-use lib.ListN.{length}
 use lib.IntN.{ℤ}
 use mir.Syntax.{w64}
 use mir.ValLaws.{toZ-ofZ}
 use Rattle.numbers.specs.Whole.{plus}
-use Rattle.table.specs.Limits.{tableLength, nodes}
+use Rattle.table.specs.Limits.{nodes}
+use Rattle.table.specs.Order.{inOrder}
 use Rattle.table.specs.Answers.{toldSeen}
 use Rattle.table.specs.Refusals.{accepted, refused}
 use Rattle.table.specs.Calls.{lookRefusal, lookAnswer}
@@ -28,18 +29,18 @@ none c = sym (number (c .before)) ∙ c .if1 .left
 node : (c : tie.After-natural) → c .natural .result ≡ plus (c .before .before .before .args .node)
 node c = natural-of (c .natural .ensures) (c .before .before .before .fits .node)
 
-values : {a b c d e f : ℤ} → a ≡ b → c ≡ d → e ≡ f → accepted (a ∷ c ∷ e ∷ []) ≡ accepted (b ∷ d ∷ f ∷ [])
-values p q r = cc
+values : {a b c d e f g h : ℤ} → a ≡ b → c ≡ d → e ≡ f → g ≡ h → accepted (a ∷ c ∷ e ∷ g ∷ []) ≡ accepted (b ∷ d ∷ f ∷ h ∷ [])
+values p q r s = cc
 
--- An accepted look has a table of the right length and a node within its limits.
-passed : (t : List ℤ) (z : ℤ) → lookRefusal t z ≡ 0 → (length t ≡ tableLength) × (plus z < nodes)
+-- An accepted look has a table in order and a node within its limits.
+passed : (t : List ℤ) (z : ℤ) → lookRefusal t z ≡ 0 → (inOrder t ≡ true) × (plus z < nodes)
 unfolding lookRefusal
 passed t z h =
     let p = none-first 1 _ _ (omega arith) h in
     let q = none-first 2 _ _ (omega arith) (p .1) in
-    (long t (not-false _ (p .0)), below 0 z (not-false _ (q .0)))
+    (not-false _ (p .0), below 0 z (not-false _ (q .0)))
 
-safe : (c : tie.After-natural) → let s = c .before .before .before in (length (s .args .table .now) ≡ tableLength) × (c .natural .result < nodes)
+safe : (c : tie.After-natural) → let s = c .before .before .before in (inOrder (s .args .table .now) ≡ true) × (c .natural .result < nodes)
 safe c = let p = passed _ _ (none (c .before)) in (p .0, omega (arith, node c))
 
 returns : tie.Need-returns
@@ -52,11 +53,15 @@ returns c =
 returns-2 : tie.Need-returns-2
 unfolding toldSeen lookAnswer
 returns-2 c =
-    let natural = c .before .before .before in
-    let rate = toZ-ofZ w64 (c .before .before .get .result) (sfits-of (c .before .before .get .ok)) ∙ (rw (node natural) at (c .before .before .get .ensures)) in
-    let balance = toZ-ofZ w64 (c .before .get2 .result) (sfits-of (c .before .get2 .ok)) ∙ (rw (node natural) at (c .before .get2 .ensures)) in
-    let waits = toZ-ofZ w64 (c .get3 .result) (sfits-of (c .get3 .ok)) ∙ (rw (node natural) at (c .get3 .ensures)) in
-    values rate balance waits ∙ sym (outcome-accepted _ _ (none (natural .before)))
+    let got3 = c .before in
+    let got2 = got3 .before in
+    let got = got2 .before in
+    let natural = got .before in
+    let rate = toZ-ofZ w64 (got .get .result) (sfits-of (got .get .ok)) ∙ (rw (node natural) at (got .get .ensures)) in
+    let balance = toZ-ofZ w64 (got2 .get2 .result) (sfits-of (got2 .get2 .ok)) ∙ (rw (node natural) at (got2 .get2 .ensures)) in
+    let waits = toZ-ofZ w64 (got3 .get3 .result) (sfits-of (got3 .get3 .ok)) ∙ (rw (node natural) at (got3 .get3 .ensures)) in
+    let lost = toZ-ofZ w64 (c .lost-grains .result) (sfits-of (c .lost-grains .ok)) ∙ (rw (node natural) at (c .lost-grains .ensures)) in
+    values rate balance waits lost ∙ sym (outcome-accepted _ _ (none (natural .before)))
 
 pub look-spec : {M : Type 1} → statement M
 look-spec =
@@ -66,7 +71,8 @@ look-spec =
     (λ c κs. omega (arith, c .if1 .taken))
     returns
     (λ c κs. tt)
-    (λ c κs. let p = safe c in (p .0, p .1, omega arith))
-    (λ c κs. let p = safe (c .before) in (p .0, p .1, omega arith))
-    (λ c κs. let p = safe (c .before .before) in (p .0, p .1, omega arith))
+    (λ c κs. let p = safe c in (long _ (p .0), p .1, omega arith))
+    (λ c κs. let p = safe (c .before) in (long _ (p .0), p .1, omega arith))
+    (λ c κs. let p = safe (c .before .before) in (long _ (p .0), p .1, omega arith))
+    (λ c κs. safe (c .before .before .before))
     returns-2)

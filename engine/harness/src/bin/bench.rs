@@ -39,7 +39,9 @@ fn cases() -> Vec<Case> {
         [("three nodes", trees::small(1000)), ("63 nodes", trees::large(1_000_000))]
     {
         let name = |call: &str| -> &'static str { format!("{call}, {nodes}").leak() };
-        cases.push((name("look"), table.clone(), Box::new(look)));
+        let (client, class) = (trees::last_client(&table), trees::last_class(&table));
+        cases.push((name("look at a client"), table.clone(), look_at(client)));
+        cases.push((name("look at a class"), table.clone(), look_at(class)));
         cases.push((name("request"), table.clone(), Box::new(request)));
         cases.push((name("join and leave"), table.clone(), Box::new(join_and_leave)));
         cases.push((name("tick, idle"), table.clone(), Box::new(tick)));
@@ -61,18 +63,15 @@ fn cases() -> Vec<Case> {
         }
         let mut waiting = table.clone();
         trees::fill(&mut waiting, 8, usize::MAX, 300);
-        cases.push((name("look, every queue full"), waiting.clone(), Box::new(look)));
+        let look = "look at a client, every queue full";
+        cases.push((name(look), waiting.clone(), look_at(client)));
         for (numbers, number) in [
             ("numbers scattered", scattered as fn(i64) -> i64),
             ("numbers in steps of 4,093", stepped as fn(i64) -> i64),
         ] {
             let mut waiting = waiting.clone();
             trees::renumber(&mut waiting, number);
-            cases.push((
-                name(&format!("look, every queue full, {numbers}")),
-                waiting,
-                Box::new(look),
-            ));
+            cases.push((name(&format!("{look}, {numbers}")), waiting, look_at(client)));
         }
         cases.push((name("plan read"), table.clone(), plan_read(&table)));
     }
@@ -93,8 +92,8 @@ fn check(what: &str, table: &[i64]) {
     assert!(right, "{what}: {gone} of {waiting}, {from_root} from the root");
 }
 
-fn look(controller: &mut dyn Controller, table: &mut [i64], _: &mut [i64]) {
-    assert!(controller.look(table, 1).is_ok());
+fn look_at(node: i64) -> Call {
+    Box::new(move |controller, table, _| assert!(controller.look(table, node).is_ok()))
 }
 
 fn request(controller: &mut dyn Controller, table: &mut [i64], _: &mut [i64]) {

@@ -25,16 +25,16 @@ abbrev credited : tie.At-loop Inv-loop μ-loop → tie.After-sums3 Inv-loop μ-l
 credited c = c .before .before
 
 sums-requires : tie.Need-sums-requires Inv-loop μ-loop
-sums-requires c κs = (c .pre .0, summable FixedShares _ (c .pre .1))
+sums-requires c κs = (c .pre .0, summable FixedShares _ refl (c .pre .1))
 
 sums-requires-2 : tie.Need-sums-requires-2 Inv-loop μ-loop
-sums-requires-2 c κs = (c .before .pre .0, summable Depths _ (c .before .pre .1))
+sums-requires-2 c κs = (c .before .pre .0, summable Depths _ refl (c .before .pre .1))
 
 sums-requires-3 : tie.Need-sums-requires-3 Inv-loop μ-loop
-sums-requires-3 c κs = (c .before .before .pre .0, summable Credits _ (c .before .before .pre .1))
+sums-requires-3 c κs = (c .before .before .pre .0, summable Credits _ refl (c .before .before .pre .1))
 
 sums-requires-4 : tie.Need-sums-requires-4 Inv-loop μ-loop
-sums-requires-4 c κs = (c .before .before .before .pre .0, summable Debts _ (c .before .before .before .pre .1))
+sums-requires-4 c κs = (c .before .before .before .pre .0, summable Debts _ refl (c .before .before .before .pre .1))
 
 loop-holds : tie.Need-loop-holds Inv-loop μ-loop
 unfolding allBelow
@@ -83,8 +83,8 @@ class-covers-requires c κs =
         credits = credits;
         debts = debts;
       },
-      omega (arith, credits, sum-small Credits t (start .pre .1) k),
-      omega (arith, debts, sum-small Debts t (start .pre .1) k),
+      omega (arith, credits, sum-small Credits t refl (start .pre .1) k),
+      omega (arith, debts, sum-small Debts t refl (start .pre .1) k),
     )
 
 add-c : tie.Need-add-c Inv-loop μ-loop

@@ -3,7 +3,7 @@ use mathlib.Core.Path.{ap, _∙_}
 use mir.Facts.{toZ-ofZ}
 use borrow.Author.Needs.{sfits-of}
 use Rattle.numbers.specs.Whole.{minus}
-use Rattle.table.specs.Places.{balance}
+use Rattle.table.specs.Places.{rate, balance}
 use Rattle.table.specs.Tree.{treeOf}
 use Rattle.rating.specs.Sums.{term}
 use borrow.Author.Needs.{needs}
@@ -37,6 +37,12 @@ natural-requires-2 c κs = search needs
 enum-told-5 : tie.Need-enum-told-5
 enum-told-5 c = search needs
 
+natural-requires-3 : tie.Need-natural-requires-3
+natural-requires-3 c κs = search needs
+
+enum-told-6 : tie.Need-enum-told-6
+enum-told-6 c = search needs
+
 get-requires : tie.Need-get-requires
 get-requires c κs = search needs
 
@@ -56,14 +62,18 @@ unfolding term treeOf
 returns-3 c = rw (c .before .enum-told3 .given .1) (c .natural .ensures)
 
 returns-4 : tie.Need-returns-4
-unfolding term balance
+unfolding term rate
 returns-4 c = rw (c .before .enum-told4 .given .1) (c .natural2 .ensures)
 
 returns-5 : tie.Need-returns-5
 unfolding term balance
-returns-5 c =
+returns-5 c = rw (c .before .enum-told5 .given .1) (c .natural3 .ensures)
+
+returns-6 : tie.Need-returns-6
+unfolding term balance
+returns-6 c =
     let got = c .before .get in
-    rw (c .before .before .enum-told5 .given .1) (c .negative .ensures ∙ ap minus (toZ-ofZ (sfits-of (got .ok)) ∙ got .ensures))
+    rw (c .before .before .enum-told6 .given .1) (c .negative .ensures ∙ ap minus (toZ-ofZ (sfits-of (got .ok)) ∙ got .ensures))
 
 pub term-spec : {M : Type 1} → statement M
 term-spec =
@@ -78,10 +88,13 @@ term-spec =
     enum-told-4
     natural-requires-2
     enum-told-5
+    natural-requires-3
+    enum-told-6
     get-requires
     negative-requires
     returns
     returns-2
     returns-3
     returns-4
-    returns-5)
+    returns-5
+    returns-6)

@@ -1,0 +1,167 @@
+-- The law on lost grains, for any number of children of mixed kinds. Every division by itself loses less than a grain. The
+-- rates of the fixed children and what is left are as many divisions as there are fixed children, and one: together they
+-- lose at most a grain for each fixed child. The weighted children divide what is left among all of them, and lose less
+-- than a grain for each.
+use Prim.Native.Nat.{ℕ, zero, suc, _+_, _*_, _-_, _≤_, _<_}
+use mathlib.Core.Path.{_≡_, refl, ap, _∙_}
+use mathlib.Core.Bool.{true, false, not}
+use mathlib.Core.List.{List, [], _∷_}
+use native.Mathlib.Omega.{arith}
+use native.Mathlib.Nat.{div-zero, lt-of-mul-lt-mul-right}
+use borrow.Author.Tests.{not-true}
+use lib.ListN.{length}
+use lib.IntN.{ℤ, pos}
+use lib.Signed.{leZ}
+use Rattle.numbers.specs.Whole.{plus, minus}
+use Rattle.numbers.proofs.Tests.{by-test, true-false, cond-true}
+use Rattle.numbers.proofs.All.{all-at}
+use Rattle.numbers.proofs.Parts.{one-is-zero, plus-pos, minus-pos, eq-parts, add-parts, zarith}
+use Rattle.table.specs.Limits.{nodes, rateAt, wholeShare}
+use Rattle.table.specs.Places.{place, rate}
+use Rattle.table.specs.Tree.{Tree, treeOf, there, isClass, isFixed, childOf, childless, sumUnder}
+use Rattle.table.specs.Rates.{weight, weightSum, fixedSum, fixedRate, leftRate, weightedRate, childRate}
+use Rattle.table.specs.Calls.{lostGrains}
+use Rattle.table.proofs.Facts.{InOrder}
+use Rattle.table.proofs.Rates.{fixed-rounded, left-rounded, weighted-rounded}
+use Rattle.table.proofs.Lost.{class-rate, client-loses}
+use Rattle.treelaws.specs.Shares.{Share, fixed, weighted, fixedPart, weightPart, sumOf, shareRate, ratesOf}
+use Rattle.treelaws.specs.Lost.{Lost, childCount, leftOf, NoneWeighted}
+use Rattle.treelaws.proofs.Children.{ChildOf, child-facts, child-of, class-there, under-zero}
+use Rattle.treelaws.proofs.Rounding.{rates-le, fixed-and-left, listed, weight-le-sum, rates-under, fair-rates}
+
+-- The shares of a list by kind: how many there are, and the sums of their rates.
+record ByKind (r f w : ℕ) (shares : List Share) : Type 0 where
+  fixedCount : ℕ
+  weightedCount : ℕ
+  fixedRates : ℕ
+  weightedRates : ℕ
+  count : fixedCount + weightedCount ≡ length shares
+  rates : fixedRates + weightedRates ≡ sumOf (shareRate r f w) shares
+  some : 0 < sumOf weightPart shares → 0 < weightedCount
+  fixed-near : r * sumOf fixedPart shares + fixedCount ≤ (fixedRates + fixedCount) * wholeShare
+  weighted-near : 0 < w → leftRate r f * sumOf weightPart shares + weightedCount ≤ (weightedRates + weightedCount) * w
+
+by-kind : (r f w : ℕ) (shares : List Share) → ByKind r f w shares
+unfolding sumOf shareRate fixedPart weightPart
+by-kind r f w [] =
+    record {
+      fixedCount = 0;
+      weightedCount = 0;
+      fixedRates = 0;
+      weightedRates = 0;
+      count = refl;
+      rates = refl;
+      some = λ h. h;
+      fixed-near = omega arith;
+      weighted-near = λ h. omega arith;
+    }
+by-kind r f w (fixed s ∷ shares) =
+    let p = by-kind r f w shares in
+    record {
+      fixedCount = p .fixedCount + 1;
+      weightedCount = p .weightedCount;
+      fixedRates = p .fixedRates + fixedRate r s;
+      weightedRates = p .weightedRates;
+      count = omega arith;
+      rates = omega arith;
+      some = λ h. p .some (omega arith);
+      fixed-near = omega (arith, fixed-rounded r s);
+      weighted-near = λ h. omega (arith, p .weighted-near h);
+    }
+by-kind r f w (weighted s ∷ shares) =
+    let p = by-kind r f w shares in
+    record {
+      fixedCount = p .fixedCount;
+      weightedCount = p .weightedCount + 1;
+      fixedRates = p .fixedRates;
+      weightedRates = p .weightedRates + weightedRate (leftRate r f) s w;
+      count = omega arith;
+      rates = omega arith;
+      some = λ h. omega arith;
+      fixed-near = omega arith;
+      weighted-near = λ h. omega (arith, p .weighted-near h, weighted-rounded (leftRate r f) s w h);
+    }
+
+-- The law for a class of rate r and a list of shares.
+record LostOf (r : ℕ) (shares : List Share) : Type 0 where
+  weighted : 0 < sumOf weightPart shares → r < ratesOf r shares + length shares
+  least : sumOf weightPart shares ≡ 0 → leftRate r (sumOf fixedPart shares) + ratesOf r shares ≤ r
+  most : r ≤ ratesOf r shares + leftRate r (sumOf fixedPart shares) + length shares
+
+lost-of : (r : ℕ) (shares : List Share) → sumOf fixedPart shares ≤ wholeShare → LostOf r shares
+unfolding ratesOf weightedRate
+lost-of r shares h =
+    let f : ℕ = sumOf fixedPart shares in
+    let w : ℕ = sumOf weightPart shares in
+    let left : ℕ = leftRate r f in
+    let p = by-kind r f w shares in
+    let near : r ≤ p .fixedRates + p .fixedCount + left = omega (arith, left-rounded r f, ap (λ (s : ℕ). r * s) (whole f h)) in
+    record {
+      weighted = λ some. omega (arith, p .some some, lt-of-mul-lt-mul-right w {m = left} {n = p .weightedRates + p .weightedCount} (omega (arith, p .some some, p .weighted-near some)));
+      least = λ none. omega (arith, rates-le r f w shares, fixed-and-left r f h, nothing left w none);
+      most = omega arith;
+    }
+  where
+    whole : (f : ℕ) → f ≤ wholeShare → f + (wholeShare - f) ≡ wholeShare
+    whole f h = omega arith
+
+    nothing : (left w : ℕ) → w ≡ 0 → weightedRate left w w ≡ 0
+    nothing left w none = rw none (div-zero (left * 0))
+
+-- A class without children has no child.
+nobody : (tree : Tree) (c : ℕ) → childless tree c ≡ true → (k : ℕ) → k < nodes → ChildOf tree c k → ⊥
+unfolding childless
+nobody tree c h k hk child = true-false (child-of tree c k child) (not-true (childOf tree c k) (all-at nodes (λ k. not (childOf tree c k)) h k hk))
+
+-- The law for a class of a table in order.
+module _ (t : List ℤ) (f : InOrder t) (c : ℕ) (hc : c < nodes) (class : isClass (treeOf t) c ≡ true) where
+  -- Its rate is the sum of its children's rates and what it loses, as natural numbers.
+  even : (minus (lostGrains t c) ≡ 0) × (rate t c ≡ sumUnder (treeOf t) c (rate t) + plus (lostGrains t c))
+  unfolding rate
+  even =
+      let given : ℕ = sumUnder (treeOf t) c (rate t) in
+      omega (
+        arith,
+        ap minus (f .rates c hc (class-there (treeOf t) c class)) ∙ minus-pos _,
+        fair-rates t f c hc class,
+        eq-parts _ _ (class-rate t c class),
+        add-parts (pos given) (lostGrains t c),
+        one-is-zero (lostGrains t c),
+        plus-pos given,
+        minus-pos given,
+      )
+
+  weights-of-none : NoneWeighted (treeOf t) c → weightSum (treeOf t) c ≡ 0
+  unfolding NoneWeighted weightSum weight
+  weights-of-none none =
+      under-zero (treeOf t) c (weight (treeOf t))
+      (λ k hk child. cond-true (isFixed (treeOf t) k) _ _ (none k hk (child-of (treeOf t) c k child)))
+
+  weight-of-some : (k : ℕ) → k < nodes → childOf (treeOf t) c k ≡ true → isFixed (treeOf t) k ≡ false → 0 < weightSum (treeOf t) c
+  unfolding treeOf
+  weight-of-some k hk child kind =
+      let l = f .limits k hk (child-facts (treeOf t) c k child .there) in
+      omega (arith, zarith, weight-le-sum (treeOf t) c k hk child kind)
+
+  pub lost : Lost t c
+  unfolding leftOf plus minus
+  lost =
+      let l = listed (treeOf t) c (rate t c) in
+      let of = lost-of (rate t c) (l .shares) (omega (arith, f .class c hc class .shares)) in
+      let e = even in
+      let given = rates-under t f c hc class in
+      let left : leftOf t c ≡ leftRate (rate t c) (sumOf fixedPart (l .shares)) = ap (leftRate (rate t c)) (l .fixedShares) in
+      record {
+        natural = omega (arith, zarith);
+        even = class-rate t c class;
+        weighted = λ k hk child kind. omega (arith, zarith, of .weighted (omega (arith, weight-of-some k hk child kind)));
+        least = λ none. omega (arith, zarith, of .least (omega (arith, weights-of-none none)));
+        most = λ none. omega (arith, zarith);
+        whole = λ alone.
+            let none = under-zero (treeOf t) c (rate t) (λ k hk child. absurd (nobody (treeOf t) c alone k hk child)) in
+            omega (arith, zarith, class-rate t c class, add-parts (pos (sumUnder (treeOf t) c (rate t))) (lostGrains t c));
+      }
+
+-- No node of a table in order loses less than nothing.
+pub lost-natural : (t : List ℤ) → InOrder t → (k : ℕ) → k < nodes → leZ (pos 0) (lostGrains t k) ≡ true
+lost-natural t f k hk = by-test (isClass (treeOf t) k) (λ class. lost t f k hk class .natural) (λ client. rw (client-loses t k client))

@@ -1,0 +1,36 @@
+-- What holds of the grains that a class loses: those of its rate that none of its children gets. Document 02, (b).
+use Prim.Native.Nat.{ℕ, _+_, _<_}
+use mathlib.Core.Path.{_≡_}
+use mathlib.Core.Bool.{true, false}
+use mathlib.Core.List.{List}
+use lib.IntN.{ℤ, pos, _+ℤ_}
+use lib.Signed.{leZ, ltZ}
+use Rattle.table.specs.Limits.{nodes, rateAt}
+use Rattle.table.specs.Places.{place, rate}
+use Rattle.table.specs.Tree.{Tree, treeOf, isFixed, childOf, childless, sumUnder}
+use Rattle.table.specs.Rates.{fixedSum, leftRate}
+use Rattle.table.specs.Calls.{lostGrains}
+
+-- The number of class c's children.
+unfoldable pub childCount : Tree → ℕ → ℕ
+childCount tree c = sumUnder tree c (λ k. 1)
+
+-- What the fixed shares leave of class c's rate.
+unfoldable pub leftOf : List ℤ → ℕ → ℕ
+leftOf t c = leftRate (rate t c) (fixedSum (treeOf t) c)
+
+-- Every child of class c has a fixed share.
+unfoldable pub NoneWeighted : Tree → ℕ → Type 0
+NoneWeighted tree c = (k : ℕ) → k < nodes → childOf tree c k ≡ true → isFixed tree k ≡ true
+
+pub record Lost (t : List ℤ) (c : ℕ) : Type 0 where
+  -- It is never negative, and makes the sum of the children's rates come out even.
+  pub natural : leZ (pos 0) (lostGrains t c) ≡ true
+  pub even : place t c rateAt ≡ pos (sumUnder (treeOf t) c (rate t)) +ℤ lostGrains t c
+  -- Where a child is weighted, whatever stands beside it, fewer grains are lost than there are children.
+  pub weighted : (k : ℕ) → k < nodes → childOf (treeOf t) c k ≡ true → isFixed (treeOf t) k ≡ false → ltZ (lostGrains t c) (pos (childCount (treeOf t) c)) ≡ true
+  -- Where none is, what the fixed shares leave is lost, and at most a grain more for each child.
+  pub least : NoneWeighted (treeOf t) c → leZ (pos (leftOf t c)) (lostGrains t c) ≡ true
+  pub most : NoneWeighted (treeOf t) c → leZ (lostGrains t c) (pos (leftOf t c + childCount (treeOf t) c)) ≡ true
+  -- So a class without children loses its whole rate.
+  pub whole : childless (treeOf t) c ≡ true → lostGrains t c ≡ place t c rateAt
