@@ -17,9 +17,8 @@ use Rattle.table.specs.Calls.{sharesAbove, depthsAbove}
 use Rattle.table.proofs.Facts.{InOrder, Class, facts, class-or-client}
 use Rattle.table.proofs.Edits.{Edited, NodeIs, joinedPlace, joined-edit, joined-node, joined-others}
 use Rattle.treelaws.specs.Joins.{joinedBy}
-use Rattle.treelaws.proofs.Children.{child-facts, child-of}
+use Rattle.treelaws.proofs.Children.{child-facts, child-of, counted}
 use Rattle.calllaws.proofs.OneNode.{count-none, shares-changed, depths-changed}
-use Rattle.rating.proofs.Under.{counted}
 use Rattle.rating.proofs.Rated.{fixed-of}
 use Rattle.joining.specs.declared.NewNode.{NewNode}
 use Rattle.joining.specs.NewNodes.{joinOf, Placeable}

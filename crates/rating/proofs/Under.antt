@@ -1,7 +1,7 @@
 -- The sum under a class of the nodes below a bound, node by node.
 use Prim.Native.Nat.{ℕ, _+_, _*_, _≤_, _<_, _^_}
 use mathlib.Core.Path.{_≡_, refl, sym, ap, _∙_}
-use mathlib.Core.Bool.{Bool, true, false}
+use mathlib.Core.Bool.{true, false}
 use mathlib.Core.List.{List}
 use native.Mathlib.Omega.{arith}
 use native.Mathlib.Decide.{ℕ-discrete}
@@ -13,20 +13,9 @@ use Rattle.numbers.proofs.Tests.{by-test, true-false}
 use Rattle.numbers.proofs.Sums.{sum-next, sum-bound}
 use Rattle.table.specs.Limits.{nodes}
 use Rattle.table.specs.Tree.{Tree, treeOf, there, childOf, countIf, sumUnder}
-use Rattle.treelaws.proofs.Children.{child-facts, child-of}
+use Rattle.treelaws.proofs.Children.{child-facts, child-of, counted, uncounted}
 use Rattle.rating.specs.declared.sums.Summand.{Summand}
 use Rattle.rating.specs.Sums.{term, Summable}
-
--- A term that is counted, and one that is not.
-pub counted : (b : Bool) (f : ℕ → ℕ) (k : ℕ) → b ≡ true → countIf b f k ≡ f k
-unfolding countIf
-counted true f k e = refl
-counted false f k e = absurd (true-false e refl)
-
-pub uncounted : (b : Bool) (f : ℕ → ℕ) (k : ℕ) → b ≡ false → countIf b f k ≡ 0
-unfolding countIf
-uncounted true f k e = absurd (true-false refl e)
-uncounted false f k e = refl
 
 -- The sum under class c of the nodes below n.
 unfoldable pub underBelow : ℕ → Tree → ℕ → (ℕ → ℕ) → ℕ

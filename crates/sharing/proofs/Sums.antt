@@ -14,9 +14,8 @@ use Rattle.table.specs.Rates.{fixedShare, fixedSum}
 use Rattle.table.specs.Calls.{reshared, sharesAbove}
 use Rattle.table.proofs.Facts.{InOrder}
 use Rattle.table.proofs.Edits.{reshared-edit, reshared-node}
-use Rattle.treelaws.proofs.Children.{child-of, child-le-sum}
+use Rattle.treelaws.proofs.Children.{child-of, child-le-sum, counted}
 use Rattle.calllaws.proofs.OneNode.{shares-changed}
-use Rattle.rating.proofs.Under.{counted}
 use Rattle.rating.proofs.Rated.{fixed-of}
 
 module _ (t : List ℤ) (k : ℕ) (f : InOrder t) (low : k < nodes) (here : there (treeOf t) k ≡ true) (below : k ≡ root → ⊥) where

@@ -45,10 +45,16 @@ pub class-there : (tree : Tree) (k : ℕ) → isClass tree k ≡ true → there 
 unfolding there isClass
 class-there tree k e = ap not (ne-eqb (tree .sort k) 0 (λ z. omega (arith, eqb-true (tree .sort k) class e)))
 
-count-true : (b : Bool) (f : ℕ → ℕ) (k : ℕ) → b ≡ true → countIf b f k ≡ f k
+-- A term that is counted, and one that is not.
+pub counted : (b : Bool) (f : ℕ → ℕ) (k : ℕ) → b ≡ true → countIf b f k ≡ f k
 unfolding countIf
-count-true true f k e = refl
-count-true false f k e = absurd (true-false e refl)
+counted true f k e = refl
+counted false f k e = absurd (true-false e refl)
+
+pub uncounted : (b : Bool) (f : ℕ → ℕ) (k : ℕ) → b ≡ false → countIf b f k ≡ 0
+unfolding countIf
+uncounted true f k e = absurd (true-false refl e)
+uncounted false f k e = refl
 
 count-le : (b : Bool) (f g : ℕ → ℕ) (k : ℕ) → (b ≡ true → f k ≤ g k) → countIf b f k ≤ countIf b g k
 unfolding countIf
@@ -129,7 +135,7 @@ module _ (tree : Tree) (c : ℕ) where
         arith,
         sum-more nodes j a (λ k. countIf (childOf tree c k) (λ i. f i + g i) k) (λ k. countIf (childOf tree c k) (λ i. f' i + g' i) k) hj
             (λ k hk. count-le (childOf tree c k) (λ i. f i + g i) (λ i. f' i + g' i) k (λ d. h k hk (child-facts tree c k d)))
-            (rw (count-true (childOf tree c j) (λ i. f i + g i) j e, count-true (childOf tree c j) (λ i. f' i + g' i) j e) m),
+            (rw (counted (childOf tree c j) (λ i. f i + g i) j e, counted (childOf tree c j) (λ i. f' i + g' i) j e) m),
         under-add f g,
         under-add f' g',
       )

@@ -1,8 +1,7 @@
--- The law on lost grains, for any number of children of mixed kinds. Every division by itself loses less than a grain. The
--- rates of the fixed children and what is left are as many divisions as there are fixed children, and one: together they
--- lose at most a grain for each fixed child. The weighted children divide what is left among all of them, and lose less
--- than a grain for each.
-use Prim.Native.Nat.{ℕ, zero, suc, _+_, _*_, _-_, _≤_, _<_}
+-- The law on lost grains, for any number of children of mixed kinds. Each division loses less than a grain. The class's rate
+-- is divided once for each of n fixed children and once for what is left: that loses less than n + 1 grains, so at most n.
+-- What is left is divided among all of the weighted children: that loses fewer grains than there are of them.
+use Prim.Native.Nat.{ℕ, _+_, _*_, _-_, _≤_, _<_}
 use mathlib.Core.Path.{_≡_, refl, ap, _∙_}
 use mathlib.Core.Bool.{true, false, not}
 use mathlib.Core.List.{List, [], _∷_}
@@ -16,20 +15,21 @@ use Rattle.numbers.specs.Whole.{plus, minus}
 use Rattle.numbers.proofs.Tests.{by-test, true-false, cond-true}
 use Rattle.numbers.proofs.All.{all-at}
 use Rattle.numbers.proofs.Parts.{one-is-zero, plus-pos, minus-pos, eq-parts, add-parts, zarith}
-use Rattle.table.specs.Limits.{nodes, rateAt, wholeShare}
-use Rattle.table.specs.Places.{place, rate}
+use Rattle.table.specs.Limits.{nodes, wholeShare}
+use Rattle.table.specs.Places.{rate}
 use Rattle.table.specs.Tree.{Tree, treeOf, there, isClass, isFixed, childOf, childless, sumUnder}
-use Rattle.table.specs.Rates.{weight, weightSum, fixedSum, fixedRate, leftRate, weightedRate, childRate}
+use Rattle.table.specs.Rates.{weight, weightSum, fixedRate, leftRate, weightedRate}
 use Rattle.table.specs.Calls.{lostGrains}
 use Rattle.table.proofs.Facts.{InOrder}
 use Rattle.table.proofs.Rates.{fixed-rounded, left-rounded, weighted-rounded}
 use Rattle.table.proofs.Lost.{class-rate, client-loses}
 use Rattle.treelaws.specs.Shares.{Share, fixed, weighted, fixedPart, weightPart, sumOf, shareRate, ratesOf}
-use Rattle.treelaws.specs.Lost.{Lost, childCount, leftOf, NoneWeighted}
+use Rattle.treelaws.specs.Lost.{Lost, leftOf, NoneWeighted}
 use Rattle.treelaws.proofs.Children.{ChildOf, child-facts, child-of, class-there, under-zero}
 use Rattle.treelaws.proofs.Rounding.{rates-le, fixed-and-left, listed, weight-le-sum, rates-under, fair-rates}
 
--- The shares of a list by kind: how many there are, and the sums of their rates.
+-- The shares of a list by kind: how many there are, and the sums of their rates. With a grain more for each share the rates
+-- would be above what was divided, before rounding.
 record ByKind (r f w : ℕ) (shares : List Share) : Type 0 where
   fixedCount : ℕ
   weightedCount : ℕ

@@ -1,6 +1,6 @@
 -- `looking::lost_grains` meets its contract: a client by the first test, a class by the sum of its children's rates. That sum
 -- is at most the class's rate, so the difference is an i64.
-use Prim.Native.Nat.{ℕ, _+_, _≤_, _<_, _^_}
+use Prim.Native.Nat.{ℕ, _≤_, _<_}
 use mathlib.Core.Path.{_≡_, sym, ap, ap₂, _∙_}
 use mathlib.Core.Bool.{true}
 use mathlib.Core.List.{List}

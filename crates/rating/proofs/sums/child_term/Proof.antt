@@ -1,6 +1,6 @@
 -- `rating::sums::child_term` meets its contract: counted where the node is a child.
 use mathlib.Core.Path.{sym, _∙_}
-use Rattle.rating.proofs.Under.{counted, uncounted}
+use Rattle.treelaws.proofs.Children.{counted, uncounted}
 use borrow.Author.Needs.{needs}
 use Rattle.rating.proofs.sums.child_term.Statement.{statement}
 use Rattle.rating.proofs.sums.child_term.Tie as tie
