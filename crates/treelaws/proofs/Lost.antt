@@ -37,7 +37,8 @@ record ByKind (r f w : ℕ) (shares : List Share) : Type 0 where
   weightedRates : ℕ
   count : fixedCount + weightedCount ≡ length shares
   rates : fixedRates + weightedRates ≡ sumOf (shareRate r f w) shares
-  some : 0 < sumOf weightPart shares → 0 < weightedCount
+  some-fixed : 0 < sumOf fixedPart shares → 0 < fixedCount
+  some-weighted : 0 < sumOf weightPart shares → 0 < weightedCount
   fixed-near : r * sumOf fixedPart shares + fixedCount ≤ (fixedRates + fixedCount) * wholeShare
   weighted-near : 0 < w → leftRate r f * sumOf weightPart shares + weightedCount ≤ (weightedRates + weightedCount) * w
 
@@ -51,7 +52,8 @@ by-kind r f w [] =
       weightedRates = 0;
       count = refl;
       rates = refl;
-      some = λ h. h;
+      some-fixed = λ h. h;
+      some-weighted = λ h. h;
       fixed-near = omega arith;
       weighted-near = λ h. omega arith;
     }
@@ -64,7 +66,8 @@ by-kind r f w (fixed s ∷ shares) =
       weightedRates = p .weightedRates;
       count = omega arith;
       rates = omega arith;
-      some = λ h. p .some (omega arith);
+      some-fixed = λ h. omega arith;
+      some-weighted = λ h. p .some-weighted (omega arith);
       fixed-near = omega (arith, fixed-rounded r s);
       weighted-near = λ h. omega (arith, p .weighted-near h);
     }
@@ -77,7 +80,8 @@ by-kind r f w (weighted s ∷ shares) =
       weightedRates = p .weightedRates + weightedRate (leftRate r f) s w;
       count = omega arith;
       rates = omega arith;
-      some = λ h. omega arith;
+      some-fixed = λ h. p .some-fixed (omega arith);
+      some-weighted = λ h. omega arith;
       fixed-near = omega arith;
       weighted-near = λ h. omega (arith, p .weighted-near h, weighted-rounded (leftRate r f) s w h);
     }
@@ -85,6 +89,7 @@ by-kind r f w (weighted s ∷ shares) =
 -- The law for a class of rate r and a list of shares.
 record LostOf (r : ℕ) (shares : List Share) : Type 0 where
   weighted : 0 < sumOf weightPart shares → r < ratesOf r shares + length shares
+  full : sumOf fixedPart shares ≡ wholeShare → r < ratesOf r shares + length shares
   least : sumOf weightPart shares ≡ 0 → leftRate r (sumOf fixedPart shares) + ratesOf r shares ≤ r
   most : r ≤ ratesOf r shares + leftRate r (sumOf fixedPart shares) + length shares
 
@@ -97,7 +102,8 @@ lost-of r shares h =
     let p = by-kind r f w shares in
     let near : r ≤ p .fixedRates + p .fixedCount + left = omega (arith, left-rounded r f, ap (λ (s : ℕ). r * s) (whole f h)) in
     record {
-      weighted = λ some. omega (arith, p .some some, lt-of-mul-lt-mul-right w {m = left} {n = p .weightedRates + p .weightedCount} (omega (arith, p .some some, p .weighted-near some)));
+      weighted = λ some. omega (arith, lt-of-mul-lt-mul-right w {m = left} {n = p .weightedRates + p .weightedCount} (omega (arith, p .some-weighted some, p .weighted-near some)));
+      full = λ all. omega (arith, p .some-fixed (omega arith), ap (λ (s : ℕ). r * s) all);
       least = λ none. omega (arith, rates-le r f w shares, fixed-and-left r f h, nothing left w none);
       most = omega arith;
     }
@@ -116,7 +122,7 @@ nobody tree c h k hk child = true-false (child-of tree c k child) (not-true (chi
 -- The law for a class of a table in order.
 module _ (t : List ℤ) (f : InOrder t) (c : ℕ) (hc : c < nodes) (class : isClass (treeOf t) c ≡ true) where
   -- Its rate is the sum of its children's rates and what it loses, as natural numbers.
-  even : (minus (lostGrains t c) ≡ 0) × (rate t c ≡ sumUnder (treeOf t) c (rate t) + plus (lostGrains t c))
+  pub even : (minus (lostGrains t c) ≡ 0) × (rate t c ≡ sumUnder (treeOf t) c (rate t) + plus (lostGrains t c))
   unfolding rate
   even =
       let given : ℕ = sumUnder (treeOf t) c (rate t) in
@@ -155,6 +161,7 @@ module _ (t : List ℤ) (f : InOrder t) (c : ℕ) (hc : c < nodes) (class : isCl
         natural = omega (arith, zarith);
         even = class-rate t c class;
         weighted = λ k hk child kind. omega (arith, zarith, of .weighted (omega (arith, weight-of-some k hk child kind)));
+        full = λ all. omega (arith, zarith, of .full (omega arith));
         least = λ none. omega (arith, zarith, of .least (omega (arith, weights-of-none none)));
         most = λ none. omega (arith, zarith);
         whole = λ alone.

@@ -1,15 +1,20 @@
 -- What holds of the grains that a class loses: those of its rate that none of its children gets. Document 02, (b).
 use Prim.Native.Nat.{ℕ, _+_, _<_}
 use mathlib.Core.Path.{_≡_}
-use mathlib.Core.Bool.{true, false}
+use mathlib.Core.Bool.{Bool, true, false}
 use mathlib.Core.List.{List}
 use lib.IntN.{ℤ, pos, _+ℤ_}
 use lib.Signed.{leZ, ltZ}
-use Rattle.table.specs.Limits.{nodes, rateAt}
+use Rattle.numbers.specs.Below.{sumBelow}
+use Rattle.table.specs.Limits.{nodes, rateAt, wholeShare}
 use Rattle.table.specs.Places.{place, rate}
-use Rattle.table.specs.Tree.{Tree, treeOf, isFixed, childOf, childless, sumUnder}
+use Rattle.table.specs.Tree.{Tree, treeOf, isFixed, childOf, childless, countIf, sumUnder}
 use Rattle.table.specs.Rates.{fixedSum, leftRate}
 use Rattle.table.specs.Calls.{lostGrains}
+
+-- The sum of f over the nodes of which p holds.
+unfoldable pub sumOver : (ℕ → Bool) → (ℕ → ℕ) → ℕ
+sumOver p f = sumBelow nodes (λ k. countIf (p k) f k)
 
 -- The number of class c's children.
 unfoldable pub childCount : Tree → ℕ → ℕ
@@ -27,9 +32,11 @@ pub record Lost (t : List ℤ) (c : ℕ) : Type 0 where
   -- It is never negative, and makes the sum of the children's rates come out even.
   pub natural : leZ (pos 0) (lostGrains t c) ≡ true
   pub even : place t c rateAt ≡ pos (sumUnder (treeOf t) c (rate t)) +ℤ lostGrains t c
-  -- Where a child is weighted, whatever stands beside it, fewer grains are lost than there are children.
+  -- Where a child is weighted, whatever stands beside it, fewer grains are lost than there are children; so too where the
+  -- fixed shares are 10,000 together.
   pub weighted : (k : ℕ) → k < nodes → childOf (treeOf t) c k ≡ true → isFixed (treeOf t) k ≡ false → ltZ (lostGrains t c) (pos (childCount (treeOf t) c)) ≡ true
-  -- Where none is, what the fixed shares leave is lost, and at most a grain more for each child.
+  pub full : fixedSum (treeOf t) c ≡ wholeShare → ltZ (lostGrains t c) (pos (childCount (treeOf t) c)) ≡ true
+  -- Where none is weighted, what the fixed shares leave is lost, and at most a grain more for each child.
   pub least : NoneWeighted (treeOf t) c → leZ (pos (leftOf t c)) (lostGrains t c) ≡ true
   pub most : NoneWeighted (treeOf t) c → leZ (lostGrains t c) (pos (leftOf t c + childCount (treeOf t) c)) ≡ true
   -- So a class without children loses its whole rate.
