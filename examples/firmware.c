@@ -105,16 +105,15 @@ int main(void)
         look(node);
 
     /*
-     * A change of shares is a change of the tree, and changing back undoes it. With fixed shares alone the disk loses
-     * what they leave, and what rounding takes off; the suite's streams by weight lose a grain.
+     * A change of shares is a change of the tree, and changing back undoes it. The disk's children now have fixed shares
+     * alone: it loses what these leave, and two grains by rounding. The suite loses one.
      */
     for (int i = 0; i < HDS_TABLE_LENGTH; i++)
         before[i] = table[i];
     answer("change share of 4", hds_set_share(TABLE, 4, hds_fixed(2000)));
     answer("change rate", hds_change_rate(TABLE, 16003));
-    look(0);
-    look(1);
-    look(4);
+    for (int64_t node = 0; node <= 4; node++)
+        look(node);
     answer("same", hds_same(before, HDS_TABLE_LENGTH, TABLE));
     answer("change share of 4", hds_set_share(TABLE, 4, hds_weighted(1)));
     answer("change rate", hds_change_rate(TABLE, 8000));

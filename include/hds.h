@@ -13,10 +13,11 @@
  *
  * A refused call leaves every buffer as it came. Tables, lists and plans of any length and contents and arguments of
  * any size are safe. These are the caller's to see to: a pointer is not null, also where the length is 0; it is
- * aligned and points to as many numbers (or bytes) as the length says, to HDS_SEEN_LENGTH for look; the buffers of
+ * aligned and points to as many numbers (or bytes) as the length says, look's to HDS_SEEN_LENGTH; the buffers of
  * one call do not overlap; one call at a time writes a buffer; the stack is deep enough.
  *
- * UNITS. A token is 1 KiB, 1000 grains a token. Tokens: depths, sizes, costs. Grains: balances. Grains per tick: rates.
+ * UNITS. A token is 1 KiB, 1000 grains a token. Tokens: depths, sizes, costs. Grains: balances. Grains per tick: rates,
+ * lost grains.
  *
  * COST. A request is charged more than its size, since the head moves for it: hds_cost gives the tokens. The dispatch
  * list gives sizes.
@@ -26,7 +27,7 @@
  *   In memory    an array of int64_t, aligned to 8 bytes.
  *   On disk      its HDS_TABLE_BYTES bytes as they are, each number low byte first. There is no checksum: the calls
  *                test that a table is in order, not that it is the one that was stored, nor by which version. Keep a
- *                checksum and HDS_VERSION_MAJOR beside it. Versions 2 and 3 have the same tables.
+ *                checksum and HDS_VERSION_MAJOR beside it; HDS_OLDEST_TABLE_VERSION says which versions fit.
  *   One writer   While a call that may write a table runs, no other call on that table may. Calls that only read it
  *                (look, same, plan write) may run side by side, and so may calls on different buffers. An interrupt
  *                or signal handler counts as another thread.
@@ -59,12 +60,16 @@ extern "C" {
 #endif
 
 /*
- * The version of this header and of the archives that come with it. The first number rises when what a call takes or
- * answers, or what a table holds, changes; the second when something is added. Nothing compares them at run time.
+ * The version of this header and of the archives that come with it. The first number rises when what a call takes,
+ * answers or writes, or what a table holds, changes; the second when something is added. Nothing compares them at run
+ * time. From 2 to 3: hds_look writes four numbers, before it wrote three; compile everything that calls it again.
+ *
+ * A stored table is one of this version where it was stored by version HDS_OLDEST_TABLE_VERSION to HDS_VERSION_MAJOR.
  */
 #define HDS_VERSION_MAJOR 3
 #define HDS_VERSION_MINOR 0
 #define HDS_VERSION "3.0"
+#define HDS_OLDEST_TABLE_VERSION 2
 
 /* The table: a header, then a record for each node. */
 #define HDS_TABLE_LENGTH 2568
@@ -139,7 +144,10 @@ extern "C" {
 #define HDS_ENTRY_SIZE 2
 #define HDS_ENTRY_SUPPLIER 3
 
-/* What look shows. Lost grains are those of a class's rate that none of its children gets, in grains per tick. */
+/*
+ * What look shows. Lost grains are those of a class's rate that none of its children gets, in grains per tick; they can
+ * be lent.
+ */
 #define HDS_SEEN_LENGTH 4
 #define HDS_SEEN_RATE 0
 #define HDS_SEEN_BALANCE 1
@@ -311,7 +319,8 @@ int64_t hds_tick(int64_t *table, size_t table_length, int64_t *list, size_t list
 
 /*
  * Shows a node: its rate, its balance, how many of its requests wait and its lost grains, at seen[HDS_SEEN_RATE] and so
- * on. A class's lost grains and its children's rates add up to its rate; a client has none. Answers 0. Refused:
+ * on. It writes HDS_SEEN_LENGTH numbers. The rates of a class's children and its lost grains add up to its rate; a
+ * client shows 0. Answers 0. Refused:
  *   HDS_NOT_IN_ORDER      the table
  *   HDS_OUTSIDE_LIMITS    node not 0 to 63
  *   HDS_NOT_THERE         no node has this number
