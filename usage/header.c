@@ -151,7 +151,6 @@ int main(void)
 
     snprintf(version, sizeof version, "%d.%d", HDS_VERSION_MAJOR, HDS_VERSION_MINOR);
     check(strcmp(version, HDS_VERSION) == 0, "version");
-    check(HDS_OLDEST_TABLE_VERSION <= HDS_VERSION_MAJOR, "HDS_OLDEST_TABLE_VERSION");
     refusals();
     typed_calls();
     plan_judge();

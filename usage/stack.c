@@ -137,7 +137,7 @@ static int64_t tick_call(void)
 
 static int64_t look_call(void)
 {
-    return hds_look(TABLE, HDS_LAST_NODE - 1, seen);
+    return hds_look(TABLE, HDS_ROOT, seen);
 }
 
 static int64_t same_call(void)

@@ -17,7 +17,7 @@ use Rattle.table.specs.Limits.{root}
 use Rattle.table.specs.Tree.{Tree, isClient, atOrAbove}
 use Rattle.table.specs.Places.{balance, waiting, size}
 use Rattle.table.specs.Tick.{State, grains, dispatched}
-use Rattle.ticklaws.proofs.Sorts.{client-class}
+use Rattle.treelaws.proofs.Sorts.{client-class}
 use Rattle.ticklaws.proofs.Way.{Ways, At, way-class, above-there, above-root}
 use Rattle.ticklaws.proofs.Dispatch.{Dispatch, takes, dispatch-shifted}
 use Rattle.bounds.specs.Observer.{entriesFor}

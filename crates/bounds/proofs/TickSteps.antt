@@ -17,9 +17,9 @@ use Rattle.table.specs.Order.{inOrder}
 use Rattle.table.specs.Tick.{ticked, tickRefusal}
 use Rattle.table.proofs.Facts.{InOrder, facts}
 use Rattle.treelaws.proofs.Children.{class-there}
-use Rattle.ticklaws.proofs.Sorts.{client-there}
+use Rattle.treelaws.proofs.Sorts.{client-there}
 use Rattle.ticklaws.proofs.Frame.{frame-tree, frame-rate}
-use Rattle.ticklaws.proofs.Grown.{rate-in-order}
+use Rattle.treelaws.proofs.Rounding.{rate-in-order}
 use Rattle.ticklaws.proofs.Keeps.{tick-keeps, ticked-settled}
 use Rattle.bounds.specs.Events.{tick, tableAfter, eventOf}
 use Rattle.bounds.specs.Observer.{Observer, Entry, entries, entriesFor, observed}

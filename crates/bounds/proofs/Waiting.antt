@@ -17,7 +17,7 @@ use Rattle.table.specs.Places.{rate, balance, waiting, depthGrains, size}
 use Rattle.table.specs.Tick.{grains, enough, stepTwo, ticked}
 use Rattle.table.proofs.Facts.{InOrder}
 use Rattle.table.proofs.Cost.{cost-bounds, most-cost}
-use Rattle.ticklaws.proofs.Sorts.{client-there, client-class}
+use Rattle.treelaws.proofs.Sorts.{client-there, client-class}
 use Rattle.ticklaws.proofs.Frame.{frame-tree, frame-grains}
 use Rattle.ticklaws.proofs.Reached.{Reached, reached-first}
 use Rattle.ticklaws.proofs.Way.{ways-of, way-first}

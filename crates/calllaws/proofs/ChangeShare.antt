@@ -18,8 +18,9 @@ use Rattle.table.specs.Calls.{reshared, changeShareRefusal, changeShareTable}
 use Rattle.table.proofs.Facts.{Child, Class, facts}
 use Rattle.table.proofs.Edits.{Edited, reshared-edit, reshared-rest}
 use Rattle.table.proofs.Passed.{change-share-passed}
+use Rattle.treelaws.proofs.Children.{uncounted}
 use Rattle.calllaws.proofs.Nodes.{Ready, ready, Sums, node-limited, child-kept, most-waiting}
-use Rattle.calllaws.proofs.OneNode.{child-same, no-child, count-same, count-none, shares-changed, depths-changed, balances-changed, edited-ready}
+use Rattle.calllaws.proofs.OneNode.{child-same, no-child, count-same, shares-changed, depths-changed, balances-changed, edited-ready}
 use Rattle.calllaws.proofs.Ready.{ready-renewed, kept-in-order}
 
 -- A table that differs in the kind and share of node k.
@@ -52,7 +53,7 @@ module _ (t u : List ℤ) (k : ℕ) (f : ℕ → ℤ) (hk : k < nodes) (edited :
         arith,
         class .shares,
         shares-changed t u k f hk edited c,
-        count-none (childOf (treeOf u) c k) (fixedShare (treeOf u)) k (same-children c ∙ none),
+        uncounted (childOf (treeOf u) c k) (fixedShare (treeOf u)) k (same-children c ∙ none),
       )
 
   share-sums : fixedSum (treeOf u) (treeOf t .parent k) ≤ wholeShare → (c : ℕ) → Class t c → Sums t u c

@@ -9,15 +9,13 @@ use lib.IntN.{ℤ, pos}
 use Rattle.numbers.specs.Whole.{plus, minus}
 use Rattle.numbers.proofs.Tests.{true-false}
 use Rattle.numbers.proofs.Parts.{zarith, plus-pos, minus-pos, add-parts}
-use Rattle.numbers.proofs.Sums.{sum-zero}
 use Rattle.table.specs.Limits.{recordLength, nodes, sortAt, balanceAt, waitingAt, spareAt, queueAt, lastClassLevel}
 use Rattle.table.specs.Places.{place, balance, waiting, depthGrains}
-use Rattle.table.specs.Tree.{Tree, treeOf, there, isClass, isClient, childOf, countIf, sumUnder}
+use Rattle.table.specs.Tree.{treeOf, there, isClass, isClient, sumUnder}
 use Rattle.table.specs.Rates.{fixedSum, fixedShare}
 use Rattle.table.proofs.Facts.{Limits, Child, Class, Balance}
-use Rattle.treelaws.proofs.Children.{ChildOf, balances-parts}
+use Rattle.treelaws.proofs.Children.{ChildOf, balances-parts, under-zero}
 use Rattle.calllaws.proofs.Nodes.{Node}
-use Rattle.calllaws.proofs.OneNode.{no-child, count-none}
 
 pub zero-unused : (t : List ℤ) (k : ℕ) → place t k sortAt ≡ pos 0 → there (treeOf t) k ≡ false
 unfolding there treeOf plus
@@ -39,17 +37,13 @@ unused-node t k h =
     none : there (treeOf t) k ≡ true → ⊥
     none e = true-false e (zero-unused t k (h sortAt (omega arith)))
 
-under-none : (tree : Tree) (c : ℕ) (f : ℕ → ℕ) → ((j : ℕ) → j < nodes → ChildOf tree c j → ⊥) → sumUnder tree c f ≡ 0
-unfolding sumUnder
-under-none tree c f h = sum-zero nodes (λ j. countIf (childOf tree c j) f j) (λ j hj. count-none (childOf tree c j) f j (no-child tree c j (h j hj)))
-
 module _ (t : List ℤ) (k : ℕ) (zeros : (p : ℕ) → p < recordLength → balanceAt ≤ p → place t k p ≡ pos 0) (childless : (j : ℕ) → j < nodes → ChildOf (treeOf t) k j → ⊥) where
   idle : waiting t k ≡ 0
   unfolding waiting
   idle = ap plus (zeros waitingAt (omega arith) (omega arith)) ∙ plus-pos 0
 
   none : (f : ℕ → ℕ) → sumUnder (treeOf t) k f ≡ 0
-  none f = under-none (treeOf t) k f childless
+  none f = under-zero (treeOf t) k f (λ j hj child. absurd (childless j hj child))
 
   fresh-class : treeOf t .level k ≤ lastClassLevel → Class t k
   unfolding fixedSum

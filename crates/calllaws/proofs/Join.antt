@@ -19,10 +19,10 @@ use Rattle.table.specs.Order.{inOrder}
 use Rattle.table.specs.Calls.{joined, joinRefusal, joinTable}
 use Rattle.table.proofs.Facts.{Limits, Child, Class, facts}
 use Rattle.table.proofs.Passed.{JoinPassed, join-passed}
-use Rattle.treelaws.proofs.Children.{ChildOf, class-there}
+use Rattle.treelaws.proofs.Children.{ChildOf, class-there, uncounted}
 use Rattle.table.proofs.Edits.{Edited, SameNode, NodeIs, joinedPlace, joined-edit, joined-node, joined-others, joined-rest}
 use Rattle.calllaws.proofs.Nodes.{Ready, ready, Sums, there-same, class-same, child-kept, most-waiting, client-or-class}
-use Rattle.calllaws.proofs.OneNode.{no-child, count-none, count-zero, balances-changed, sums-fall, edited-ready}
+use Rattle.calllaws.proofs.OneNode.{no-child, count-zero, balances-changed, sums-fall, edited-ready}
 use Rattle.calllaws.proofs.Fresh.{fresh-node}
 use Rattle.calllaws.proofs.Ready.{ready-renewed, kept-in-order}
 
@@ -113,7 +113,7 @@ module _ (t : List ℤ) (k c : ℕ) (sort kind share depth : ℤ) (passed : Join
             (omega (
               arith,
               count-zero (childOf (treeOf (joined t k c sort kind share depth)) c k) (λ j. plus (balance (joined t k c sort kind share depth) j)) k (λ e. ap plus (zeros balanceAt (omega arith) (omega arith)) ∙ plus-pos 0),
-              count-none (childOf (treeOf t) c k) (λ j. minus (balance t j)) k (was-no-child c),
+              uncounted (childOf (treeOf t) c k) (λ j. minus (balance t j)) k (was-no-child c),
             ));
       }
 

@@ -2,33 +2,27 @@
 -- class's by cause 10. So the sums under its parent fall or stay.
 use Prim.Native.Nat.{ℕ, _<_}
 use mathlib.Core.Path.{_≡_, sym, ap, _∙_}
-use mathlib.Core.Bool.{true, false, not}
+use mathlib.Core.Bool.{true, false}
 use mathlib.Core.List.{List}
 use native.Mathlib.Omega.{arith}
-use borrow.Author.Tests.{not-true}
 use lib.IntN.{ℤ, pos}
 use Rattle.numbers.specs.Whole.{plus, minus}
 use Rattle.numbers.proofs.Tests.{by-test, true-false}
 use Rattle.numbers.proofs.Parts.{zarith, one-is-zero, plus-pos, minus-pos}
-use Rattle.numbers.proofs.All.{all-at}
-use Rattle.table.specs.Limits.{nodes, sortAt, waitingAt}
+use Rattle.table.specs.Limits.{sortAt, waitingAt}
 use Rattle.table.specs.Places.{balance, waiting}
-use Rattle.table.specs.Tree.{Tree, treeOf, there, isClass, childOf, childless}
+use Rattle.table.specs.Tree.{treeOf, there, isClass, childless}
 use Rattle.table.specs.Rates.{renewed}
 use Rattle.table.specs.Order.{inOrder}
 use Rattle.table.specs.Calls.{cleared, leaveRefusal, leaveTable}
 use Rattle.table.proofs.Facts.{facts}
 use Rattle.table.proofs.Passed.{LeavePassed, leave-passed}
-use Rattle.treelaws.proofs.Children.{ChildOf, child-of}
+use Rattle.treelaws.proofs.Children.{no-children}
 use Rattle.table.proofs.Edits.{Edited, SameNode, cleared-edit, cleared-others}
 use Rattle.calllaws.proofs.Nodes.{Ready, ready, child-kept}
 use Rattle.calllaws.proofs.OneNode.{no-child, sums-fall, edited-ready}
 use Rattle.calllaws.proofs.Fresh.{zero-unused, unused-node}
 use Rattle.calllaws.proofs.Ready.{ready-renewed, kept-in-order}
-
-none-below : (tree : Tree) (k : ℕ) → childless tree k ≡ true → (j : ℕ) → j < nodes → ChildOf tree k j → ⊥
-unfolding childless
-none-below tree k h j hj child = true-false (child-of tree k j child) (not-true _ (all-at nodes (λ j. not (childOf tree k j)) h j hj))
 
 -- Node k leaves.
 module _ (t : List ℤ) (k : ℕ) (passed : LeavePassed t k) (r : Ready t) where
@@ -57,7 +51,7 @@ module _ (t : List ℤ) (k : ℕ) (passed : LeavePassed t k) (r : Ready t) where
       (ap plus (edited .here waitingAt (omega arith)) ∙ plus-pos 0 ∙ sym (passed .idle))
       (λ i hi. absurd (busy i hi))
       (λ j hj ne e below child.
-      let above = others (treeOf t .parent j) (λ same. none-below (treeOf t) k (passed .childless) j hj (record { there = e; below = below; parent = same })) in
+      let above = others (treeOf t .parent j) (λ same. no-children (treeOf t) k (passed .childless) j hj (record { there = e; below = below; parent = same })) in
       child-kept (treeOf (cleared t k)) (treeOf t) j (others j ne .parent) (others j ne .level) (above .sort) (above .level) child)
       (λ c hc ne e.
       sums-fall t (cleared t k) k (λ q. pos 0) (passed .node) edited c

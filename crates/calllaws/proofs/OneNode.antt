@@ -19,7 +19,7 @@ use Rattle.table.specs.Tree.{Tree, treeOf, there, isClass, isFixed, childOf, co
 use Rattle.table.specs.Rates.{fixedShare, fixedSum}
 use Rattle.table.specs.Order.{childBalances}
 use Rattle.table.proofs.Facts.{Child, Class}
-use Rattle.treelaws.proofs.Children.{ChildOf, child-facts, balances-parts}
+use Rattle.treelaws.proofs.Children.{ChildOf, child-facts, balances-parts, uncounted}
 use Rattle.table.proofs.Edits.{Edited, SameNode, edited-others}
 use Rattle.calllaws.proofs.Nodes.{Node, Ready, Sums, there-same, node-kept, differ-kept, root-kept, most-waiting}
 
@@ -38,10 +38,6 @@ pub count-same : (a b : Bool) (f g : ℕ → ℕ) (k : ℕ) → a ≡ b → f k 
 unfolding countIf
 count-same true b f g k e h = rw (← e) h
 count-same false b f g k e h = rw (← e)
-
-pub count-none : (b : Bool) (f : ℕ → ℕ) (k : ℕ) → b ≡ false → countIf b f k ≡ 0
-unfolding countIf
-count-none b f k e = rw e
 
 pub count-zero : (b : Bool) (f : ℕ → ℕ) (k : ℕ) → (b ≡ true → f k ≡ 0) → countIf b f k ≡ 0
 unfolding countIf
@@ -82,13 +78,13 @@ module _ (t u : List ℤ) (k : ℕ) (f : ℕ → ℤ) (hk : k < nodes) (edited :
   pub sums-fall : (c : ℕ) → childOf (treeOf u) c k ≡ false → (childOf (treeOf t) c k ≡ true → minus (balance t k) ≡ 0) → Class t c → Sums t u c
   sums-fall c no-child low class =
       record {
-        shares = omega (arith, class .shares, shares-changed c, count-none (childOf (treeOf u) c k) (fixedShare (treeOf u)) k no-child);
-        depths = omega (arith, class .depths, depths-changed c, count-none (childOf (treeOf u) c k) (treeOf u .depth) k no-child);
+        shares = omega (arith, class .shares, shares-changed c, uncounted (childOf (treeOf u) c k) (fixedShare (treeOf u)) k no-child);
+        depths = omega (arith, class .depths, depths-changed c, uncounted (childOf (treeOf u) c k) (treeOf u .depth) k no-child);
         balances =
             balances-changed c
             (omega (
               arith,
-              count-none (childOf (treeOf u) c k) (λ j. plus (balance u j)) k no-child,
+              uncounted (childOf (treeOf u) c k) (λ j. plus (balance u j)) k no-child,
               count-zero (childOf (treeOf t) c k) (λ j. minus (balance t j)) k low,
             ));
       }

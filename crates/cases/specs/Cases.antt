@@ -1,4 +1,4 @@
--- What document 01 says in words of rates, buckets, the tick and a table in order, as scenarios.
+-- What documents 01 and 02 say in words of rates, lost grains, buckets, the tick and a table in order, as scenarios.
 use Prim.Native.Nat.{suc, _+_, _-_}
 use mathlib.Core.List.{[], _∷_}
 use lib.IntN.{pos, negℤ}

@@ -1,1 +1,1 @@
-// What document 01 says in words of rates, buckets, the tick and a table in order, proved together in proofs/. No functions.
+// What documents 01 and 02 say in words of rates, buckets, the tick and a table in order, proved together in proofs/. No functions.

@@ -17,8 +17,8 @@ use Rattle.table.specs.Calls.{sharesAbove, depthsAbove}
 use Rattle.table.proofs.Facts.{InOrder, Class, facts, class-or-client}
 use Rattle.table.proofs.Edits.{Edited, NodeIs, joinedPlace, joined-edit, joined-node, joined-others}
 use Rattle.treelaws.specs.Joins.{joinedBy}
-use Rattle.treelaws.proofs.Children.{child-facts, child-of, counted}
-use Rattle.calllaws.proofs.OneNode.{count-none, shares-changed, depths-changed}
+use Rattle.treelaws.proofs.Children.{child-facts, child-of, counted, uncounted}
+use Rattle.calllaws.proofs.OneNode.{shares-changed, depths-changed}
 use Rattle.rating.proofs.Rated.{fixed-of}
 use Rattle.joining.specs.declared.NewNode.{NewNode}
 use Rattle.joining.specs.NewNodes.{joinOf, Placeable}
@@ -69,7 +69,7 @@ module _ (t : List ℤ) (n : NewNode) (p : Placeable t n) where
       omega (
         arith,
         shares-changed t _ (n .node) _ low edited (n .parent),
-        count-none (childOf (treeOf t) (n .parent) (n .node)) (fixedShare (treeOf t)) (n .node) (no-child (treeOf t) (n .parent) (n .node) (p .unused)),
+        uncounted (childOf (treeOf t) (n .parent) (n .node)) (fixedShare (treeOf t)) (n .node) (no-child (treeOf t) (n .parent) (n .node) (p .unused)),
         counted (childOf (treeOf (joinedBy t (joinOf n))) (n .parent) (n .node)) (fixedShare (treeOf (joinedBy t (joinOf n)))) (n .node) new-child,
         fixed-of (treeOf (joinedBy t (joinOf n))) (n .node) (n .kind) (n .share) (node .kind) (node .share),
       )
@@ -79,7 +79,7 @@ module _ (t : List ℤ) (n : NewNode) (p : Placeable t n) where
       omega (
         arith,
         depths-changed t _ (n .node) _ low edited (n .parent),
-        count-none (childOf (treeOf t) (n .parent) (n .node)) (treeOf t .depth) (n .node) (no-child (treeOf t) (n .parent) (n .node) (p .unused)),
+        uncounted (childOf (treeOf t) (n .parent) (n .node)) (treeOf t .depth) (n .node) (no-child (treeOf t) (n .parent) (n .node) (p .unused)),
         counted (childOf (treeOf (joinedBy t (joinOf n))) (n .parent) (n .node)) (treeOf (joinedBy t (joinOf n)) .depth) (n .node) new-child,
         node .depth,
       )

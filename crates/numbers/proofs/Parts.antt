@@ -228,12 +228,13 @@ zero-le-add a b p q = omega (arith, zarith, add-parts a b)
 sub-of-add : (a b c : ℤ) → a ≡ b +ℤ c → c ≡ a -ℤ b
 sub-of-add a b c e = omega (arith, zarith, add-parts b c, sub-parts a b)
 
-pub add-of-sub : (a b : ℤ) → a ≡ b +ℤ (a -ℤ b)
-add-of-sub a b = omega (arith, zarith, add-parts b (a -ℤ b), sub-parts a b)
-
 within-tighter : (z : ℤ) → withinℤ 3 7 z ≡ true → withinℤ 2 9 z ≡ true
 within-tighter z h = omega (arith, zarith)
 
 not-within-less : (z : ℤ) → withinℤ 2 9 z ≡ false → leZ z (pos 9) ≡ true → ltZ z (pos 2) ≡ true
 unfolding plus minus
 not-within-less z h k = omega (arith, zarith, one-is-zero z)
+
+-- A difference and what was taken off make the whole.
+pub add-of-sub : (a b : ℤ) → a ≡ b +ℤ (a -ℤ b)
+add-of-sub a b = omega (arith, zarith, add-parts b (a -ℤ b), sub-parts a b)

@@ -12,7 +12,7 @@ use Rattle.table.specs.Places.{rate, balance, depthGrains}
 use Rattle.table.specs.Tree.{treeOf, there}
 use Rattle.table.specs.Rates.{fixedShare, weight}
 use Rattle.table.proofs.Facts.{Limits, InOrder}
-use Rattle.treelaws.proofs.Rounding.{rate-in-order, rates-in-order}
+use Rattle.treelaws.proofs.Rounding.{rate-small}
 use Rattle.treelaws.proofs.Floors.{grounds, node-floor}
 use Rattle.rating.specs.declared.sums.Summand.{Summand}
 use Rattle.rating.specs.declared.sums.Summand.the-variants.{FixedShares, Weights, Depths, Rates, Credits, Debts}
@@ -55,14 +55,14 @@ summable-of which t limits numbers =
     }
 
 pub in-order-summable : (which : Summand) (t : List ℤ) → InOrder t → Summable which t
-unfolding rate depthGrains
+unfolding depthGrains
 in-order-summable which t f =
     summable-of which t (f .limits)
     (λ k hk e.
     let l = f .limits k hk e in
     let b = f .balances k hk e .most in
     record {
-      rate = λ _. omega (arith, zarith, rate-in-order t f k hk e, rates-in-order t f k hk e, f .root .rate);
+      rate = λ _. omega (arith, rate-small t f k hk);
       credit = omega (arith, zarith, one-is-zero (balance t k), plus-pos (depthGrains t k), minus-pos (depthGrains t k));
       debt = omega (arith, zarith, node-floor t (grounds t f) k hk e);
     })

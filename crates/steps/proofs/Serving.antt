@@ -27,7 +27,8 @@ use Rattle.balances.specs.Within.{Within}
 use Rattle.dispatch.specs.Entries.{tableAfter}
 use Rattle.dispatch.proofs.Listed.{next-table}
 use Rattle.steps.specs.Steps.{Serving, grew, served-one, Shows, serving}
-use Rattle.steps.proofs.Within.{Way, depth-small, rate-small, within}
+use Rattle.treelaws.proofs.Rounding.{rate-small}
+use Rattle.steps.proofs.Within.{Way, depth-small, within}
 use Rattle.steps.proofs.Shows.{Turn}
 
 grown-credit : (t : List ℤ) → InOrder t → (k : ℕ) → k < nodes → plus (balance (grown t) k) ≤ 2 ^ 60

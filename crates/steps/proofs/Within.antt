@@ -10,14 +10,14 @@ use lib.IntN.{ℤ}
 use Rattle.numbers.specs.Whole.{plus, minus, withinℤ}
 use Rattle.numbers.proofs.Tests.{by-test}
 use Rattle.numbers.proofs.Parts.{zarith, plus-pos, minus-pos}
-use Rattle.table.specs.Limits.{nodes, lastNode, parentAt, levelAt, depthAt, rateAt, balanceAt, waitingAt, lastLevel, greatestDepth, greatestRate, mostWaiting}
+use Rattle.table.specs.Limits.{nodes, lastNode, parentAt, levelAt, depthAt, balanceAt, waitingAt, lastLevel, greatestDepth, mostWaiting}
 use Rattle.table.specs.Places.{place, rate, balance, waiting, size}
 use Rattle.table.specs.Tree.{treeOf, there}
 use Rattle.table.specs.Order.{inOrder}
 use Rattle.table.proofs.Facts.{InOrder, facts}
 use Rattle.table.proofs.Cost.{cost-bounds, most-cost}
 use Rattle.treelaws.proofs.Floors.{floor-of-node, levels, grounds, under-of}
-use Rattle.treelaws.proofs.Rounding.{rate-in-order, rates-in-order}
+use Rattle.treelaws.proofs.Rounding.{rate-small}
 use Rattle.ticklaws.proofs.Frame.{frame-rate}
 use Rattle.ticklaws.proofs.Queues.{queues-of}
 use Rattle.ticklaws.proofs.Reached.{Reached, reached-first, reached-long}
@@ -37,13 +37,6 @@ depth-small t f k hk =
     by-test (there (treeOf t) k)
     (λ h. omega (arith, zarith, f .limits k hk h .depth))
     (λ h. omega (arith, ap plus (f .empty k hk h depthAt (omega arith)), plus-pos 0))
-
-pub rate-small : (t : List ℤ) → InOrder t → (k : ℕ) → k < nodes → rate t k ≤ greatestRate
-unfolding rate
-rate-small t f k hk =
-    by-test (there (treeOf t) k)
-    (λ h. omega (arith, zarith, rate-in-order t f k hk h, rates-in-order t f k hk h, f .root .rate))
-    (λ h. omega (arith, ap plus (f .empty k hk h rateAt (omega arith)), plus-pos 0))
 
 pub waiting-few : (t : List ℤ) → InOrder t → (k : ℕ) → k < nodes → plus (place t k waitingAt) ≤ mostWaiting
 waiting-few t f k hk = omega (arith, zarith, queues-of t f .few k hk)

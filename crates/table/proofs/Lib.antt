@@ -7,6 +7,6 @@ pub mod Edits
 pub mod Zeros
 pub mod Open
 pub mod Rates
-pub mod Lost
+pub mod Look
 pub mod Cost
 pub mod Buckets

@@ -1,4 +1,3 @@
-pub mod Sorts
 pub mod Frame
 pub mod Queues
 pub mod Reached

@@ -16,7 +16,7 @@ use Rattle.table.specs.Places.{queuePlace, place, count, waiting, size, arrival
 use Rattle.table.specs.Tree.{Tree, treeOf, there, isClient}
 use Rattle.table.specs.Cost.{sizeWithin}
 use Rattle.table.proofs.Facts.{InOrder}
-use Rattle.ticklaws.proofs.Sorts.{by-sort}
+use Rattle.treelaws.proofs.Sorts.{by-sort}
 use Rattle.ticklaws.proofs.Frame.{OnlyBalances}
 
 pub record Queues (tree : Tree) (n : ℕ) (t : List ℤ) : Type 0 where

@@ -15,7 +15,7 @@ use Rattle.table.specs.Tree.{Tree, treeOf, there, isClass}
 use Rattle.table.proofs.Facts.{InOrder, Limits, Root, Class, Balance, Request}
 use Rattle.treelaws.proofs.Floors.{Floor, Under, grounds, floor-of, room-balance}
 use Rattle.ticklaws.proofs.Frame.{by-place, Frame, OnlyBalances, only-frame, frame-refl, frame-trans, frame-tree, frame-rate, frame-count, frame-depth}
-use Rattle.ticklaws.proofs.Sorts.{unused-client, class-client}
+use Rattle.treelaws.proofs.Sorts.{unused-client, class-client}
 use Rattle.ticklaws.proofs.Queues.{Queues, queues-of, only-shifted, queues-shifted}
 
 -- An unused record has balance 0.

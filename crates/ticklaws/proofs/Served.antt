@@ -21,7 +21,7 @@ use Rattle.table.specs.Tree.{treeOf}
 use Rattle.table.specs.Tick.{State, grains, enough, dispatched, ready, served, servedAll}
 use Rattle.table.proofs.Facts.{InOrder}
 use Rattle.treelaws.proofs.Floors.{Room}
-use Rattle.ticklaws.proofs.Sorts.{client-there, client-class}
+use Rattle.treelaws.proofs.Sorts.{client-there, client-class}
 use Rattle.ticklaws.proofs.Queues.{Shifted, shifted-size, waiting-client}
 use Rattle.ticklaws.proofs.Reached.{Reached}
 use Rattle.ticklaws.proofs.Way.{At}

@@ -13,10 +13,10 @@ use Rattle.numbers.specs.Below.{sumBelow}
 use Rattle.numbers.proofs.Tests.{true-false}
 use Rattle.numbers.proofs.Every.{head-holds, rest-hold, none-left, holds-with}
 use Rattle.numbers.proofs.Parts.{le-parts, plus-pos, minus-pos}
-use Rattle.numbers.proofs.All.{below-cases}
+use Rattle.numbers.proofs.All.{below-cases, all-at}
 use Rattle.numbers.proofs.Sums.{sum-mono, sum-add, sum-scale, sum-cong, sumℤ-parts, term-le-sum}
 use Rattle.table.specs.Limits.{nodes, class}
-use Rattle.table.specs.Tree.{Tree, treeOf, there, isClass, childOf, countIf, sumUnder}
+use Rattle.table.specs.Tree.{Tree, treeOf, there, isClass, childOf, childless, countIf, sumUnder}
 use Rattle.table.specs.Places.{balance}
 use Rattle.table.specs.Order.{childBalance, childBalances}
 
@@ -40,6 +40,11 @@ pub child-of : (tree : Tree) (c k : ℕ) → ChildOf tree c k → childOf tree c
 unfolding childOf
 child-of tree c k f =
     holds-with _ _ (f .there) (holds-with _ _ (ap not (ne-eqb k 0 (f .below))) (holds-with _ _ (eq-eqb (tree .parent k) c (f .parent)) none-left))
+
+-- A class without children has no child.
+pub no-children : (tree : Tree) (c : ℕ) → childless tree c ≡ true → (k : ℕ) → k < nodes → ChildOf tree c k → ⊥
+unfolding childless
+no-children tree c h k hk child = true-false (child-of tree c k child) (not-true _ (all-at nodes (λ k. not (childOf tree c k)) h k hk))
 
 pub class-there : (tree : Tree) (k : ℕ) → isClass tree k ≡ true → there tree k ≡ true
 unfolding there isClass

@@ -1,4 +1,5 @@
 pub mod Renewed
+pub mod Sorts
 pub mod Children
 pub mod Floors
 pub mod Rounding

@@ -2,34 +2,32 @@
 -- is divided once for each of n fixed children and once for what is left: that loses less than n + 1 grains, so at most n.
 -- What is left is divided among all of the weighted children: that loses fewer grains than there are of them.
 use Prim.Native.Nat.{ℕ, _+_, _*_, _-_, _≤_, _<_}
-use mathlib.Core.Path.{_≡_, refl, ap, _∙_}
-use mathlib.Core.Bool.{true, false, not}
+use mathlib.Core.Path.{_≡_, refl, ap}
+use mathlib.Core.Bool.{true, false}
 use mathlib.Core.List.{List, [], _∷_}
 use native.Mathlib.Omega.{arith}
 use native.Mathlib.Nat.{div-zero, lt-of-mul-lt-mul-right}
-use borrow.Author.Tests.{not-true}
 use lib.ListN.{length}
 use lib.IntN.{ℤ, pos}
 use lib.Signed.{leZ}
 use Rattle.numbers.specs.Whole.{plus, minus}
-use Rattle.numbers.proofs.Tests.{by-test, true-false, cond-true}
-use Rattle.numbers.proofs.All.{all-at}
+use Rattle.numbers.proofs.Tests.{by-test, cond-true}
 use Rattle.numbers.proofs.Parts.{one-is-zero, plus-pos, minus-pos, eq-parts, add-parts, zarith}
 use Rattle.table.specs.Limits.{nodes, wholeShare}
 use Rattle.table.specs.Places.{rate}
-use Rattle.table.specs.Tree.{Tree, treeOf, there, isClass, isFixed, childOf, childless, sumUnder}
+use Rattle.table.specs.Tree.{treeOf, isClass, isFixed, childOf, sumUnder}
 use Rattle.table.specs.Rates.{weight, weightSum, fixedRate, leftRate, weightedRate}
 use Rattle.table.specs.Calls.{lostGrains}
 use Rattle.table.proofs.Facts.{InOrder}
 use Rattle.table.proofs.Rates.{fixed-rounded, left-rounded, weighted-rounded}
-use Rattle.table.proofs.Lost.{class-rate, client-loses}
+use Rattle.table.proofs.Look.{class-rate, client-loses}
 use Rattle.treelaws.specs.Shares.{Share, fixed, weighted, fixedPart, weightPart, sumOf, shareRate, ratesOf}
 use Rattle.treelaws.specs.Lost.{Lost, leftOf, NoneWeighted}
-use Rattle.treelaws.proofs.Children.{ChildOf, child-facts, child-of, class-there, under-zero}
-use Rattle.treelaws.proofs.Rounding.{rates-le, fixed-and-left, listed, weight-le-sum, rates-under, fair-rates}
+use Rattle.treelaws.proofs.Children.{child-facts, child-of, class-there, no-children, under-zero}
+use Rattle.treelaws.proofs.Rounding.{rates-le, fixed-and-left, listed, weight-le-sum, rates-under, fair-rates, rate-natural}
 
--- The shares of a list by kind: how many there are, and the sums of their rates. With a grain more for each share the rates
--- would be above what was divided, before rounding.
+-- The shares of a list by kind: how many there are, and the sums of their rates. A rate is less than a grain below its exact
+-- part, so n rates fall short of theirs by n grains less something for each.
 record ByKind (r f w : ℕ) (shares : List Share) : Type 0 where
   fixedCount : ℕ
   weightedCount : ℕ
@@ -87,13 +85,13 @@ by-kind r f w (weighted s ∷ shares) =
     }
 
 -- The law for a class of rate r and a list of shares.
-record LostOf (r : ℕ) (shares : List Share) : Type 0 where
-  weighted : 0 < sumOf weightPart shares → r < ratesOf r shares + length shares
-  full : sumOf fixedPart shares ≡ wholeShare → r < ratesOf r shares + length shares
-  least : sumOf weightPart shares ≡ 0 → leftRate r (sumOf fixedPart shares) + ratesOf r shares ≤ r
-  most : r ≤ ratesOf r shares + leftRate r (sumOf fixedPart shares) + length shares
+pub record LostOf (r : ℕ) (shares : List Share) : Type 0 where
+  pub weighted : 0 < sumOf weightPart shares → r < ratesOf r shares + length shares
+  pub full : sumOf fixedPart shares ≡ wholeShare → r < ratesOf r shares + length shares
+  pub least : sumOf weightPart shares ≡ 0 → leftRate r (sumOf fixedPart shares) + ratesOf r shares ≤ r
+  pub most : r ≤ ratesOf r shares + leftRate r (sumOf fixedPart shares) + length shares
 
-lost-of : (r : ℕ) (shares : List Share) → sumOf fixedPart shares ≤ wholeShare → LostOf r shares
+pub lost-of : (r : ℕ) (shares : List Share) → sumOf fixedPart shares ≤ wholeShare → LostOf r shares
 unfolding ratesOf weightedRate
 lost-of r shares h =
     let f : ℕ = sumOf fixedPart shares in
@@ -114,21 +112,16 @@ lost-of r shares h =
     nothing : (left w : ℕ) → w ≡ 0 → weightedRate left w w ≡ 0
     nothing left w none = rw none (div-zero (left * 0))
 
--- A class without children has no child.
-nobody : (tree : Tree) (c : ℕ) → childless tree c ≡ true → (k : ℕ) → k < nodes → ChildOf tree c k → ⊥
-unfolding childless
-nobody tree c h k hk child = true-false (child-of tree c k child) (not-true (childOf tree c k) (all-at nodes (λ k. not (childOf tree c k)) h k hk))
-
 -- The law for a class of a table in order.
 module _ (t : List ℤ) (f : InOrder t) (c : ℕ) (hc : c < nodes) (class : isClass (treeOf t) c ≡ true) where
   -- Its rate is the sum of its children's rates and what it loses, as natural numbers.
-  pub even : (minus (lostGrains t c) ≡ 0) × (rate t c ≡ sumUnder (treeOf t) c (rate t) + plus (lostGrains t c))
+  pub lost-parts : (minus (lostGrains t c) ≡ 0) × (rate t c ≡ sumUnder (treeOf t) c (rate t) + plus (lostGrains t c))
   unfolding rate
-  even =
+  lost-parts =
       let given : ℕ = sumUnder (treeOf t) c (rate t) in
       omega (
         arith,
-        ap minus (f .rates c hc (class-there (treeOf t) c class)) ∙ minus-pos _,
+        rate-natural t f c hc (class-there (treeOf t) c class),
         fair-rates t f c hc class,
         eq-parts _ _ (class-rate t c class),
         add-parts (pos given) (lostGrains t c),
@@ -154,21 +147,21 @@ module _ (t : List ℤ) (f : InOrder t) (c : ℕ) (hc : c < nodes) (class : isCl
   lost =
       let l = listed (treeOf t) c (rate t c) in
       let of = lost-of (rate t c) (l .shares) (omega (arith, f .class c hc class .shares)) in
-      let e = even in
+      let e = lost-parts in
       let given = rates-under t f c hc class in
       let left : leftOf t c ≡ leftRate (rate t c) (sumOf fixedPart (l .shares)) = ap (leftRate (rate t c)) (l .fixedShares) in
       record {
-        natural = omega (arith, zarith);
-        even = class-rate t c class;
         weighted = λ k hk child kind. omega (arith, zarith, of .weighted (omega (arith, weight-of-some k hk child kind)));
         full = λ all. omega (arith, zarith, of .full (omega arith));
         least = λ none. omega (arith, zarith, of .least (omega (arith, weights-of-none none)));
         most = λ none. omega (arith, zarith);
         whole = λ alone.
-            let none = under-zero (treeOf t) c (rate t) (λ k hk child. absurd (nobody (treeOf t) c alone k hk child)) in
+            let none = under-zero (treeOf t) c (rate t) (λ k hk child. absurd (no-children (treeOf t) c alone k hk child)) in
             omega (arith, zarith, class-rate t c class, add-parts (pos (sumUnder (treeOf t) c (rate t))) (lostGrains t c));
       }
 
 -- No node of a table in order loses less than nothing.
 pub lost-natural : (t : List ℤ) → InOrder t → (k : ℕ) → k < nodes → leZ (pos 0) (lostGrains t k) ≡ true
-lost-natural t f k hk = by-test (isClass (treeOf t) k) (λ class. lost t f k hk class .natural) (λ client. rw (client-loses t k client))
+unfolding plus minus
+lost-natural t f k hk =
+    by-test (isClass (treeOf t) k) (λ class. let e = lost-parts t f k hk class in omega (arith, zarith)) (λ client. rw (client-loses t k client))

@@ -10,13 +10,13 @@ use native.Mathlib.Nat.{div-mul-le-self, le-div-iff-mul-le, div-le-of-le-mul, di
 use native.Mathlib.Decide.{ℕ-discrete}
 use lib.IntN.{ℤ}
 use lib.ListN.{length}
-use Rattle.numbers.specs.Whole.{plus}
+use Rattle.numbers.specs.Whole.{plus, minus}
 use Rattle.numbers.specs.Below.{sumBelow}
 use Rattle.numbers.proofs.Tests.{by-test, cond-true, cond-false}
-use Rattle.numbers.proofs.Parts.{plus-pos, zarith}
-use Rattle.table.specs.Limits.{nodes, root, wholeShare}
+use Rattle.numbers.proofs.Parts.{plus-pos, minus-pos, zarith}
+use Rattle.table.specs.Limits.{nodes, root, rateAt, wholeShare, greatestRate}
 use Rattle.table.specs.Tree.{Tree, treeOf, there, isClass, isFixed, childOf, countIf, sumUnder}
-use Rattle.table.specs.Places.{rate}
+use Rattle.table.specs.Places.{place, rate}
 use Rattle.table.specs.Rates.{fixedShare, weight, fixedSum, weightSum, fixedRate, leftRate, weightedRate, childRate, rateAtLevel, rateIn}
 use Rattle.table.proofs.Facts.{InOrder}
 use Rattle.treelaws.proofs.Children.{class-there, child-facts, child-of, child-le-sum, under-cong}
@@ -207,3 +207,14 @@ fair-rates t f c hc e = omega (arith, rates-under t f c hc e, children-rates (tr
 pub rates-in-order : (t : List ℤ) → InOrder t → (k : ℕ) → k < nodes → there (treeOf t) k ≡ true → rateIn (treeOf t) (rate t root) k ≤ rate t root
 unfolding rateIn
 rates-in-order t f k hk e = rate-bounded (treeOf t) (in-order-bounded t f) (rate t root) (treeOf t .level k) k hk e
+
+-- A rate of a table in order is no negative number, and at most the greatest.
+pub rate-natural : (t : List ℤ) → InOrder t → (k : ℕ) → k < nodes → there (treeOf t) k ≡ true → minus (place t k rateAt) ≡ 0
+rate-natural t f k hk e = ap minus (f .rates k hk e) ∙ minus-pos _
+
+pub rate-small : (t : List ℤ) → InOrder t → (k : ℕ) → k < nodes → rate t k ≤ greatestRate
+unfolding rate
+rate-small t f k hk =
+    by-test (there (treeOf t) k)
+    (λ h. omega (arith, zarith, rate-in-order t f k hk h, rates-in-order t f k hk h, f .root .rate))
+    (λ h. omega (arith, ap plus (f .empty k hk h rateAt (omega arith)), plus-pos 0))

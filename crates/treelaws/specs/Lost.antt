@@ -1,20 +1,16 @@
--- What holds of the grains that a class loses: those of its rate that none of its children gets. Document 02, (b).
+-- How many grains a class of a table in order loses, and that a panel adds up over the whole tree. Document 02, (b).
 use Prim.Native.Nat.{ℕ, _+_, _<_}
 use mathlib.Core.Path.{_≡_}
-use mathlib.Core.Bool.{Bool, true, false}
+use mathlib.Core.Bool.{true, false}
 use mathlib.Core.List.{List}
 use lib.IntN.{ℤ, pos, _+ℤ_}
 use lib.Signed.{leZ, ltZ}
-use Rattle.numbers.specs.Below.{sumBelow}
-use Rattle.table.specs.Limits.{nodes, rateAt, wholeShare}
+use Rattle.numbers.specs.Below.{sumBelow, sumℤBelow}
+use Rattle.table.specs.Limits.{nodes, root, rateAt, wholeShare}
 use Rattle.table.specs.Places.{place, rate}
-use Rattle.table.specs.Tree.{Tree, treeOf, isFixed, childOf, childless, countIf, sumUnder}
+use Rattle.table.specs.Tree.{Tree, treeOf, isClient, isFixed, childOf, childless, countIf, sumUnder}
 use Rattle.table.specs.Rates.{fixedSum, leftRate}
 use Rattle.table.specs.Calls.{lostGrains}
-
--- The sum of f over the nodes of which p holds.
-unfoldable pub sumOver : (ℕ → Bool) → (ℕ → ℕ) → ℕ
-sumOver p f = sumBelow nodes (λ k. countIf (p k) f k)
 
 -- The number of class c's children.
 unfoldable pub childCount : Tree → ℕ → ℕ
@@ -29,9 +25,6 @@ unfoldable pub NoneWeighted : Tree → ℕ → Type 0
 NoneWeighted tree c = (k : ℕ) → k < nodes → childOf tree c k ≡ true → isFixed tree k ≡ true
 
 pub record Lost (t : List ℤ) (c : ℕ) : Type 0 where
-  -- It is never negative, and makes the sum of the children's rates come out even.
-  pub natural : leZ (pos 0) (lostGrains t c) ≡ true
-  pub even : place t c rateAt ≡ pos (sumUnder (treeOf t) c (rate t)) +ℤ lostGrains t c
   -- Where a child is weighted, whatever stands beside it, fewer grains are lost than there are children; so too where the
   -- fixed shares are 10,000 together.
   pub weighted : (k : ℕ) → k < nodes → childOf (treeOf t) c k ≡ true → isFixed (treeOf t) k ≡ false → ltZ (lostGrains t c) (pos (childCount (treeOf t) c)) ≡ true
@@ -41,3 +34,7 @@ pub record Lost (t : List ℤ) (c : ℕ) : Type 0 where
   pub most : NoneWeighted (treeOf t) c → leZ (lostGrains t c) (pos (leftOf t c + childCount (treeOf t) c)) ≡ true
   -- So a class without children loses its whole rate.
   pub whole : childless (treeOf t) c ≡ true → lostGrains t c ≡ place t c rateAt
+
+-- The rates of all clients and the lost grains of all nodes make up the disk's rate.
+unfoldable pub WholeDisk : List ℤ → Type 0
+WholeDisk t = place t root rateAt ≡ pos (sumBelow nodes (λ k. countIf (isClient (treeOf t) k) (rate t) k)) +ℤ sumℤBelow nodes (lostGrains t)

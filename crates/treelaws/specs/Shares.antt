@@ -1,4 +1,5 @@
--- The children of a class as the list of their shares, of any length and of mixed kinds, for the rounding law.
+-- The children of a class as the list of their shares, of any length and of mixed kinds, for the rounding law and the law on
+-- lost grains.
 use Prim.Native.Nat.{ℕ, _+_}
 use mathlib.Core.List.{List, [], _∷_}
 use Rattle.table.specs.Rates.{fixedRate, leftRate, weightedRate}

@@ -12,7 +12,6 @@ use mir.Syntax.{w64}
 use mir.Val.{ofZ, toZ}
 use mir.ValLaws.{toZ-ofZ}
 use Rattle.numbers.specs.Whole.{minus}
-use Rattle.numbers.proofs.Parts.{minus-pos, zarith}
 use Rattle.numbers.proofs.Tests.{cond-true, cond-false}
 use Rattle.table.specs.Limits.{nodes, rateAt, greatestRate}
 use Rattle.table.specs.Places.{place, rate}
@@ -21,7 +20,7 @@ use Rattle.table.specs.Order.{inOrder}
 use Rattle.table.specs.Calls.{lostGrains}
 use Rattle.table.proofs.Facts.{facts}
 use Rattle.treelaws.proofs.Children.{class-there}
-use Rattle.treelaws.proofs.Rounding.{fair-rates, rate-in-order, rates-in-order}
+use Rattle.treelaws.proofs.Rounding.{fair-rates, rate-natural, rate-small}
 use Rattle.rating.specs.Sums.{term}
 use Rattle.rating.proofs.Summable.{in-order-summable}
 use Rattle.looking.proofs.lost_grains.Statement.{statement}
@@ -29,11 +28,9 @@ use Rattle.looking.proofs.lost_grains.Tie as tie
 
 -- A class's rate is no negative number, and its children's rates sum to at most the greatest rate.
 small : (t : List ℤ) (k : ℕ) → inOrder t ≡ true → k < nodes → isClass (treeOf t) k ≡ true → (minus (place t k rateAt) ≡ 0) × (sumUnder (treeOf t) k (rate t) ≤ greatestRate)
-unfolding rate
 small t k order hk class =
     let f = facts t order in
-    let here = class-there (treeOf t) k class in
-    (ap minus (f .rates k hk here) ∙ minus-pos _, omega (arith, zarith, fair-rates t f k hk class, rate-in-order t f k hk here, rates-in-order t f k hk here, f .root .rate))
+    (rate-natural t f k hk (class-there (treeOf t) k class), omega (arith, fair-rates t f k hk class, rate-small t f k hk))
 
 class : (c : tie.Else1) → let s = c .before .before in isClass (treeOf (s .args .table .now)) (s .args .k) ≡ true
 class c = sym (c .before .is-class .ensures) ∙ not-false _ (c .if1 .left)

@@ -63,15 +63,14 @@ fn cases() -> Vec<Case> {
         }
         let mut waiting = table.clone();
         trees::fill(&mut waiting, 8, usize::MAX, 300);
-        let look = "look at a client, every queue full";
-        cases.push((name(look), waiting.clone(), look_at(client)));
+        cases.push((name("look, every queue full"), waiting.clone(), look_at(1)));
         for (numbers, number) in [
             ("numbers scattered", scattered as fn(i64) -> i64),
             ("numbers in steps of 4,093", stepped as fn(i64) -> i64),
         ] {
             let mut waiting = waiting.clone();
             trees::renumber(&mut waiting, number);
-            cases.push((name(&format!("{look}, {numbers}")), waiting, look_at(client)));
+            cases.push((name(&format!("look, every queue full, {numbers}")), waiting, look_at(1)));
         }
         cases.push((name("plan read"), table.clone(), plan_read(&table)));
     }
