@@ -26,8 +26,8 @@ use Rattle.treelaws.specs.Lost.{Lost, leftOf, NoneWeighted}
 use Rattle.treelaws.proofs.Children.{child-facts, child-of, class-there, no-children, under-zero}
 use Rattle.treelaws.proofs.Rounding.{rates-le, fixed-and-left, listed, weight-le-sum, rates-under, fair-rates, rate-natural}
 
--- The shares of a list by kind: how many there are, and the sums of their rates. A rate is less than a grain below its exact
--- part, so n rates fall short of theirs by n grains less something for each.
+-- The shares of a list by kind: how many there are, the sums of their rates, and how near these come to what is divided. A
+-- rate and a grain more is above its exact part; the last two fields are the sums of that, free of fractions.
 record ByKind (r f w : ℕ) (shares : List Share) : Type 0 where
   fixedCount : ℕ
   weightedCount : ℕ

@@ -24,6 +24,7 @@ leftOf t c = leftRate (rate t c) (fixedSum (treeOf t) c)
 unfoldable pub NoneWeighted : Tree → ℕ → Type 0
 NoneWeighted tree c = (k : ℕ) → k < nodes → childOf tree c k ≡ true → isFixed tree k ≡ true
 
+-- How many grains class c loses.
 pub record Lost (t : List ℤ) (c : ℕ) : Type 0 where
   -- Where a child is weighted, whatever stands beside it, fewer grains are lost than there are children; so too where the
   -- fixed shares are 10,000 together.
@@ -35,6 +36,6 @@ pub record Lost (t : List ℤ) (c : ℕ) : Type 0 where
   -- So a class without children loses its whole rate.
   pub whole : childless (treeOf t) c ≡ true → lostGrains t c ≡ place t c rateAt
 
--- The rates of all clients and the lost grains of all nodes make up the disk's rate.
+-- The rates of all clients and the lost grains of all classes make up the disk's rate. (Other nodes lose none.)
 unfoldable pub WholeDisk : List ℤ → Type 0
 WholeDisk t = place t root rateAt ≡ pos (sumBelow nodes (λ k. countIf (isClient (treeOf t) k) (rate t) k)) +ℤ sumℤBelow nodes (lostGrains t)
