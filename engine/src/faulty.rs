@@ -1,7 +1,7 @@
 //! Controllers with one known fault each: the paper's slips, the fakes that
-//! document 01 names, misreadings of what a request costs and of the grains
-//! nobody gets, and some more. The judge or the differential must object to
-//! every one of them.
+//! document 01 names, misreadings of what a request costs, of the grains nobody
+//! gets and of what step 4 picks, and some more. The judge or the differential
+//! must object to every one of them.
 
 use crate::controller::{Controller, Engine, NewNode, Seen};
 use crate::damage::failing;
@@ -52,7 +52,7 @@ pub enum Fault {
     OwnOnce,
     /// Step 4 ends when the oldest request of all has no supplier.
     StopsAtOldest,
-    /// Step 4 goes by client number.
+    /// Step 4 goes by client number alone.
     ByNumber,
     /// The supplier is sought from the root down.
     FromRootDown,
@@ -96,6 +96,8 @@ pub enum Fault {
     CostWraps,
     /// A look answers a wrong number for the grains nobody gets.
     WrongLost(Lost),
+    /// Step 4 picks by another rule.
+    WrongPick(Pick),
     /// The in-order test lacks the clause of that number.
     LacksClause(usize),
 }
@@ -131,8 +133,82 @@ pub enum Lost {
     FromBefore,
 }
 
+/// Misreadings of what step 4 picks. Where nothing else is said, the request with
+/// the fewest steps goes first, and among those the one with the lowest arrival
+/// number.
+#[derive(Clone, Copy, Debug, PartialEq, Eq)]
+pub enum Pick {
+    /// The lowest arrival number goes first, whatever the steps.
+    ArrivalAlone,
+    /// The most steps go first.
+    MostSteps,
+    /// Among equal steps the lowest client number goes first.
+    TiesByNumber,
+    /// Among equal steps the highest client number goes first.
+    TiesByHighestNumber,
+    /// Among equal steps the lowest supplier number goes first.
+    TiesBySupplier,
+    /// Among equal steps the highest arrival number goes first.
+    TiesByLatest,
+    /// Steps are counted from the root down to the supplier: the fewest go first.
+    SupplierNearRoot,
+    /// The same, but the most go first: right where all clients stand on one level.
+    SupplierFarFromRoot,
+    /// Steps are counted from the client to the root: the fewest go first.
+    ClientNearRoot,
+    /// Two groups: a client that pays itself, and everyone else.
+    OwnOrOther,
+    /// Two groups: a client that pays itself or is paid by its class, and everyone
+    /// else.
+    ClassOrOther,
+    /// Two groups: what the root pays comes behind everything else.
+    RootOrOther,
+    /// A client that pays itself comes behind everyone else.
+    OwnLast,
+    /// A client that pays itself is passed over.
+    OwnSkipped,
+    /// The search for a supplier starts at the client's class.
+    OwnNever,
+    /// The search for a supplier goes from the client's class to the root at once.
+    SkipsMiddle,
+    /// The search for a supplier climbs three levels at most.
+    ThreeLevels,
+    /// A node supplies only what its children do not hold.
+    SpareOnly,
+    /// By number, a client takes the place of the best so far if it has fewer steps
+    /// or a lower arrival number.
+    EitherLess,
+    /// By number, a client takes the place of the best so far if it has no more
+    /// steps and a lower arrival number.
+    BothLess,
+    /// Steps are counted once for each client.
+    StepsOfClient,
+    /// Steps are counted once for each request, when it has become the oldest.
+    StepsOfRequest,
+    /// All candidates go in the order of one count before the next count.
+    InRounds,
+    /// A client that was served goes on while it has a supplier.
+    WholeClient,
+    /// A supplier that supplied goes on while a request has it for its supplier.
+    WholeFamily,
+    /// Once a request of so many steps went, fewer steps are no better.
+    StepsSoFar,
+    /// Once a request of so many steps went, fewer steps are passed over.
+    NeverBack,
+    /// More steps than those of the first dispatch are passed over.
+    FewestOnly,
+    /// Of the clients of a class only the one with the oldest request may go.
+    OldestOfFamily,
+    /// All requests of a client may go, not only the oldest.
+    AnyOfQueue,
+    /// Step 2 goes by arrival number, as step 4 does among equal steps.
+    StepTwoByArrival,
+    /// Step 2 is left to step 4, where a client that pays itself goes first.
+    WithoutStepTwo,
+}
+
 /// All faults that are no lacking clause.
-pub const FAULTS: [Fault; 58] = [
+pub const FAULTS: [Fault; 90] = [
     Fault::CutsFirst,
     Fault::ChargesClient,
     Fault::SparesRoot,
@@ -193,6 +269,38 @@ pub const FAULTS: [Fault; 58] = [
     Fault::WrongLost(Lost::WithoutUnclaimed),
     Fault::WrongLost(Lost::WithoutFixedRounding),
     Fault::WrongLost(Lost::FromBefore),
+    Fault::WrongPick(Pick::ArrivalAlone),
+    Fault::WrongPick(Pick::MostSteps),
+    Fault::WrongPick(Pick::TiesByNumber),
+    Fault::WrongPick(Pick::TiesByHighestNumber),
+    Fault::WrongPick(Pick::TiesBySupplier),
+    Fault::WrongPick(Pick::TiesByLatest),
+    Fault::WrongPick(Pick::SupplierNearRoot),
+    Fault::WrongPick(Pick::SupplierFarFromRoot),
+    Fault::WrongPick(Pick::ClientNearRoot),
+    Fault::WrongPick(Pick::OwnOrOther),
+    Fault::WrongPick(Pick::ClassOrOther),
+    Fault::WrongPick(Pick::RootOrOther),
+    Fault::WrongPick(Pick::OwnLast),
+    Fault::WrongPick(Pick::OwnSkipped),
+    Fault::WrongPick(Pick::OwnNever),
+    Fault::WrongPick(Pick::SkipsMiddle),
+    Fault::WrongPick(Pick::ThreeLevels),
+    Fault::WrongPick(Pick::SpareOnly),
+    Fault::WrongPick(Pick::EitherLess),
+    Fault::WrongPick(Pick::BothLess),
+    Fault::WrongPick(Pick::StepsOfClient),
+    Fault::WrongPick(Pick::StepsOfRequest),
+    Fault::WrongPick(Pick::InRounds),
+    Fault::WrongPick(Pick::WholeClient),
+    Fault::WrongPick(Pick::WholeFamily),
+    Fault::WrongPick(Pick::StepsSoFar),
+    Fault::WrongPick(Pick::NeverBack),
+    Fault::WrongPick(Pick::FewestOnly),
+    Fault::WrongPick(Pick::OldestOfFamily),
+    Fault::WrongPick(Pick::AnyOfQueue),
+    Fault::WrongPick(Pick::StepTwoByArrival),
+    Fault::WrongPick(Pick::WithoutStepTwo),
 ];
 
 impl Fault {

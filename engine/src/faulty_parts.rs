@@ -1,14 +1,15 @@
 //! Parts of the controllers with faults: wrong rates, costs and lost grains, and
-//! a request and a tick that can go wrong. Without a fault these are document
-//! 01's once more.
+//! a request and a tick that can go wrong. Without a fault these are the
+//! documents' once more.
 
 use crate::cost::cost;
 use crate::damage::failing;
-use crate::faulty::{Fault, Lost};
+use crate::faulty::{Fault, Lost, Pick};
+use crate::faulty_picks::StepFour;
 use crate::order::{sizes_fit, SIZES_CLAUSE};
 use crate::refusal::*;
 use crate::table::*;
-use crate::tick::{cut, find_supplier, grow, has_enough, oldest, path_to_root, DispatchList};
+use crate::tick::{cut, grow, has_enough, oldest, path_to_root, DispatchList};
 use crate::{arguments, calls, rates};
 
 /// The cost of a size, wherever a cost counts.
@@ -116,18 +117,42 @@ pub(crate) fn dispatch_all_from_nobody(table: &mut [i64], list: &mut [i64]) -> i
     list.count()
 }
 
+/// Step 2.
 fn serve_own(fault: Fault, table: &mut [i64], list: &mut DispatchList) {
+    match fault {
+        Fault::WrongPick(Pick::WithoutStepTwo) => return,
+        Fault::WrongPick(Pick::StepTwoByArrival) => {
+            return serve_own_by_arrival(fault, table, list)
+        }
+        _ => {}
+    }
     for client in 0..NODES {
-        while oldest(table, client).is_some_and(|request| {
-            let needed = grains_with(fault, Fault::ComparesSizeInStepTwo, request.size);
-            has_enough(table, client, needed)
-        }) {
+        while pays_itself(fault, table, client) {
             dispatch(fault, table, list, client, client);
             if fault == Fault::OwnOnce {
                 break;
             }
         }
     }
+}
+
+/// Step 2 by arrival number.
+fn serve_own_by_arrival(fault: Fault, table: &mut [i64], list: &mut DispatchList) {
+    let next = |table: &[i64]| {
+        let paying = clients(table).filter(|&client| pays_itself(fault, table, client));
+        paying.min_by_key(|&client| oldest(table, client).map(|request| request.arrival))
+    };
+    while let Some(client) = next(table) {
+        dispatch(fault, table, list, client, client);
+    }
+}
+
+/// Whether a node has a request, and the balance for the oldest.
+fn pays_itself(fault: Fault, table: &[i64], node: usize) -> bool {
+    oldest(table, node).is_some_and(|request| {
+        let needed = grains_with(fault, Fault::ComparesSizeInStepTwo, request.size);
+        has_enough(table, node, needed)
+    })
 }
 
 fn take_larger(table: &mut [i64]) {
@@ -138,36 +163,20 @@ fn take_larger(table: &mut [i64]) {
     }
 }
 
+/// Step 4.
 fn serve_rest(fault: Fault, table: &mut [i64], list: &mut DispatchList) {
-    while let Some((client, supplier)) = choose(fault, table) {
-        dispatch(fault, table, list, client, supplier);
+    let grains = |size| grains_with(fault, Fault::ComparesSizeInStepFour, size);
+    let mut step_four = StepFour::new(fault, &grains);
+    while let Some(next) = step_four.next(table) {
+        bring_forward(table, next.client, next.place);
+        dispatch(fault, table, list, next.client, next.supply.supplier);
     }
 }
 
-/// The client that is served next, and its supplier.
-fn choose(fault: Fault, table: &[i64]) -> Option<(usize, usize)> {
-    let mut asking: Vec<(i64, usize, Option<usize>)> = clients(table)
-        .filter_map(|client| {
-            let request = oldest(table, client)?;
-            let needed = grains_with(fault, Fault::ComparesSizeInStepFour, request.size);
-            Some((request.arrival, client, seek(fault, table, client, needed)))
-        })
-        .collect();
-    if fault != Fault::ByNumber {
-        asking.sort_unstable();
-    }
-    if fault == Fault::StopsAtOldest {
-        asking.truncate(1);
-    }
-    asking.into_iter().find_map(|(_, client, supplier)| Some((client, supplier?)))
-}
-
-fn seek(fault: Fault, table: &[i64], client: usize, needed: i64) -> Option<usize> {
-    if fault == Fault::FromRootDown {
-        path_to_root(table, client).filter(|&node| has_enough(table, node, needed)).last()
-    } else {
-        find_supplier(table, client, needed)
-    }
+/// Puts the request at that place of a client's queue before the others.
+fn bring_forward(table: &mut [i64], client: usize, place: usize) {
+    let end = at(client, QUEUE + QUEUE_STEP * (place + 1));
+    table[at(client, QUEUE)..end].rotate_right(QUEUE_STEP);
 }
 
 fn dispatch(

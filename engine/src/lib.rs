@@ -1,7 +1,7 @@
 //! The second engine of the disk share controller.
 //!
 //! It is written from document 01 ("Hierarchical Disk Sharing: the account
-//! table and its calls") and document 02 up to request (b) alone, to check
+//! table and its calls") and document 02 up to request (c) alone, to check
 //! another implementation of them call by call. Quoted words in the comments are
 //! the documents'.
 //!
@@ -20,8 +20,10 @@ pub mod controller;
 pub mod cost;
 pub mod damage;
 pub mod differential;
+mod families;
 pub mod faulty;
 mod faulty_parts;
+mod faulty_picks;
 pub mod judge;
 pub mod order;
 pub mod plan;

@@ -9,7 +9,7 @@ use crate::cost::largest_size;
 use crate::plan::{plan_len, Plan};
 use crate::steps::{Call, Step, World};
 use crate::table::*;
-use crate::{arguments, damage, order, plans};
+use crate::{arguments, damage, families, order, plans};
 
 pub use crate::rng::Rng;
 
@@ -18,6 +18,9 @@ pub use crate::rng::Rng;
 pub enum Profile {
     /// An accepted open, then only the calls of demand 3, with any arguments.
     Clean,
+    /// The same in a tree whose classes supply their clients, mostly with several
+    /// requests before a tick.
+    Family,
     /// Every call, with damage to the table and to plans.
     Wild,
 }
@@ -51,7 +54,7 @@ impl Generator {
     fn new(seed: u64, profile: Profile) -> Generator {
         let mut rng = Rng::new(seed);
         let bent = rng.pick(&[0, 1, 3, 10]);
-        let busy = rng.pick(&[30, 50, 65, 85]);
+        let busy = rng.pick(&[30, 50, 65, 88]);
         let spread = rng.pick(&[2, 5, 30, 200]);
         let world = World::default();
         Generator { rng, profile, world, damaged: false, steps: Vec::new(), bent, busy, spread }
@@ -59,6 +62,9 @@ impl Generator {
 
     /// Opens the table and joins some nodes.
     fn begin(&mut self) {
+        if self.profile == Profile::Family {
+            return self.begin_family();
+        }
         if self.profile == Profile::Wild && self.rng.chance(10) {
             self.any_call();
         }
@@ -66,6 +72,14 @@ impl Generator {
             self.open();
         }
         self.join_many();
+    }
+
+    fn begin_family(&mut self) {
+        let rate = families::rate(&mut self.rng);
+        self.call(Call::Open { rate, depth: families::ROOT_DEPTH });
+        for _ in 0..15 + self.rng.below(40) {
+            self.join_family();
+        }
     }
 
     fn join_many(&mut self) {
@@ -76,7 +90,9 @@ impl Generator {
     }
 
     fn go_on(&mut self) {
-        if self.profile == Profile::Clean || self.rng.chance(70) {
+        if self.profile == Profile::Family {
+            self.family_call();
+        } else if self.profile == Profile::Clean || self.rng.chance(70) {
             self.tree_or_queue_call();
         } else if self.rng.chance(40) {
             self.other_call();
@@ -101,6 +117,21 @@ impl Generator {
                 self.tick();
                 self.clear_out_debtor();
             }
+        }
+    }
+
+    /// One of demand 3's calls in a run of families, or a few of them.
+    fn family_call(&mut self) {
+        match self.rng.below(100) {
+            0..=7 => self.join_family(),
+            8..=10 => self.leave(),
+            11..=13 => self.change_share(),
+            14..=17 => {
+                let rate = families::rate(&mut self.rng);
+                self.call(Call::ChangeRate { rate });
+            }
+            18..=39 => self.tick(),
+            _ => self.rush(),
         }
     }
 
@@ -204,6 +235,12 @@ impl Generator {
         self.call(Call::Join(new));
     }
 
+    fn join_family(&mut self) {
+        let (rng, view) = self.rng_and_view();
+        let new = families::new_node(rng, view);
+        self.call(Call::Join(new));
+    }
+
     fn leave(&mut self) {
         let (rng, view) = self.rng_and_view();
         let node = arguments::leaving_node(rng, view);
@@ -255,6 +292,20 @@ impl Generator {
         let tag = self.bend(tag, i64::MIN, i64::MAX);
         let size = self.bend(size, 1, largest_size(depth).unwrap_or(0));
         self.call(Call::Request { client, tag, size });
+    }
+
+    /// A few clients ask in turn, and a tick follows.
+    fn rush(&mut self) {
+        let (rng, view) = self.rng_and_view();
+        let clients = families::crowd(rng, view);
+        for _ in 0..2 * clients.len() {
+            let (rng, view) = self.rng_and_view();
+            let client = rng.pick(&clients);
+            let size = families::size(rng, view, client);
+            let tag = rng.number() >> rng.below(63);
+            self.call(Call::Request { client: client as i64, tag, size });
+        }
+        self.tick();
     }
 
     fn tick(&mut self) {

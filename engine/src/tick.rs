@@ -31,6 +31,16 @@ impl<'a> DispatchList<'a> {
     }
 }
 
+/// What the search for a supplier reports.
+#[derive(Clone, Copy, Debug, PartialEq, Eq)]
+pub(crate) struct Supply {
+    /// The first node with enough balance on the way up.
+    pub(crate) supplier: usize,
+    /// How many steps it is above the client: 0 for the client itself, 1 for its
+    /// class, at most 4 for the root.
+    pub(crate) steps: usize,
+}
+
 /// Tick: returns how many requests were dispatched.
 pub(crate) fn tick(table: &mut [i64], list: &mut [i64]) -> Answer<i64> {
     require(list.len() >= ENTRY_LEN * waiting_in_all(table), BUFFER_SHORT)?;
@@ -38,7 +48,7 @@ pub(crate) fn tick(table: &mut [i64], list: &mut [i64]) -> Answer<i64> {
     grow(table);
     serve_from_own_balance(table, &mut list);
     cut(table);
-    serve_by_arrival(table, &mut list);
+    serve_nearest_first(table, &mut list);
     Ok(list.count())
 }
 
@@ -70,29 +80,34 @@ pub(crate) fn cut(table: &mut [i64]) {
     }
 }
 
-/// Step 4: by arrival number, from the first supplier on the way up.
-fn serve_by_arrival(table: &mut [i64], list: &mut DispatchList) {
+/// Step 4: again and again the request whose supplier is the fewest steps above
+/// its client goes, until no request has a supplier.
+fn serve_nearest_first(table: &mut [i64], list: &mut DispatchList) {
     while let Some((client, supplier)) = next_supplied(table) {
         dispatch(table, list, client, supplier);
     }
 }
 
-/// Of the clients whose oldest request has a supplier, the one with the lowest
-/// arrival number, with that supplier.
+/// Of the clients whose oldest request has a supplier, the one with the fewest
+/// steps and among those with the lowest arrival number, with that supplier.
 fn next_supplied(table: &[i64]) -> Option<(usize, usize)> {
     clients(table)
         .filter_map(|client| {
             let request = oldest(table, client)?;
-            let supplier = find_supplier(table, client, grains(request.size))?;
-            Some((request.arrival, client, supplier))
+            let Supply { supplier, steps } = find_supply(table, client, grains(request.size))?;
+            Some((steps, request.arrival, client, supplier))
         })
         .min()
-        .map(|(_, client, supplier)| (client, supplier))
+        .map(|(_, _, client, supplier)| (client, supplier))
 }
 
-/// The first node with enough balance from the client up to the root.
-pub(crate) fn find_supplier(table: &[i64], client: usize, needed: i64) -> Option<usize> {
-    path_to_root(table, client).find(|&node| has_enough(table, node, needed))
+/// The first node with enough balance from the client up to the root, and its
+/// steps above the client.
+pub(crate) fn find_supply(table: &[i64], client: usize, needed: i64) -> Option<Supply> {
+    path_to_root(table, client)
+        .enumerate()
+        .find(|&(_, node)| has_enough(table, node, needed))
+        .map(|(steps, supplier)| Supply { supplier, steps })
 }
 
 /// The nodes from one up to the root, both included.

@@ -18,12 +18,12 @@ use Rattle.table.specs.Tick.{grains, enough, stepTwo, ticked}
 use Rattle.table.proofs.Facts.{InOrder}
 use Rattle.table.proofs.Cost.{cost-bounds, most-cost}
 use Rattle.treelaws.proofs.Sorts.{client-there, client-class}
-use Rattle.ticklaws.proofs.Frame.{frame-tree, frame-grains}
+use Rattle.ticklaws.proofs.Frame.{frame-grains}
 use Rattle.ticklaws.proofs.Reached.{Reached, reached-first}
-use Rattle.ticklaws.proofs.Way.{ways-of, way-first}
+use Rattle.ticklaws.proofs.Way.{way-first}
 use Rattle.ticklaws.proofs.Next.{not-supplied}
-use Rattle.ticklaws.proofs.Served.{client-at, facts-ready}
-use Rattle.ticklaws.proofs.Keeps.{two-reached, two-suffices, ticked-settled, ticked-in-order, none-supplied}
+use Rattle.ticklaws.proofs.Served.{facts-ready}
+use Rattle.ticklaws.proofs.Keeps.{two-reached, two-suffices, ticked-settled, none-supplied}
 use Rattle.bounds.specs.Counts.{grainsForClient, sumOver}
 use Rattle.bounds.proofs.Decoded.{told}
 use Rattle.bounds.proofs.Ticked.{ticked-fewer, ticked-fair, ticked-same}
@@ -75,7 +75,5 @@ module _ (t : List ℤ) (f : InOrder t) (k : ℕ) (hk : k < nodes) (client : isC
   unfolding atOrAbove
   waiting-end =
       let u = ticked t .table in
-      let r = ticked-settled t f .reached in
-      let same = frame-tree t u (r .frame) in
-      short-below t u r k hk waits
-      (not-supplied u (ways-of u (ticked-in-order t f)) k (rw same (client-at t u r k hk waits)) waits (none-supplied t f k hk) k (way-first (treeOf u) (treeOf u .level k) k))
+      short-below t u (ticked-settled t f .reached) k hk waits
+      (not-supplied u k waits (none-supplied t f k hk) k (way-first (treeOf u) (treeOf u .level k) k))

@@ -1,17 +1,14 @@
 -- Every case passes: one test of them all, computed, and from it each case by its name.
-use mathlib.Core.Path.{_≡_}
-use mathlib.Core.Bool.{Bool, true}
 use mathlib.Core.List.{List, [], _∷_, map}
 use lib.Dec.{T}
-use Rattle.numbers.specs.Tests.{every}
-use Rattle.scenarios.specs.Scenario.{Passes}
-use Rattle.scenarios.proofs.Run.{passes, passed, truth, every-at}
+use Rattle.scenarios.specs.Scenario.{Scenario, Passes}
+use Rattle.scenarios.proofs.Run.{passes, allPass, at}
 use Rattle.cases.specs.Cases.{Case, roundedDown, lostByClasses, emptyBuckets, restOfList, cutToDepth, firstSupplier, headerPlaces, nodesInOrder, sumsInOrder, requestsInOrder, scenario}
 
--- Whether each case passes.
-joint : List Bool
+-- The scenarios.
+joint : List Scenario
 joint =
-    map (λ (c : Case). passes (scenario c))
+    map scenario
     (roundedDown
     ∷ lostByClasses
     ∷ emptyBuckets
@@ -24,23 +21,19 @@ joint =
     ∷ requestsInOrder
     ∷ [])
 
-computed : T (every joint)
-unfolding every joint passes scenario
+computed : T (allPass joint)
+unfolding allPass joint passes scenario
 computed = tt
 
-each : every joint ≡ true → (c : Case) → passes (scenario c) ≡ true
-unfolding joint
-each h roundedDown = every-at joint h 0
-each h lostByClasses = every-at joint h 1
-each h emptyBuckets = every-at joint h 2
-each h restOfList = every-at joint h 3
-each h cutToDepth = every-at joint h 4
-each h firstSupplier = every-at joint h 5
-each h headerPlaces = every-at joint h 6
-each h nodesInOrder = every-at joint h 7
-each h sumsInOrder = every-at joint h 8
-each h requestsInOrder = every-at joint h 9
-
--- All of them do.
 pub cases-hold : (c : Case) → Passes (scenario c)
-cases-hold c = passed (scenario c) (each (truth (every joint) computed) c)
+unfolding joint
+cases-hold roundedDown = at joint computed 0
+cases-hold lostByClasses = at joint computed 1
+cases-hold emptyBuckets = at joint computed 2
+cases-hold restOfList = at joint computed 3
+cases-hold cutToDepth = at joint computed 4
+cases-hold firstSupplier = at joint computed 5
+cases-hold headerPlaces = at joint computed 6
+cases-hold nodesInOrder = at joint computed 7
+cases-hold sumsInOrder = at joint computed 8
+cases-hold requestsInOrder = at joint computed 9

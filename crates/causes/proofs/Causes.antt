@@ -1,17 +1,14 @@
 -- The causes of every call have their numbers and their order: one test of all, computed, and from it each by its name.
-use mathlib.Core.Path.{_≡_}
-use mathlib.Core.Bool.{Bool, true}
 use mathlib.Core.List.{List, [], _∷_, map}
 use lib.Dec.{T}
-use Rattle.numbers.specs.Tests.{every}
-use Rattle.scenarios.specs.Scenario.{Passes}
-use Rattle.scenarios.proofs.Run.{passes, passed, truth, every-at}
+use Rattle.scenarios.specs.Scenario.{Scenario, Passes}
+use Rattle.scenarios.proofs.Run.{passes, allPass, at}
 use Rattle.causes.specs.Causes.{TurnedBack, notInOrder, tableLengths, opens, joinLimits, joins, leaves, changesShare, changesRate, requests, looks, compares, ticks, scenario}
 
--- Whether each scenario passes.
-joint : List Bool
+-- The scenarios.
+joint : List Scenario
 joint =
-    map (λ (c : TurnedBack). passes (scenario c))
+    map scenario
     (notInOrder
     ∷ tableLengths
     ∷ opens
@@ -26,25 +23,21 @@ joint =
     ∷ ticks
     ∷ [])
 
-computed : T (every joint)
-unfolding every joint passes scenario
+computed : T (allPass joint)
+unfolding allPass joint passes scenario
 computed = tt
 
-each : every joint ≡ true → (c : TurnedBack) → passes (scenario c) ≡ true
-unfolding joint
-each h notInOrder = every-at joint h 0
-each h tableLengths = every-at joint h 1
-each h opens = every-at joint h 2
-each h joinLimits = every-at joint h 3
-each h joins = every-at joint h 4
-each h leaves = every-at joint h 5
-each h changesShare = every-at joint h 6
-each h changesRate = every-at joint h 7
-each h requests = every-at joint h 8
-each h looks = every-at joint h 9
-each h compares = every-at joint h 10
-each h ticks = every-at joint h 11
-
--- All of them do.
 pub causes-hold : (c : TurnedBack) → Passes (scenario c)
-causes-hold c = passed (scenario c) (each (truth (every joint) computed) c)
+unfolding joint
+causes-hold notInOrder = at joint computed 0
+causes-hold tableLengths = at joint computed 1
+causes-hold opens = at joint computed 2
+causes-hold joinLimits = at joint computed 3
+causes-hold joins = at joint computed 4
+causes-hold leaves = at joint computed 5
+causes-hold changesShare = at joint computed 6
+causes-hold changesRate = at joint computed 7
+causes-hold requests = at joint computed 8
+causes-hold looks = at joint computed 9
+causes-hold compares = at joint computed 10
+causes-hold ticks = at joint computed 11

@@ -1,58 +1,48 @@
--- Every marked edge passes: one test of them all, computed, and from it each edge by its name.
-use mathlib.Core.Path.{_≡_}
-use mathlib.Core.Bool.{Bool, true}
+-- The joint table holds: one test of document 01's edges, computed, and from it each edge by its name; those of document 02's
+-- requests by their own law.
 use mathlib.Core.List.{List, [], _∷_, map}
 use lib.Dec.{T}
-use Rattle.numbers.specs.Tests.{every}
-use Rattle.scenarios.specs.Scenario.{Passes}
-use Rattle.scenarios.proofs.Run.{passes, passed, truth, every-at}
-use Rattle.edges.specs.Edges.{Edge, paper, thirds, nothingLeft, nothingLeftOfThirds, noChildren, aboveWhole, alone, oneAsks, bothAsk, debt, sizes, costsAbove, costsCharged, depths, ninth, listLengths, scenario}
+use Rattle.scenarios.specs.Scenario.{Scenario, Passes}
+use Rattle.scenarios.proofs.Run.{passes, allPass, at}
+use Rattle.changes.proofs.Changes.{changes-hold}
+use Rattle.edges.specs.Edges.{Edge, paper, thirds, nothingLeft, nothingLeftOfThirds, aboveWhole, alone, oneAsks, bothAsk, debt, sizes, depths, ninth, listLengths, ofRequest, scenario}
 
--- The joint table: whether each edge passes.
-joint : List Bool
+-- The scenarios of document 01's edges.
+joint : List Scenario
 joint =
-    map (λ (e : Edge). passes (scenario e))
+    map scenario
     (paper
     ∷ thirds
     ∷ nothingLeft
     ∷ nothingLeftOfThirds
-    ∷ noChildren
     ∷ aboveWhole
     ∷ alone
     ∷ oneAsks
     ∷ bothAsk
     ∷ debt
     ∷ sizes
-    ∷ costsAbove
-    ∷ costsCharged
     ∷ depths
     ∷ ninth
     ∷ listLengths
     ∷ [])
 
-computed : T (every joint)
-unfolding every joint passes scenario
+computed : T (allPass joint)
+unfolding allPass joint passes scenario
 computed = tt
 
-each : every joint ≡ true → (e : Edge) → passes (scenario e) ≡ true
-unfolding joint
-each h paper = every-at joint h 0
-each h thirds = every-at joint h 1
-each h nothingLeft = every-at joint h 2
-each h nothingLeftOfThirds = every-at joint h 3
-each h noChildren = every-at joint h 4
-each h aboveWhole = every-at joint h 5
-each h alone = every-at joint h 6
-each h oneAsks = every-at joint h 7
-each h bothAsk = every-at joint h 8
-each h debt = every-at joint h 9
-each h sizes = every-at joint h 10
-each h costsAbove = every-at joint h 11
-each h costsCharged = every-at joint h 12
-each h depths = every-at joint h 13
-each h ninth = every-at joint h 14
-each h listLengths = every-at joint h 15
-
--- The marked edges hold, all together.
 pub edges-hold : (e : Edge) → Passes (scenario e)
-edges-hold e = passed (scenario e) (each (truth (every joint) computed) e)
+unfolding joint scenario
+edges-hold paper = at joint computed 0
+edges-hold thirds = at joint computed 1
+edges-hold nothingLeft = at joint computed 2
+edges-hold nothingLeftOfThirds = at joint computed 3
+edges-hold aboveWhole = at joint computed 4
+edges-hold alone = at joint computed 5
+edges-hold oneAsks = at joint computed 6
+edges-hold bothAsk = at joint computed 7
+edges-hold debt = at joint computed 8
+edges-hold sizes = at joint computed 9
+edges-hold depths = at joint computed 10
+edges-hold ninth = at joint computed 11
+edges-hold listLengths = at joint computed 12
+edges-hold (ofRequest change) = changes-hold change

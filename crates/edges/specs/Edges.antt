@@ -1,16 +1,18 @@
--- The marked edges of document 01 with the costs of document 02, request (a), each a scenario under its words; where costs
--- change them, the words here are those worked anew. What the words leave open, as the depth of a node or the tag of a
--- request, is chosen so that nothing else is met. Looks also show the lost grains of request (b).
+-- The joint table of edges: the marked edges of document 01, each a scenario under its words, and the edges of document 02's
+-- requests. Where the costs of request (a) change an edge of document 01, the words here are those worked anew. What the words
+-- leave open, as the depth of a node or the tag of a request, is chosen so that nothing else is met. Looks also show the lost
+-- grains of request (b).
 use mathlib.Core.List.{[], _∷_}
 use lib.IntN.{pos, negℤ}
 use Rattle.table.specs.Limits.{root, class, client, fixed, weighted, wholeShare}
 use Rattle.table.specs.Refusals.{refused}
+use Rattle.changes.specs.Changes.{Change, ofChange}
 use Rattle.scenarios.specs.Scenario.{Scenario, disk, join, request, look, tick, dispatch, _gives_, _lists_, _refuses_, setBalance, times, number, seen}
 
--- The edges by name, in document 01's order; those of lost grains stand beside the rates, those of the ranges' ends beside
--- the sizes.
+-- The edges by name: document 01's in its order, then those of the requests.
 pub data Edge : Type 0 where
-  paper thirds nothingLeft nothingLeftOfThirds noChildren aboveWhole alone oneAsks bothAsk debt sizes costsAbove costsCharged depths ninth listLengths : Edge
+  paper thirds nothingLeft nothingLeftOfThirds aboveWhole alone oneAsks bothAsk debt sizes depths ninth listLengths : Edge
+  ofRequest : Change → Edge
 
 unfoldable pub scenario : Edge → Scenario
 -- "Disk 1000; class 1 fixed 5000: rate 500. Under it fixed 4000: 200; weights 4 and 6: 120 and 180." The class loses nothing,
@@ -58,17 +60,6 @@ scenario nothingLeftOfThirds =
     ∷ look 2 gives seen 333 (pos 0) 0 0
     ∷ look 3 gives seen 333 (pos 0) 0 0
     ∷ look 4 gives seen 0 (pos 0) 0 0
-    ∷ []
--- A class without children loses its whole rate, the disk as any other; a client loses nothing.
-scenario noChildren =
-    disk 1000 40 gives number 0
-    ∷ look root gives seen 1000 (pos 0) 0 1000
-    ∷ join 1 root class fixed 5000 20 gives number 0
-    ∷ look root gives seen 1000 (pos 0) 0 500
-    ∷ look 1 gives seen 500 (pos 0) 0 500
-    ∷ join 2 1 client weighted 1 20 gives number 0
-    ∷ look 1 gives seen 500 (pos 0) 0 0
-    ∷ look 2 gives seen 500 (pos 0) 0 0
     ∷ []
 -- "Fixed 10,001 in all: 7."
 scenario aboveWhole =
@@ -137,67 +128,6 @@ scenario sizes =
     ∷ request 5 50 16 gives refused 8
     ∷ request 5 50 0 gives refused 2
     ∷ []
--- The ends of the ranges: 1 and 7 cost 8, 8 costs 12, 63 costs 67, 64 costs 72, 511 costs 519, 512 costs 528. At a depth of
--- one less each gets 8.
-scenario costsAbove =
-    disk 1000 2000 gives number 0
-    ∷ join 1 root client weighted 1 7 gives number 0
-    ∷ join 2 root client weighted 1 11 gives number 0
-    ∷ join 3 root client weighted 1 66 gives number 0
-    ∷ join 4 root client weighted 1 71 gives number 0
-    ∷ join 5 root client weighted 1 518 gives number 0
-    ∷ join 6 root client weighted 1 527 gives number 0
-    ∷ request 1 10 1 gives refused 8
-    ∷ request 1 10 7 gives refused 8
-    ∷ request 2 20 8 gives refused 8
-    ∷ request 3 30 63 gives refused 8
-    ∷ request 4 40 64 gives refused 8
-    ∷ request 5 50 511 gives refused 8
-    ∷ request 6 60 512 gives refused 8
-    ∷ []
--- At a depth of just the cost each waits. With a grain less than its cost x 1000 it waits on; with just that it goes, and its
--- client is left with 0. The clients have rate 0, as seven weights under 1.
-scenario costsCharged =
-    disk 1 2000 gives number 0
-    ∷ join 1 root client weighted 1 8 gives number 0
-    ∷ join 2 root client weighted 1 8 gives number 0
-    ∷ join 3 root client weighted 1 12 gives number 0
-    ∷ join 4 root client weighted 1 67 gives number 0
-    ∷ join 5 root client weighted 1 72 gives number 0
-    ∷ join 6 root client weighted 1 519 gives number 0
-    ∷ join 7 root client weighted 1 528 gives number 0
-    ∷ request 1 10 1 gives number 1
-    ∷ request 2 20 7 gives number 2
-    ∷ request 3 30 8 gives number 3
-    ∷ request 4 40 63 gives number 4
-    ∷ request 5 50 64 gives number 5
-    ∷ request 6 60 511 gives number 6
-    ∷ request 7 70 512 gives number 7
-    ∷ setBalance 1 (pos 7999)
-    ∷ setBalance 2 (pos 7999)
-    ∷ setBalance 3 (pos 11999)
-    ∷ setBalance 4 (pos 66999)
-    ∷ setBalance 5 (pos 71999)
-    ∷ setBalance 6 (pos 518999)
-    ∷ setBalance 7 (pos 527999)
-    ∷ tick 28 lists []
-    ∷ setBalance 1 (pos 8000)
-    ∷ setBalance 2 (pos 8000)
-    ∷ setBalance 3 (pos 12000)
-    ∷ setBalance 4 (pos 67000)
-    ∷ setBalance 5 (pos 72000)
-    ∷ setBalance 6 (pos 519000)
-    ∷ setBalance 7 (pos 528000)
-    ∷ tick 28 lists (dispatch 1 10 1 1 ∷ dispatch 2 20 7 2 ∷ dispatch 3 30 8 3 ∷ dispatch 4 40 63 4 ∷ dispatch 5 50 64 5 ∷ dispatch 6 60 511 6 ∷ dispatch 7 70 512 7 ∷ [])
-    ∷ look 1 gives seen 0 (pos 0) 0 0
-    ∷ look 2 gives seen 0 (pos 0) 0 0
-    ∷ look 3 gives seen 0 (pos 0) 0 0
-    ∷ look 4 gives seen 0 (pos 0) 0 0
-    ∷ look 5 gives seen 0 (pos 0) 0 0
-    ∷ look 6 gives seen 0 (pos 0) 0 0
-    ∷ look 7 gives seen 0 (pos 0) 0 0
-    ∷ look root gives seen 1 (negℤ (pos 1213998)) 0 1
-    ∷ []
 -- "Depths 16 and 24 under 40 join; 16 and 25 get 8."
 scenario depths =
     disk 1000 40 gives number 0
@@ -229,3 +159,4 @@ scenario listLengths =
     ∷ tick 7 refuses 13
     ∷ tick 8 lists []
     ∷ []
+scenario (ofRequest change) = ofChange change

@@ -5,8 +5,10 @@ use native.Mathlib.Decide.{ℕ-discrete}
 use native.Mathlib.Omega.{arith}
 use mathlib.Core.Path.{_≡_, refl, sym, ap, _∙_}
 use mathlib.Core.Bool.{Bool, true, _&&_}
+use borrow.Author.Tests.{ltb-true, ltb-false}
+use lib.Dec.{ltb}
 use Rattle.numbers.specs.Below.{allBelow}
-use Rattle.numbers.proofs.Tests.{same-truth, and-true, and-left, and-right}
+use Rattle.numbers.proofs.Tests.{by-test, same-truth, and-true, and-left, and-right}
 
 -- A number below n + 1 is below n or is n.
 pub below-cases {ℓ} : {P : Type ℓ} (n k : ℕ) → k < suc n → (k < n → P) → (k ≡ n → P) → P
@@ -15,6 +17,13 @@ below-cases {P = P} n k h below last = by (ℕ-discrete k n)
     by : Dec (k ≡ n) → P
     by (yes e) = last e
     by (no d) = below (omega arith)
+
+-- Of two numbers one is less than the other, or they are the same.
+pub by-order {ℓ} : {P : Type ℓ} (a b : ℕ) → (a < b → P) → (b < a → P) → (a ≡ b → P) → P
+by-order a b less greater same =
+    by-test (ltb a b)
+    (λ l. less (ltb-true a b l))
+    (λ n. by-test (ltb b a) (λ l. greater (ltb-true b a l)) (λ m. same (omega (arith, ltb-false a b n, ltb-false b a m))))
 
 pub all-suc : (n : ℕ) (p : ℕ → Bool) → allBelow (suc n) p ≡ (allBelow n p && p n)
 unfolding allBelow

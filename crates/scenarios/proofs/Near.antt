@@ -22,7 +22,7 @@ use Rattle.table.specs.Limits.{headerLength, recordLength, nodes, sortAt, paren
 use Rattle.table.specs.Places.{place, put, waiting}
 use Rattle.table.specs.Tree.{Tree, treeOf, there, testIf}
 use Rattle.table.specs.Order.{isZero, unusedInOrder}
-use Rattle.table.specs.Tick.{State, nobody, dispatched, supplier, supplied, better, next, lent}
+use Rattle.table.specs.Tick.{State, nobody, dispatched, supplier, supplied, choice, next, lent}
 use Rattle.table.proofs.Places.{put-same}
 
 -- The first far node, and where its record starts.
@@ -160,18 +160,18 @@ unused-is t =
     (λ h. simp (tree-is, place-is) (all-from fewNodes (unusedAt t) (λ k far. far-unused t k (not-false (few t) h) far) nodes (omega arith)))
 
 -- The next client to be dispatched, and step 4.
-far-better : (t : List ℤ) (k best : ℕ) → few t ≡ true → fewNodes ≤ k → better t k best ≡ best
-unfolding better supplied waiting plus every
-far-better t k best h far = rw (far-place t k waitingAt h far)
+far-choice : (t : List ℤ) (k best : ℕ) → few t ≡ true → fewNodes ≤ k → choice t k best ≡ best
+unfolding choice supplied waiting plus every
+far-choice t k best h far = rw (far-place t k waitingAt h far)
 
 unfoldable pub nextNear : List ℤ → ℕ
-nextNear t = cond (not (few t)) (next t) (forBelow fewNodes (better t) nobody)
+nextNear t = cond (not (few t)) (next t) (forBelow fewNodes (choice t) nobody)
 
 next-is : (t : List ℤ) → next t ≡ nextNear t
 unfolding nextNear next
 next-is t =
-    unless (not (few t)) (next t) (forBelow fewNodes (better t) nobody)
-    (λ h. for-from fewNodes (better t) nobody (λ k far. far-better t k (forBelow fewNodes (better t) nobody) (not-false (few t) h) far) nodes (omega arith))
+    unless (not (few t)) (next t) (forBelow fewNodes (choice t) nobody)
+    (λ h. for-from fewNodes (choice t) nobody (λ k far. far-choice t k (forBelow fewNodes (choice t) nobody) (not-false (few t) h) far) nodes (omega arith))
 
 unfoldable pub lentNear : ℕ → State → State
 lentNear zero st = st

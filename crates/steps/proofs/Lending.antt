@@ -10,11 +10,13 @@ use Rattle.table.specs.Places.{waiting}
 use Rattle.table.specs.Tree.{treeOf}
 use Rattle.table.specs.Tick.{nobody, State, dispatched, supplier, supplied, next, lent, allWaiting}
 use Rattle.table.proofs.Facts.{InOrder}
+use Rattle.table.proofs.Choice.{next-found}
 use Rattle.ticklaws.proofs.Cut.{cut-reached, cut-under}
 use Rattle.ticklaws.proofs.Dispatch.{Dispatch}
-use Rattle.ticklaws.proofs.Next.{supplied-facts, next-found}
-use Rattle.ticklaws.proofs.Lent.{Settled, lent-again, lent-done, lent-dispatch, lent-settled, waiting-falls}
+use Rattle.ticklaws.proofs.Next.{supplied-facts}
+use Rattle.ticklaws.proofs.Lent.{Settled, lent-again, lent-done, supplier-at, lent-dispatch, lent-settled, waiting-falls}
 use Rattle.balances.specs.Within.{Within}
+use Rattle.suppliers.proofs.Answer.{Goes}
 use Rattle.dispatch.specs.Entries.{tableAfter}
 use Rattle.dispatch.proofs.Listed.{next-table}
 use Rattle.steps.specs.Steps.{Lending, was-cut, lent-one, lending}
@@ -61,31 +63,28 @@ lent-falls u s k hk e =
     let w = lending-level s in
     waiting-falls (treeOf (w .from)) u (tableAfter u k (supplier u k)) k (supplier u k) hk (turn u w k hk e)
 
--- The next client k, of which s is the supplier.
-pub record Next (t : List ℤ) (k s : ℕ) : Type 0 where
-  pub client : k ≡ next t
-  pub node : s ≡ supplier t k
-  pub some : k ≡ nobody → ⊥
-
+-- The client that goes next, and its supplier.
 pub record Found (t : List ℤ) (k s : ℕ) : Type 0 where
   pub low : k < nodes
   pub has : supplied t k ≡ true
   pub node : s < nodes
   pub waits : 0 < waiting t k
 
-pub found : (t : List ℤ) (k s : ℕ) → Next t k s → Found t k s
-found t k s n =
+pub found : (t : List ℤ) → Lending t → (k s : ℕ) → Goes t k s → Found t k s
+found t on k s n =
     let first = next-found t (λ e. n .some (n .client ∙ e)) in
+    let low : k < nodes = omega (arith, n .client, first .0) in
     let has : supplied t k ≡ true = rw (n .client) (first .1) in
-    let facts = supplied-facts t k has in
-    record { low = omega (arith, n .client, first .0); has = has; node = omega (arith, n .node, facts .low); waits = facts .waits }
+    let w = lending-level on in
+    let at = supplier-at (w .from) (w .order) (record { table = t; entries = [] }) (w .settled) k low (supplied-facts t k has) in
+    record { low = low; has = has; node = omega (arith, n .node, at .low); waits = supplied-facts t k has .waits }
 
 -- One request less waits.
-falls : (t : List ℤ) → Lending t → (k s : ℕ) → Next t k s → allWaiting (tableAfter t k s) + 1 ≡ allWaiting t
-falls t on k s n = let f = found t k s n in rw (n .node) (lent-falls t on k (f .low) (f .has))
+falls : (t : List ℤ) → Lending t → (k s : ℕ) → Goes t k s → allWaiting (tableAfter t k s) + 1 ≡ allWaiting t
+falls t on k s n = let f = found t on k s n in rw (n .node) (lent-falls t on k (f .low) (f .has))
 
 -- Lending goes on while there is a next client, and then is done.
-lending-again : (st : State) → Lending (st .table) → (k s : ℕ) → Next (st .table) k s → lending st ≡ lending (dispatched st k s)
+lending-again : (st : State) → Lending (st .table) → (k s : ℕ) → Goes (st .table) k s → lending st ≡ lending (dispatched st k s)
 unfolding lending
 lending-again st on k s n =
     let m = allWaiting (dispatched st k s .table) in
@@ -100,13 +99,13 @@ unfolding lent
 lent-idle zero st e = refl
 lent-idle (suc n) st e = lent-done n st e
 
-pub lending-turn : (t : List ℤ) → Lending t → (k s : ℕ) → Next t k s → Turn Lending lending t k s
+pub lending-turn : (t : List ℤ) → Lending t → (k s : ℕ) → Goes t k s → Turn Lending lending t k s
 lending-turn t on k s n =
-    let f = found t k s n in
+    let f = found t on k s n in
     record {
       on = rw (n .node) (lent-one t k on (f .low) (f .has));
       falls = falls t on k s n;
-      again = λ st same. lending-again st (subst Lending same on) k s (subst (λ (u : List ℤ). Next u k s) same n);
+      again = λ st same. lending-again st (subst Lending same on) k s (subst (λ (u : List ℤ). Goes u k s) same n);
     }
 
 pub lending-done : (t : List ℤ) → next t ≡ nobody → (st : State) → t ≡ st .table → lending st ≡ st

@@ -9,6 +9,7 @@ ghost use Rattle.table.specs.Order.{inOrder};
 ghost use Rattle.table.specs.Tick.{ready, servedAll, ticked, listed, allWaiting};
 ghost use Rattle.balances.specs.Within.{Within};
 ghost use Rattle.steps.specs.Steps.{Serving, Lending, Shows, Follows, serving, lending};
+use suppliers::Next;
 use table::Table;
 
 // All waiting requests.
@@ -61,7 +62,7 @@ fn serve_all(table: &mut [i64], list: &mut [i64]) -> usize
     written
 }
 
-// Step 4: again and again the next client's request is dispatched from its supplier, as an entry behind the n that the list has,
+// Step 4: again and again the request that goes next is dispatched from its supplier, as an entry behind the n that the list has,
 // until no request has one. Returns how many the list has then.
 fn lend(table: &mut [i64], list: &mut [i64], n: usize) -> usize
     requires { ⌜ Lending (now table) × (entryLength * n + entryLength * allWaiting (now table) ≤ length (now list)) ⌝ }
@@ -69,12 +70,10 @@ fn lend(table: &mut [i64], list: &mut [i64], n: usize) -> usize
 {
     let mut written = n;
     loop {
-        let k = suppliers::next_client(table);
-        if k == Table::NODES {
+        let Next::Client { client, supplier } = suppliers::next_client(table) else {
             break;
-        }
-        let s = suppliers::supplier_of(table, k);
-        dispatch::dispatch(table, list, written, k, s);
+        };
+        dispatch::dispatch(table, list, written, client, supplier);
         written += 1;
     }
     written

@@ -1,2 +1,3 @@
 mod Way
-mod Next
+mod Choice
+pub mod Answer

@@ -1,6 +1,6 @@
 -- The search for a supplier, one level at a time: it ends at a node with enough balance or at the top, else it goes on at the
--- parent.
-use Prim.Native.Nat.{ℕ, zero, suc, _-_}
+-- parent, one step more above the client.
+use Prim.Native.Nat.{ℕ, zero, suc, _+_, _-_}
 use mathlib.Core.Path.{_≡_, refl}
 use mathlib.Core.Bool.{true, false}
 use mathlib.Core.List.{List}
@@ -8,22 +8,21 @@ use native.Mathlib.Omega.{arith}
 use lib.IntN.{ℤ}
 use Rattle.numbers.proofs.Tests.{cond-true, cond-false}
 use Rattle.table.specs.Tree.{treeOf}
-use Rattle.table.specs.Tick.{nobody, enough, supplierFrom}
+use Rattle.table.specs.declared.Supply.the-variants.{Node, Nobody}
+use Rattle.table.specs.Tick.{enough, supplierFrom}
 
-module _ (t : List ℤ) (amount : ℕ) where
-  pub supplier-here : (l k : ℕ) → enough t amount k ≡ true → supplierFrom t amount l k ≡ k
+module _ (t : List ℤ) (amount steps : ℕ) where
+  pub supplier-here : (l k : ℕ) → enough t amount k ≡ true → supplierFrom t amount steps l k ≡ Node k steps
   unfolding supplierFrom
-  supplier-here zero k h = cond-true (enough t amount k) k nobody h
-  supplier-here (suc l) k h = cond-true (enough t amount k) k (supplierFrom t amount l (treeOf t .parent k)) h
+  supplier-here zero k h = cond-true (enough t amount k) _ _ h
+  supplier-here (suc l) k h = cond-true (enough t amount k) _ _ h
 
-  pub supplier-none : (l k : ℕ) → l ≡ 0 → enough t amount k ≡ false → supplierFrom t amount l k ≡ nobody
+  pub supplier-none : (l k : ℕ) → l ≡ 0 → enough t amount k ≡ false → supplierFrom t amount steps l k ≡ Nobody
   unfolding supplierFrom
-  supplier-none zero k e h = cond-false (enough t amount k) k nobody h
+  supplier-none zero k e h = cond-false (enough t amount k) _ _ h
   supplier-none (suc l) k e h = absurd (omega arith)
 
-  pub supplier-above : (l k : ℕ) → (l ≡ 0 → ⊥) → enough t amount k ≡ false → supplierFrom t amount l k ≡ supplierFrom t amount (l - 1) (treeOf t .parent k)
+  pub supplier-above : (l k : ℕ) → (l ≡ 0 → ⊥) → enough t amount k ≡ false → supplierFrom t amount steps l k ≡ supplierFrom t amount (steps + 1) (l - 1) (treeOf t .parent k)
   unfolding supplierFrom
   supplier-above zero k e h = absurd (e refl)
-  supplier-above (suc l) k e h =
-      let less : suc l - 1 ≡ l = omega arith in
-      rw less (cond-false (enough t amount k) k (supplierFrom t amount l (treeOf t .parent k)) h)
+  supplier-above (suc l) k e h = let less : suc l - 1 ≡ l = omega arith in rw less (cond-false (enough t amount k) _ _ h)

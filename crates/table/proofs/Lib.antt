@@ -10,3 +10,4 @@ pub mod Rates
 pub mod Look
 pub mod Cost
 pub mod Buckets
+pub mod Choice

@@ -7,4 +7,5 @@ pub mod Order
 pub mod Refusals
 pub mod Calls
 pub mod Tick
+pub mod Choice
 pub mod Answers

@@ -1,6 +1,6 @@
 -- Tick, in four steps over the table and the dispatch entries so far. Document 01, "Calls".
 use Prim.Native.Nat.{ℕ, zero, suc, _+_, _*_, _-_, _/_}
-use mathlib.Core.Bool.{Bool, true, false, not, cond, _||_}
+use mathlib.Core.Bool.{Bool, true, false, not, cond, _&&_, _||_}
 use mathlib.Core.List.{List, [], _∷_, _++_}
 use lib.ListN.{length, drop}
 use lib.Dec.{eqb, ltb}
@@ -14,6 +14,8 @@ use Rattle.table.specs.Tree.{treeOf}
 use Rattle.table.specs.Cost.{cost}
 use Rattle.table.specs.Order.{inOrder}
 use Rattle.table.specs.Refusals.{cause, first, Outcome, outcome, kept}
+use Rattle.table.specs.declared.Supply.{Supply}
+use Rattle.table.specs.declared.Supply.the-variants.{Node, Nobody}
 
 -- What a request of this size is charged, in grains: its cost x 1000.
 unfoldable pub grains : ℕ → ℕ
@@ -27,14 +29,35 @@ enough t amount k = leZ (pos amount) (balance t k)
 abbrev pub nobody : ℕ
 nobody = nodes
 
--- The first node with enough balance on the way from node k, at level l, up to the root, both included, or nobody.
-unfoldable pub supplierFrom : List ℤ → ℕ → ℕ → ℕ → ℕ
-supplierFrom t amount zero k = cond (enough t amount k) k nobody
-supplierFrom t amount (suc l) k = cond (enough t amount k) k (supplierFrom t amount l (treeOf t .parent k))
+-- The search for a supplier on the way from node k, at level l and so many steps above the client, up to the root, both
+-- included: it answers the first node with enough balance and the steps.
+unfoldable pub supplierFrom : List ℤ → ℕ → ℕ → ℕ → ℕ → Supply
+supplierFrom t amount steps zero k = cond (enough t amount k) (Node k steps) Nobody
+supplierFrom t amount steps (suc l) k =
+    cond (enough t amount k) (Node k steps) (supplierFrom t amount (steps + 1) l (treeOf t .parent k))
 
--- The supplier of client k's oldest request.
+-- Its answer for client k's oldest request. Steps count from the client: 0 is the client itself.
+unfoldable pub supply : List ℤ → ℕ → Supply
+supply t k = supplierFrom t (grains (size t k 0)) 0 (treeOf t .level k) k
+
+-- Whether there is a supplier, which node it is, and how many steps it is above the client; nobody and 0 where there is none.
+unfoldable pub isFound : Supply → Bool
+isFound (Node node steps) = true
+isFound Nobody = false
+
+unfoldable pub nodeFound : Supply → ℕ
+nodeFound (Node node steps) = node
+nodeFound Nobody = nobody
+
+unfoldable pub stepsFound : Supply → ℕ
+stepsFound (Node node steps) = steps
+stepsFound Nobody = 0
+
 unfoldable pub supplier : List ℤ → ℕ → ℕ
-supplier t k = supplierFrom t (grains (size t k 0)) (treeOf t .level k) k
+supplier t k = nodeFound (supply t k)
+
+unfoldable pub steps : List ℤ → ℕ → ℕ
+steps t k = stepsFound (supply t k)
 
 -- A balance falls by an amount.
 unfoldable pub lower : List ℤ → ℕ → ℕ → List ℤ
@@ -91,18 +114,27 @@ cut t = forBelow nodes (λ k u. cond (leZ (balance u k) (pos (depthGrains u k)))
 
 -- Whether the oldest request of client k has a supplier.
 unfoldable pub supplied : List ℤ → ℕ → Bool
-supplied t k = every (ltb 0 (waiting t k) ∷ ltb (supplier t k) nobody ∷ [])
+supplied t k = every (ltb 0 (waiting t k) ∷ isFound (supply t k) ∷ [])
 
--- Of two clients the one to be dispatched first: k where its oldest request has a supplier and arrived before that of
--- best, or where there is no best.
-unfoldable pub better : List ℤ → ℕ → ℕ → ℕ
-better t k best = cond (every (supplied t k ∷ (eqb best nobody || ltb (arrival t k 0) (arrival t best 0)) ∷ [])) k best
+-- Whether a request with these steps and this arrival number is better than one with those: its supplier is fewer steps above
+-- its client, or as many and its arrival number is lower. Document 02, (c).
+unfoldable pub better : ℕ → ℕ → ℕ → ℕ → Bool
+better steps arrival steps' arrival' = ltb steps steps' || (eqb steps steps' && ltb arrival arrival')
 
--- The client whose oldest request has the lowest arrival number of those that have a supplier, or nobody.
+-- Of client k and the best so far, the one whose oldest request goes first: k where its request has a supplier and is better
+-- than that of best, or there is no best.
+unfoldable pub choice : List ℤ → ℕ → ℕ → ℕ
+choice t k best =
+    cond
+    (every (supplied t k ∷ (eqb best nobody || better (steps t k) (arrival t k 0) (steps t best) (arrival t best 0)) ∷ []))
+    k
+    best
+
+-- The client whose oldest request goes next, or nobody where no request has a supplier.
 unfoldable pub next : List ℤ → ℕ
-next t = forBelow nodes (better t) nobody
+next t = forBelow nodes (choice t) nobody
 
--- Step 4: again and again the next client's request is dispatched, at most n times.
+-- Step 4: again and again the next client's oldest request is dispatched from its supplier, at most n times.
 unfoldable pub lent : ℕ → State → State
 lent zero st = st
 lent (suc n) st = elim (eqb (next (st .table)) nobody) [ true ↦ st | false ↦ lent n (dispatched st (next (st .table)) (supplier (st .table) (next (st .table)))) ]

@@ -82,3 +82,8 @@ onWay tree (suc l) k j = eqb j k || onWay tree l (tree .parent k) j
 -- Whether node j is node k or stands above it.
 unfoldable pub atOrAbove : Tree → ℕ → ℕ → Bool
 atOrAbove tree k j = onWay tree (tree .level k) k j
+
+-- The node so many steps above node k: 0 steps above is k itself.
+unfoldable pub nodeAbove : Tree → ℕ → ℕ → ℕ
+nodeAbove tree zero k = k
+nodeAbove tree (suc n) k = nodeAbove tree n (tree .parent k)

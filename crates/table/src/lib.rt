@@ -55,6 +55,12 @@ pub enum Compared {
     Refused(Refusal),
 }
 
+// What a search for a supplier answers: a node and how many steps it is above the client, or nobody.
+pub enum Supply {
+    Node { node: usize, steps: usize },
+    Nobody,
+}
+
 pub struct Table {}
 
 impl Table {

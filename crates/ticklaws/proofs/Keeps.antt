@@ -9,10 +9,10 @@ use Rattle.table.specs.Limits.{nodes}
 use Rattle.table.specs.Order.{inOrder}
 use Rattle.table.specs.Tick.{nobody, grown, ready, supplied, next, allWaiting, stepTwo, stepThree, ticked}
 use Rattle.table.proofs.Facts.{InOrder, facts, from-facts}
+use Rattle.table.proofs.Choice.{next-none}
 use Rattle.ticklaws.proofs.Reached.{Reached, in-order-again}
 use Rattle.ticklaws.proofs.Grown.{grown-reached}
 use Rattle.ticklaws.proofs.Cut.{cut-reached, cut-under}
-use Rattle.ticklaws.proofs.Next.{next-none}
 use Rattle.ticklaws.proofs.Served.{servedAll-reached, servedAll-suffices}
 use Rattle.ticklaws.proofs.Lent.{Settled, lent-reached, lent-suffices}
 

@@ -4,7 +4,7 @@ use mathlib.Core.Path.{_≡_}
 use mathlib.Core.Bool.{true, false}
 use mathlib.Core.List.{List}
 use native.Mathlib.Omega.{arith}
-use lib.IntN.{ℤ, pos}
+use lib.IntN.{ℤ}
 use Rattle.numbers.specs.Whole.{plus, minus}
 use Rattle.numbers.proofs.Parts.{zarith}
 use Rattle.table.specs.Limits.{nodes}
@@ -15,10 +15,8 @@ use Rattle.table.specs.Tick.{grains, enough, ticked}
 use Rattle.table.proofs.Facts.{InOrder, facts}
 use Rattle.ticklaws.specs.Laws.{TickLaws}
 use Rattle.ticklaws.proofs.Frame.{frame-tree}
-use Rattle.ticklaws.proofs.Way.{ways-of}
 use Rattle.ticklaws.proofs.Next.{not-supplied}
-use Rattle.ticklaws.proofs.Served.{client-at}
-use Rattle.ticklaws.proofs.Keeps.{tick-keeps, ticked-settled, ticked-in-order, none-supplied}
+use Rattle.ticklaws.proofs.Keeps.{tick-keeps, ticked-settled, none-supplied}
 use Rattle.ticklaws.proofs.Entries.{ticked-entries}
 
 -- A balance that is not enough is below the amount.
@@ -29,9 +27,8 @@ too-little t amount j h = omega (arith, zarith)
 none-enough : (t : List ℤ) → InOrder t → (k : ℕ) → k < nodes → 0 < waiting (ticked t .table) k → (j : ℕ) → atOrAbove (treeOf t) k j ≡ true → enough (ticked t .table) (grains (size (ticked t .table) k 0)) j ≡ false
 none-enough t f k hk waits j on =
     let u = ticked t .table in
-    let r = ticked-settled t f .reached in
-    let same = frame-tree t u (r .frame) in
-    not-supplied u (ways-of u (ticked-in-order t f)) k (rw same (client-at t u r k hk waits)) waits (none-supplied t f k hk) j (rw same on)
+    let same = frame-tree t u (ticked-settled t f .reached .frame) in
+    not-supplied u k waits (none-supplied t f k hk) j (rw same on)
 
 pub tick-laws : (t : List ℤ) → inOrder t ≡ true → TickLaws t
 tick-laws t h =

@@ -19,11 +19,12 @@ use Rattle.table.specs.Places.{balance, waiting, size}
 use Rattle.table.specs.Tree.{Tree, treeOf}
 use Rattle.table.specs.Tick.{nobody, State, grains, enough, dispatched, supplier, supplied, next, lent, allWaiting}
 use Rattle.table.proofs.Facts.{InOrder}
+use Rattle.table.proofs.Choice.{next-found, none-next}
 use Rattle.treelaws.proofs.Floors.{children-under, Levels, Room, Under}
 use Rattle.ticklaws.proofs.Frame.{frame-tree}
 use Rattle.ticklaws.proofs.Reached.{Reached}
 use Rattle.ticklaws.proofs.Way.{ways-of, At, above-there}
-use Rattle.ticklaws.proofs.Next.{Supplied, supplied-facts, next-found, none-next}
+use Rattle.ticklaws.proofs.Next.{Supplied, supplied-facts}
 use Rattle.ticklaws.proofs.Dispatch.{Dispatch, dispatch, dispatch-reached, dispatch-under}
 use Rattle.ticklaws.proofs.Served.{client-at}
 
@@ -82,7 +83,7 @@ module _ (t : List ℤ) (f : InOrder t) (st : State) (r : Settled t (st .table))
       record {
         reached =
             dispatch-reached t f st (r .reached) k hk (s .waits) (supplier u k) supplier-at
-            (supplier-room (treeOf t) (ways-of t f .levels) (balance u) (r .under) (grains (size u k 0)) (supplier u k) (s .low) (s .enough));
+            (supplier-room (treeOf t) (ways-of t f .levels) (balance u) (r .under) (grains (size u k 0)) (supplier u k) (supplier-at .low) (s .enough));
         under = dispatch-under (treeOf t) u v k (supplier u k) lent-dispatch (r .under);
       }
 

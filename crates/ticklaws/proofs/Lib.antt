@@ -14,3 +14,4 @@ pub mod Lent
 pub mod Keeps
 pub mod Entries
 pub mod Laws
+pub mod StepFour

@@ -14,7 +14,7 @@ use Rattle.numbers.specs.Whole.{plus}
 use Rattle.numbers.proofs.Tests.{by-test, or-cases, or-true-left, or-true-right}
 use Rattle.numbers.proofs.Parts.{zarith, plus-pos}
 use Rattle.table.specs.Limits.{nodes, root}
-use Rattle.table.specs.Tree.{Tree, treeOf, there, isClass, onWay, atOrAbove}
+use Rattle.table.specs.Tree.{Tree, treeOf, there, isClass, onWay, atOrAbove, nodeAbove}
 use Rattle.table.proofs.Facts.{InOrder}
 use Rattle.treelaws.proofs.Children.{class-there}
 use Rattle.treelaws.proofs.Floors.{Levels, levels, grounds}
@@ -61,6 +61,13 @@ way-top tree k j h = eqb-true j k h
 pub way-cases {ℓ} : {P : Type ℓ} (tree : Tree) (l k j : ℕ) → onWay tree (suc l) k j ≡ true → (j ≡ k → P) → (onWay tree l (tree .parent k) j ≡ true → P) → P
 unfolding onWay
 way-cases tree l k j h first on = ⊎-elim (λ e. first (eqb-true j k e)) on (or-cases (eqb j k) (onWay tree l (tree .parent k) j) h)
+
+-- The nodes above, up to the root, stand on it.
+pub way-above : (tree : Tree) (n l k : ℕ) → n ≤ l → onWay tree l k (nodeAbove tree n k) ≡ true
+unfolding nodeAbove
+way-above tree zero l k h = way-first tree l k
+way-above tree (suc n) zero k h = absurd (omega arith)
+way-above tree (suc n) (suc l) k h = way-up tree l k (nodeAbove tree n (tree .parent k)) (way-above tree n l (tree .parent k) (omega arith))
 
 -- The way of any other node than the first.
 pub way-other : (tree : Tree) (l k j : ℕ) → (j ≡ k → ⊥) → onWay tree (suc l) k j ≡ onWay tree l (tree .parent k) j

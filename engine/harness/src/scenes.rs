@@ -1,6 +1,6 @@
 //! Lists of steps with known numbers: the edges of document 01 with the costs of document 02's request (a), every end of
-//! the ranges of cost, the grains nobody gets before and after every change, every call at wrong lengths and at every
-//! limit, a plan cut short, lengthened and changed byte by byte, and a table damaged in every clause of "in order". Each
+//! the ranges of cost, the grains nobody gets before and after every change, what step 4 picks, every call at wrong
+//! lengths and at every limit, a plan cut short, lengthened and changed byte by byte, and a table damaged in every clause of "in order". Each
 //! begins with two zeroed tables.
 
 use hds_engine::cost::{cost, largest_size, RANGE_ENDS};
@@ -8,7 +8,7 @@ use hds_engine::damage;
 use hds_engine::order::CLAUSES;
 use hds_engine::plan::Plan;
 use hds_engine::random::{run, Profile, Rng};
-use hds_engine::steps::{Call, Step, World};
+use hds_engine::steps::{Call, Reply, Step, World};
 use hds_engine::table::*;
 use hds_engine::{Engine, NewNode};
 
@@ -25,6 +25,8 @@ pub fn all() -> Vec<Scene> {
     }
     scenes.extend(costs());
     scenes.extend(lost_grains());
+    scenes.extend(families());
+    scenes.extend(supplies());
     scenes.extend(lengths());
     scenes.extend(limits());
     scenes.extend(plans());
@@ -526,6 +528,314 @@ fn lost_grains() -> Vec<Scene> {
             (format!("lost grains, {name}"), steps.into_iter().flat_map(looked_at).collect())
         })
         .collect()
+}
+
+/// A tree with balances, what its clients ask for, and the list of the tick that follows, worked by hand.
+///
+/// All balances are in tokens, as steps 2 to 4 find them: the root's rate is 1 grain, which it lacks before, and the others
+/// have none. A node is a class if it is a parent here. Requests are client and size, and their tags are their arrival
+/// numbers. The list is client, arrival number, size and supplier. A size of 1 costs 8, 8 costs 12, 12 costs 16, 20 costs
+/// 24. Steps are those of the supplier above the client.
+struct Family {
+    name: &'static str,
+    root: i64,
+    nodes: &'static [(i64, i64, i64)],
+    requests: &'static [(i64, i64)],
+    list: &'static [[i64; 4]],
+}
+
+/// Client 2 in class 1, which has 8, and client 5 in class 4, which has nothing.
+const FAMILY_AND_STRANGER: &[(i64, i64, i64)] = &[(1, 0, 8), (2, 1, 0), (4, 0, 0), (5, 4, 0)];
+
+/// Clients 2 and 3 in class 1, which has 8, and client 5 in class 4, which has nothing.
+const TWO_AND_STRANGER: &[(i64, i64, i64)] =
+    &[(1, 0, 8), (2, 1, 0), (3, 1, 0), (4, 0, 0), (5, 4, 0)];
+
+/// Client 2 in class 1, which has 8, and client 5 under the root.
+const FAMILY_AND_CHILD_OF_ROOT: &[(i64, i64, i64)] = &[(1, 0, 8), (2, 1, 0), (5, 0, 0)];
+
+/// Classes 1 and 2 with 8 each, client 8 in class 1 and client 9 in class 2.
+const TWO_FAMILIES: &[(i64, i64, i64)] = &[(1, 0, 8), (8, 1, 0), (2, 0, 8), (9, 2, 0)];
+
+/// The same with the clients exchanged.
+const TWO_FAMILIES_CROSSED: &[(i64, i64, i64)] = &[(1, 0, 8), (9, 1, 0), (2, 0, 8), (8, 2, 0)];
+
+/// Five clients on level 4, each in three classes of its own: client 14 has 8 and class 13 has 16, and classes 23, 32 and
+/// 41 have 8.
+const FIVE_BRANCHES: &[(i64, i64, i64)] = &[
+    (11, 0, 0),
+    (12, 11, 0),
+    (13, 12, 16),
+    (14, 13, 8),
+    (21, 0, 0),
+    (22, 21, 0),
+    (23, 22, 8),
+    (24, 23, 0),
+    (31, 0, 0),
+    (32, 31, 8),
+    (33, 32, 0),
+    (34, 33, 0),
+    (41, 0, 8),
+    (42, 41, 0),
+    (43, 42, 0),
+    (44, 43, 0),
+    (51, 0, 0),
+    (52, 51, 0),
+    (53, 52, 0),
+    (54, 53, 0),
+];
+
+const FAMILIES: [Family; 22] = [
+    // Client 2 has class 1 at 1 step, client 5 the root at 2. Class 1 pays and with it the root, which has 0 then.
+    Family {
+        name: "the family before an earlier stranger",
+        root: 8,
+        nodes: FAMILY_AND_STRANGER,
+        requests: &[(5, 1), (2, 1)],
+        list: &[[2, 2, 1, 1]],
+    },
+    // The root has 8 left.
+    Family {
+        name: "the stranger after the family",
+        root: 16,
+        nodes: FAMILY_AND_STRANGER,
+        requests: &[(5, 1), (2, 1)],
+        list: &[[2, 2, 1, 1], [5, 1, 1, 0]],
+    },
+    // The root has 7 left.
+    Family {
+        name: "a token too little for the stranger",
+        root: 15,
+        nodes: FAMILY_AND_STRANGER,
+        requests: &[(5, 1), (2, 1)],
+        list: &[[2, 2, 1, 1]],
+    },
+    // Class 1 has 8 and the root falls to -8.
+    Family {
+        name: "a family with an empty root",
+        root: 0,
+        nodes: FAMILY_AND_STRANGER,
+        requests: &[(5, 1), (2, 1)],
+        list: &[[2, 2, 1, 1]],
+    },
+    // Client 5 has class 4 at 1 step, client 2 the root at 2.
+    Family {
+        name: "a stranger of lower numbers",
+        root: 8,
+        nodes: &[(1, 0, 0), (2, 1, 0), (4, 0, 8), (5, 4, 0)],
+        requests: &[(2, 1), (5, 1)],
+        list: &[[5, 2, 1, 4]],
+    },
+    // Both have 1 step. The root pays 8 of 8, and falls to -8 by what class 1 pays.
+    Family {
+        name: "a child of the root before a family",
+        root: 8,
+        nodes: FAMILY_AND_CHILD_OF_ROOT,
+        requests: &[(5, 1), (2, 1)],
+        list: &[[5, 1, 1, 0], [2, 2, 1, 1]],
+    },
+    // Both have 1 step. Class 1 pays and with it the root, which has 0 then.
+    Family {
+        name: "a child of the root after a family",
+        root: 8,
+        nodes: FAMILY_AND_CHILD_OF_ROOT,
+        requests: &[(2, 1), (5, 1)],
+        list: &[[2, 1, 1, 1]],
+    },
+    // All of these have 1 step, so they go by arrival.
+    Family {
+        name: "two families, 8 first",
+        root: 16,
+        nodes: TWO_FAMILIES,
+        requests: &[(8, 1), (9, 1)],
+        list: &[[8, 1, 1, 1], [9, 2, 1, 2]],
+    },
+    Family {
+        name: "two families, 9 first",
+        root: 16,
+        nodes: TWO_FAMILIES,
+        requests: &[(9, 1), (8, 1)],
+        list: &[[9, 1, 1, 2], [8, 2, 1, 1]],
+    },
+    Family {
+        name: "two families crossed, 8 first",
+        root: 16,
+        nodes: TWO_FAMILIES_CROSSED,
+        requests: &[(8, 1), (9, 1)],
+        list: &[[8, 1, 1, 2], [9, 2, 1, 1]],
+    },
+    Family {
+        name: "two families crossed, 9 first",
+        root: 16,
+        nodes: TWO_FAMILIES_CROSSED,
+        requests: &[(9, 1), (8, 1)],
+        list: &[[9, 1, 1, 1], [8, 2, 1, 2]],
+    },
+    // Both have 1 step, and class 1 pays 16 for the earlier one. Then client 2 has its own 8, at 0 steps.
+    Family {
+        name: "a client that pays itself before a class",
+        root: 40,
+        nodes: &[(1, 0, 16), (2, 1, 8), (4, 0, 8), (3, 4, 0)],
+        requests: &[(2, 12), (3, 1), (2, 1)],
+        list: &[[2, 1, 12, 1], [2, 3, 1, 2], [3, 2, 1, 4]],
+    },
+    // Class 1 pays 16 of 24, and 8 with client 2, which pays itself. So client 3 has the root, with 40 - 24.
+    Family {
+        name: "a client that pays itself empties its class",
+        root: 40,
+        nodes: &[(1, 0, 24), (2, 1, 8), (3, 1, 0)],
+        requests: &[(2, 12), (3, 1), (2, 1)],
+        list: &[[2, 1, 12, 1], [2, 3, 1, 2], [3, 2, 1, 0]],
+    },
+    // Class 1 pays for client 2 and is empty. Then clients 3 and 5 have the root at 2 steps, and client 5 is earlier.
+    Family {
+        name: "steps rise",
+        root: 24,
+        nodes: TWO_AND_STRANGER,
+        requests: &[(2, 1), (5, 1), (3, 1)],
+        list: &[[2, 1, 1, 1], [5, 2, 1, 0], [3, 3, 1, 0]],
+    },
+    // The same with a root that has 8 left after client 2.
+    Family {
+        name: "steps rise, and one waits",
+        root: 16,
+        nodes: TWO_AND_STRANGER,
+        requests: &[(2, 1), (5, 1), (3, 1)],
+        list: &[[2, 1, 1, 1], [5, 2, 1, 0]],
+    },
+    // Class 2 pays 16 and with it class 1, which is empty. Then client 4 has the root at 2 steps, behind client 5.
+    Family {
+        name: "steps rise by what is paid further down",
+        root: 32,
+        nodes: &[(1, 0, 16), (2, 1, 16), (3, 2, 0), (4, 1, 0), (6, 0, 0), (5, 6, 0)],
+        requests: &[(3, 12), (5, 1), (4, 1)],
+        list: &[[3, 1, 12, 2], [5, 2, 1, 0], [4, 3, 1, 0]],
+    },
+    // Client 4 has class 3 at 1 step for 8, then class 1 at 3 steps for 16. Client 8 has class 6 at 2 steps twice.
+    Family {
+        name: "steps rise with the next request",
+        root: 40,
+        nodes: &[(1, 0, 24), (2, 1, 0), (3, 2, 8), (4, 3, 0), (6, 0, 24), (5, 6, 0), (8, 5, 0)],
+        requests: &[(4, 1), (8, 1), (4, 12), (8, 1)],
+        list: &[[4, 1, 1, 3], [8, 2, 1, 6], [8, 4, 1, 6], [4, 3, 12, 1]],
+    },
+    // Clients 54, 44, 34 and 24 have the root and classes 41, 32 and 23 at 4, 3, 2 and 1 steps. Client 14 has class 13 at 1
+    // step for 16, then itself for 8. The root pays 56 in all.
+    Family {
+        name: "0 to 4 steps",
+        root: 56,
+        nodes: FIVE_BRANCHES,
+        requests: &[(54, 1), (44, 1), (34, 1), (24, 1), (14, 12), (14, 1)],
+        list: &[
+            [24, 4, 1, 23],
+            [14, 5, 12, 13],
+            [14, 6, 1, 14],
+            [34, 3, 1, 32],
+            [44, 2, 1, 41],
+            [54, 1, 1, 0],
+        ],
+    },
+    // Client 5 has the root at 1 step, and client 4 has class 1 at 3.
+    Family {
+        name: "steps from clients on two levels",
+        root: 8,
+        nodes: &[(1, 0, 8), (2, 1, 0), (3, 2, 0), (4, 3, 0), (5, 0, 0)],
+        requests: &[(4, 1), (5, 1)],
+        list: &[[5, 2, 1, 0], [4, 1, 1, 1]],
+    },
+    // Client 2 has its own 8 for its second request, but the first has the root at 2 steps, for 16. Client 5 has 1 step.
+    Family {
+        name: "a small one behind a large one",
+        root: 24,
+        nodes: &[(1, 0, 0), (2, 1, 8), (4, 0, 8), (5, 4, 0)],
+        requests: &[(2, 12), (2, 1), (5, 1)],
+        list: &[[5, 3, 1, 4], [2, 1, 12, 0], [2, 2, 1, 2]],
+    },
+    // All have 1 step, so the two classes take turns by arrival.
+    Family {
+        name: "families in turn",
+        root: 32,
+        nodes: &[(1, 0, 16), (11, 1, 0), (13, 1, 0), (2, 0, 16), (12, 2, 0)],
+        requests: &[(11, 1), (12, 1), (13, 1), (12, 1)],
+        list: &[[11, 1, 1, 1], [12, 2, 1, 2], [13, 3, 1, 1], [12, 4, 1, 2]],
+    },
+    // Class 1 pays 16 of 20, and class 4 pays 8 of 9. Then all have the root at 2 steps, which has 20: 12 and 8 go.
+    Family {
+        name: "the rest by arrival, until nobody has enough",
+        root: 44,
+        nodes: &[(1, 0, 20), (2, 1, 0), (3, 1, 7), (4, 0, 9), (5, 4, 0), (6, 4, 0)],
+        requests: &[(2, 12), (5, 8), (3, 1), (6, 1), (2, 1), (5, 1), (3, 1)],
+        list: &[[2, 1, 12, 1], [6, 4, 1, 4], [5, 2, 8, 0], [3, 3, 1, 0]],
+    },
+];
+
+impl Family {
+    /// The tree, its balances, the requests and a tick.
+    fn steps(&self) -> Vec<Step> {
+        let mut steps = vec![open(1, 20_000), poke(ROOT, BALANCE, 1000 * self.root - 1)];
+        let parent_of = |node: i64| self.nodes.iter().find(|new| new.0 == node).map(|new| new.1);
+        for &(node, parent, tokens) in self.nodes {
+            let levels = std::iter::successors(Some(parent), |&node| parent_of(node)).count();
+            steps.push(match self.nodes.iter().any(|&(_, parent, _)| parent == node) {
+                true => class(node, parent, FIXED, 1, [2000, 500, 100][levels - 1]),
+                false => client(node, parent, FIXED, 1, 24),
+            });
+            steps.push(poke(node as usize, BALANCE, 1000 * tokens));
+        }
+        let requests = (1..).zip(self.requests);
+        steps.extend(requests.map(|(arrival, &(client, size))| request(client, arrival, size)));
+        steps.push(tick(4 * self.requests.len()));
+        steps
+    }
+
+    /// Sees that the second engine gives the list.
+    fn check(&self) {
+        let mut world = World::default();
+        let mut reply = None;
+        for step in self.steps() {
+            reply = world.run(&mut Engine, &step);
+        }
+        let list = self.list.concat();
+        assert_eq!(reply, Some(Reply::Number(self.list.len() as i64)), "{}", self.name);
+        assert_eq!(world.list.inner()[..list.len()], list, "{}", self.name);
+    }
+}
+
+/// What step 4 picks, with lists worked by hand; then all nodes are looked at, and the rest goes from a faster disk.
+fn families() -> Vec<Scene> {
+    FAMILIES
+        .iter()
+        .map(|family| {
+            family.check();
+            let rest = [&look_everywhere()[..], &[change_rate(9000)], &ticks(5, 32)].concat();
+            (format!("families, {}", family.name), [family.steps(), rest].concat())
+        })
+        .collect()
+}
+
+/// 63 nodes on all levels, every queue full, and each class with enough for all, for some or for one; the disk gives next
+/// to nothing at the first tick, and more at the next ones.
+fn supplies() -> Vec<Scene> {
+    let tree = trees::large(1);
+    let clients = trees::clients(&tree);
+    let classes: Vec<usize> = hds_engine::table::classes(&tree).collect();
+    let mut scenes = Vec::new();
+    for tokens in [8, 30, 200, 1000, 10_000] {
+        let mut steps = vec![plan_read(&Plan::of_table(&tree).encode())];
+        steps.extend(classes.iter().map(|&class| poke(class, BALANCE, 1000 * tokens)));
+        for turn in 0..QUEUE_LEN as i64 {
+            for &client in &clients {
+                let size = 1 + (7 * client + 11 * turn) % 20;
+                steps.push(request(client, 100 * client + turn, size));
+            }
+        }
+        for rate in [1, 1_000_000, 10_000_000, MAX_RATE] {
+            steps.extend([change_rate(rate), tick(4 * QUEUE_LEN * clients.len())]);
+        }
+        steps.extend(look_everywhere());
+        scenes.push((format!("families, 63 nodes, {tokens} tokens in each class"), steps));
+    }
+    scenes
 }
 
 /// A table with a tree and requests that wait, two of which cost their clients' depth.

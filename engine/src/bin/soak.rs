@@ -1,5 +1,5 @@
 //! Runs the engine against itself on wild runs, and under the judge on clean
-//! ones: `soak [first seed] [runs] [steps in a run]`.
+//! ones and on those of families: `soak [first seed] [runs] [steps in a run]`.
 
 use std::process::ExitCode;
 
@@ -18,10 +18,12 @@ fn main() -> ExitCode {
             println!("{difference}");
             return ExitCode::FAILURE;
         }
-        let clean = random::run(seed, length, Profile::Clean);
-        if let Some(violation) = judge::watch(&mut Engine, &clean).first() {
-            println!("seed {seed}: {violation}");
-            return ExitCode::FAILURE;
+        for profile in [Profile::Clean, Profile::Family] {
+            let steps = random::run(seed, length, profile);
+            if let Some(violation) = judge::watch(&mut Engine, &steps).first() {
+                println!("seed {seed}, {profile:?}: {violation}");
+                return ExitCode::FAILURE;
+            }
         }
     }
     println!("{runs} runs of {length} steps: no difference, no violation");

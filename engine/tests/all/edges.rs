@@ -105,8 +105,9 @@ fn the_root_supplies_one_that_asks_alone() {
 
 #[test]
 fn the_earlier_request_gets_the_roots_balance() {
-    // 6 empties the root at the eighth tick, when both clients have 4000. Eight
-    // ticks later 5 has 8000 of its own, and the root has 8000 too.
+    // The root is 1 step above both, so the earlier one, 6, empties it at the eighth
+    // tick, when both clients have 4000. Eight ticks later 5 has 8000 of its own, and
+    // the root has 8000 too.
     let mut disk = two_equal_clients(1000);
     disk.request(6, 66, 1).unwrap();
     disk.request(5, 55, 1).unwrap();

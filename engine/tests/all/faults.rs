@@ -2,7 +2,7 @@
 
 use crate::support::*;
 use hds_engine::differential::{differential, differential_runs, first_difference};
-use hds_engine::faulty::{Fault, Faulty, FAULTS};
+use hds_engine::faulty::{Fault, Faulty, Pick, FAULTS};
 use hds_engine::judge::{watch, Promise, Violation};
 use hds_engine::order::CLAUSES;
 use hds_engine::random::{run, Profile};
@@ -11,7 +11,7 @@ use hds_engine::table::*;
 use hds_engine::{Controller, Engine};
 
 /// Faults that the judge must object to, with the promise that is broken.
-pub const LOUD: [(Fault, Promise); 26] = [
+pub const LOUD: [(Fault, Promise); 27] = [
     (Fault::CutsFirst, Promise::Client),
     (Fault::ChargesClient, Promise::Client),
     (Fault::SparesRoot, Promise::Disk),
@@ -39,6 +39,8 @@ pub const LOUD: [(Fault, Promise); 26] = [
     (Fault::ListsCost, Promise::Disk),
     (Fault::RefusesBySize, Promise::Client),
     (Fault::CostWraps, Promise::Client),
+    // Balances are cut before a client pays itself.
+    (Fault::WrongPick(Pick::WithoutStepTwo), Promise::Client),
 ];
 
 /// A list of calls that brings a fault out.
@@ -189,6 +191,19 @@ fn the_differential_finds_every_fault() {
 }
 
 #[test]
+fn few_runs_tell_every_wrong_pick_by_a_tick() {
+    for fault in FAULTS.into_iter().filter(|fault| matches!(fault, Fault::WrongPick(_))) {
+        let found = (0..3).find_map(|seed| {
+            let mut steps = run(seed, 400, Profile::Family);
+            let mut faulty = Faulty::new(fault);
+            let (position, _) = first_difference(&mut Engine, &mut faulty, &steps)?;
+            Some(steps.swap_remove(position))
+        });
+        assert!(matches!(found, Some(Step::Call(Call::Tick { .. }))), "{fault:?}: {found:?}");
+    }
+}
+
+#[test]
 fn every_loud_fault_differs_in_its_scenario() {
     for (fault, _) in LOUD {
         let steps = scenario(fault);
@@ -236,7 +251,9 @@ fn is_found(fault: Fault, profile: Profile, seeds: u64) -> bool {
 #[test]
 fn without_a_fault_there_is_no_difference() {
     let faultless = &mut Faulty::new(Fault::None);
-    for (profile, seeds) in [(Profile::Clean, 0..40), (Profile::Wild, 0..20)] {
+    for (profile, seeds) in
+        [(Profile::Clean, 0..40), (Profile::Family, 0..20), (Profile::Wild, 0..20)]
+    {
         if let Err(difference) = differential_runs(&mut Engine, faultless, seeds, 400, profile) {
             panic!("{difference}");
         }

@@ -371,9 +371,39 @@ fn counting_sizes_misses_a_broken_promise() {
 
 #[test]
 fn the_judge_is_quiet_on_the_engine() {
-    for seed in 0..120 {
-        let steps = run(seed, 400, Profile::Clean);
-        assert_eq!(watch(&mut Engine, &steps), [], "seed {seed}");
+    for (seeds, profile) in [(0..120, Profile::Clean), (0..60, Profile::Family)] {
+        for seed in seeds {
+            let steps = run(seed, 400, profile);
+            assert_eq!(watch(&mut Engine, &steps), [], "seed {seed}");
+        }
+    }
+}
+
+#[test]
+fn the_judge_is_quiet_where_a_family_takes_all_spare() {
+    // Classes 1 and 4 get 16 of 32 tokens at each tick. Client 5 has all of class 4's
+    // rate and takes it in step 2; the root has 16 left. Clients 2 and 3 have next to no
+    // rate, and class 1 pays 8 for each. Client 6 in class 4 has no rate: it asks first,
+    // has the root at 2 steps, and waits all the time.
+    let mut calls = vec![open(32_000, 400)];
+    calls.extend([1, 4].map(|node| Call::Join(class(node, 0, FIXED, 5000, 200))));
+    calls.extend([2, 3].map(|node| Call::Join(client(node, 1, FIXED, 1, 20))));
+    calls.push(Call::Join(client(5, 4, FIXED, 10_000, 20)));
+    calls.push(Call::Join(client(6, 4, WEIGHTED, 1, 20)));
+    calls.push(request(6, 1));
+    for _ in 0..40 {
+        calls.extend([request(5, 12), request(2, 1), request(3, 1), tick()]);
+    }
+    let steps = steps(&calls);
+    assert_eq!(watch(&mut Engine, &steps), []);
+    let mut world = World::default();
+    for step in &steps {
+        world.run(&mut Engine, step);
+        if matches!(step, Step::Call(Call::Tick { .. })) {
+            let list = entries(world.list.inner(), 3);
+            assert_eq!(list, [[5, 7, 12, 5], [2, 7, 1, 1], [3, 7, 1, 1]]);
+            assert_eq!(waiting_in_all(world.table.inner()), 1);
+        }
     }
 }
 

@@ -2,9 +2,11 @@
 
 mod costs;
 mod edges;
+mod family;
 mod faults;
 mod judging;
 mod lost_grains;
+mod observer;
 mod ordering;
 mod plan_files;
 mod refusals;

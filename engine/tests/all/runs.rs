@@ -27,18 +27,18 @@ fn two_hundred_thousand_calls_against_itself() {
 fn refusals_leave_all_and_accepted_calls_leave_order() {
     // A panic of the watched engine is a difference too.
     let watched = &mut Watched(Engine);
-    if let Err(difference) = differential_runs(watched, &mut Engine, 500..540, 500, Profile::Wild) {
-        panic!("{difference}");
-    }
-    if let Err(difference) = differential_runs(watched, &mut Engine, 540..580, 500, Profile::Clean)
+    for (seeds, profile) in
+        [(500..540, Profile::Wild), (540..580, Profile::Clean), (580..600, Profile::Family)]
     {
-        panic!("{difference}");
+        if let Err(difference) = differential_runs(watched, &mut Engine, seeds, 500, profile) {
+            panic!("{difference}");
+        }
     }
 }
 
 #[test]
 fn runs_are_made_by_the_seed_alone() {
-    for profile in [Profile::Clean, Profile::Wild] {
+    for profile in [Profile::Clean, Profile::Family, Profile::Wild] {
         assert_eq!(run(7, 300, profile), run(7, 300, profile));
         assert_ne!(run(7, 300, profile), run(8, 300, profile));
     }

@@ -61,13 +61,9 @@ impl Disk {
         self.engine.tick(&mut self.table, list)
     }
 
-    /// A tick with a list of just the needed length; gives the dispatches and
-    /// sees that the list beyond them stays untouched.
+    /// A tick with a list of just the needed length; gives the dispatches.
     pub fn tick(&mut self) -> Vec<Entry> {
-        let mut list = vec![-77; 4 * waiting_in_all(&self.table)];
-        let count = self.tick_with(&mut list).unwrap() as usize;
-        assert!(list[4 * count..].iter().all(|&number| number == -77));
-        list[..4 * count].chunks(4).map(|entry| entry.try_into().unwrap()).collect()
+        dispatches(&mut self.engine, &mut self.table)
     }
 
     pub fn rate(&mut self, node: i64) -> i64 {
@@ -87,6 +83,20 @@ impl Disk {
     pub fn poke(&mut self, node: usize, place: usize, value: i64) {
         self.table[at(node, place)] = value;
     }
+}
+
+/// A controller's tick with a list of just the needed length; gives the dispatches
+/// and sees that the list beyond them stays untouched.
+pub fn dispatches(controller: &mut dyn Controller, table: &mut [i64]) -> Vec<Entry> {
+    let mut list = vec![-77; 4 * waiting_in_all(table)];
+    let count = controller.tick(table, &mut list).unwrap() as usize;
+    assert!(list[4 * count..].iter().all(|&number| number == -77));
+    entries(&list, count)
+}
+
+/// The first entries of a list.
+pub fn entries(list: &[i64], count: usize) -> Vec<Entry> {
+    list.chunks(4).take(count).map(|entry| entry.try_into().unwrap()).collect()
 }
 
 pub fn class(node: i64, parent: i64, kind: i64, share: i64, depth: i64) -> NewNode {

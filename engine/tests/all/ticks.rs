@@ -86,7 +86,8 @@ fn step_four_passes_over_a_request_without_supplier() {
 }
 
 #[test]
-fn step_four_goes_by_arrival_anew_after_each_dispatch() {
+fn among_equal_steps_step_four_goes_by_arrival() {
+    // The root is 1 step above both clients.
     let mut disk = Disk::open(40_000, 40);
     disk.join(client(1, 0, FIXED, 1, 20)).unwrap();
     disk.join(client(2, 0, FIXED, 1, 20)).unwrap();

@@ -5,7 +5,9 @@ use std::hint::black_box;
 use std::time::Instant;
 
 use harness::{trees, Cabinet};
-use hds_engine::table::{at, get, waiting_in_all, BALANCE, CLIENT, DEPTH, NODES, ROOT, WEIGHTED};
+use hds_engine::table::{
+    at, classes, get, waiting_in_all, BALANCE, CLIENT, DEPTH, NODES, PARENT, ROOT, WEIGHTED,
+};
 use hds_engine::{Controller, Engine, NewNode};
 
 /// Copies of a table that are used in turn within a round; they fit into the second cache together.
@@ -50,6 +52,7 @@ fn cases() -> Vec<Case> {
                 ("none may go", 300, empty as fn(&mut [i64])),
                 ("all go", 1, full as fn(&mut [i64])),
                 ("the root supplies all", 1, root_only as fn(&mut [i64])),
+                ("each class supplies its own", 1, classes_only as fn(&mut [i64])),
             ] {
                 let mut table = table.clone();
                 if size == 300 {
@@ -83,12 +86,22 @@ fn check(what: &str, table: &[i64]) {
     let mut list = vec![-1; 4 * waiting];
     let gone = Engine.tick(&mut table.to_vec(), &mut list).expect("a tick") as usize;
     let from_root = list.chunks(4).filter(|entry| entry[3] == 0).count();
+    let from_class = list.chunks(4).take(gone).filter(|entry| is_parent(table, entry)).count();
     let right = match what {
         "none may go" => gone == 0,
         "all go" => gone == waiting && from_root == 0,
+        "each class supplies its own" => from_class == waiting,
         _ => from_root == waiting,
     };
-    assert!(right, "{what}: {gone} of {waiting}, {from_root} from the root");
+    assert!(
+        right,
+        "{what}: {gone} of {waiting}, {from_root} from the root, {from_class} from the class"
+    );
+}
+
+/// Whether the supplier of an entry is the parent of its client.
+fn is_parent(table: &[i64], entry: &[i64]) -> bool {
+    get(table, entry[0] as usize, PARENT) == entry[3]
 }
 
 fn look_at(node: i64) -> Call {
@@ -131,6 +144,15 @@ fn full(table: &mut [i64]) {
 fn root_only(table: &mut [i64]) {
     assert!(Engine.change_rate(table, 1).is_ok());
     table[at(ROOT, BALANCE)] = 1000 * get(table, ROOT, DEPTH);
+}
+
+/// Every class's balance at its depth, and rates that give the clients too little.
+fn classes_only(table: &mut [i64]) {
+    assert!(Engine.change_rate(table, 1).is_ok());
+    let classes: Vec<usize> = classes(table).collect();
+    for class in classes {
+        table[at(class, BALANCE)] = 1000 * get(table, class, DEPTH);
+    }
 }
 
 /// Arrival numbers up to a million apart.

@@ -1,7 +1,7 @@
 //! The second engine and the archive, call by call: after each call the answers, all lent buffers and the guards around
-//! them are compared. `differential [random calls] [first seed]`. Clean runs of the archive stand before demand 3's judge
-//! too, and each faulty engine must be told from the archive. The last line counts scenes, runs, judged runs and faulty
-//! engines.
+//! them are compared. `differential [random calls] [first seed]`. Clean runs of the archive and those of families stand
+//! before demand 3's judge too, and each faulty engine must be told from the archive. The last line counts scenes, runs,
+//! judged runs and faulty engines.
 
 use std::process::ExitCode;
 use std::time::Instant;
@@ -35,9 +35,7 @@ fn main() -> ExitCode {
         Ok(Counts { scenes, runs, calls, judged, faults }) => {
             println!("{calls} calls in {:.0} s", began.elapsed().as_secs_f64());
             println!("{scenes} scenes and {runs} random runs without a difference");
-            println!(
-                "{judged} clean runs without a broken promise, {faults} faulty engines told apart"
-            );
+            println!("{judged} runs without a broken promise, {faults} faulty engines told apart");
             println!("{} passed, 0 failed", scenes + runs + judged + faults);
             ExitCode::SUCCESS
         }
@@ -58,10 +56,10 @@ fn compare(most: usize, first: u64) -> Result<Counts, String> {
     let mut seed = first;
     let mut random = 0;
     while random < most {
-        for profile in [Profile::Wild, Profile::Clean] {
+        for profile in [Profile::Wild, Profile::Clean, Profile::Family] {
             let steps = run(seed, LENGTH, profile);
             compared(seed, &steps).map_err(|difference| difference.to_string())?;
-            if profile == Profile::Clean {
+            if profile != Profile::Wild {
                 if let Some(violation) = judge::watch(&mut Cabinet, &steps).first() {
                     return Err(format!("seed {seed}: {violation}"));
                 }
@@ -84,8 +82,10 @@ fn compare(most: usize, first: u64) -> Result<Counts, String> {
 
 /// Whether some run shows a difference between a faulty engine and the archive.
 fn told_apart(fault: Fault) -> bool {
-    (1..200).any(|seed| {
-        let steps = run(seed, LENGTH, Profile::Wild);
+    let profiles = [Profile::Wild, Profile::Family];
+    let mut kinds = (1..200).flat_map(|seed| profiles.map(|profile| (seed, profile)));
+    kinds.any(|(seed, profile)| {
+        let steps = run(seed, LENGTH, profile);
         first_difference(&mut Faulty::new(fault), &mut Cabinet, &steps).is_some()
     })
 }
