@@ -99,6 +99,7 @@ int main(void)
     answer("request at suite 1", hds_request(TABLE, 1, 101, 1));
     answer("request too large", hds_request(TABLE, 2, 202, 13));
     answer("tick, short list", hds_tick(TABLE, list, 11));
+    /* The disk is one step above the backup and two above stream 2, so 401 goes before 201. */
     for (int i = 0; i < 4; i++)
         tick();
     for (int64_t node = 0; node <= 4; node++)

@@ -163,12 +163,11 @@ static int64_t credit_for_tick(int64_t offer, int64_t left)
 
 /*
  * Every stream asks until its credit is used or its queue is full. Among
- * streams as far from their supplier, what is spare goes by arrival number, so
- * the order of asking counts. The streams ask
- * in turn, one request each, again and again: no stream's requests all arrive
- * before the others'. They do so in rising number before one tick and in
- * falling number before the next: of any two streams, each is first as often
- * as the other.
+ * requests as many steps below their supplier, what is spare goes by arrival
+ * number, so the order of asking counts. The streams ask in turn, one request
+ * each, again and again: no stream's requests all arrive before the others'.
+ * They do so in rising number before one tick and in falling number before the
+ * next: of any two streams, each is first as often as the other.
  */
 static void ask_in_turn(int64_t credit[NODES], bool rising)
 {

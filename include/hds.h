@@ -63,7 +63,9 @@ extern "C" {
  * The version of this header and of the archives that come with it. The first number rises when what a call takes,
  * answers or writes, or what a table holds, changes; the second when something is added. Nothing compares them at run
  * time. From 2 to 3: hds_look writes four numbers, before it wrote three; compile everything that calls it again.
- * From 3 to 4: hds_tick lends first where the supplier is the fewest steps above the client; it lent by arrival alone.
+ * From 3 to 4: of the requests that borrow, hds_tick takes the one whose supplier is the fewest levels above its client,
+ * of several the one that arrived first; before, the one that arrived first. Nothing else changed: link the new
+ * archives, and work out again the lists that your tests expect.
  *
  * A stored table is one of this version where it was stored by version HDS_OLDEST_TABLE_VERSION to HDS_VERSION_MAJOR.
  */
@@ -143,7 +145,7 @@ extern "C" {
 #define HDS_ENTRY_CLIENT 0
 #define HDS_ENTRY_TAG 1
 #define HDS_ENTRY_SIZE 2
-#define HDS_ENTRY_SUPPLIER 3
+#define HDS_ENTRY_SUPPLIER 3 /* who paid: the client itself or a class above it */
 
 /*
  * What look shows. Lost grains are those of a class's rate that none of its children gets, in grains per tick; they can
@@ -311,9 +313,11 @@ int64_t hds_change_rate(int64_t *table, size_t table_length, int64_t rate);
 int64_t hds_request(int64_t *table, size_t table_length, int64_t client, int64_t tag, int64_t size);
 
 /*
- * One tick: balances grow, and waiting requests go as far as balances allow: first each client's from its own balance,
- * then those that borrow, the fewest steps up to the supplier first and then by arrival. Answers how many were
- * dispatched; the list gets HDS_ENTRY_LENGTH numbers for each, and stays untouched beyond them. Refused:
+ * One tick. Balances grow. Each client, by rising number, sends its oldest requests as far as its own balance pays.
+ * Balances are cut to the depths. Then the oldest requests borrow, one at a time: the supplier of a request is the
+ * first node with enough from the client upwards; the request whose supplier is the fewest levels up goes, of several
+ * the one that arrived first; then all are looked at again. Answers how many were dispatched; the list gets
+ * HDS_ENTRY_LENGTH numbers for each, in the order in which they go, and stays untouched beyond them. Refused:
  *   HDS_NOT_IN_ORDER      the table
  *   HDS_BUFFER_SHORT      the list is shorter than HDS_ENTRY_LENGTH numbers for each waiting request of all clients
  */

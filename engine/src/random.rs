@@ -44,7 +44,8 @@ struct Generator {
     steps: Vec<Step>,
     /// Percentage of arguments that are bent.
     bent: usize,
-    /// Percentage of requests among requests and ticks.
+    /// Percentage of requests among requests and ticks. The busiest runs let many requests
+    /// wait.
     busy: usize,
     /// Into how many parts joining clients divide the depth that is left.
     spread: i64,

@@ -20,6 +20,7 @@ use Rattle.ticklaws.proofs.Reached.{reached-long}
 use Rattle.ticklaws.proofs.Way.{ways-of, way-first}
 use Rattle.ticklaws.proofs.Grown.{grown-swept, grown-reached}
 use Rattle.ticklaws.proofs.Cut.{cutTo, cut-swept, cut-low, cut-falls}
+use Rattle.ticklaws.proofs.Supplier.{supplier-way}
 use Rattle.ticklaws.proofs.Served.{client-at, servedAll-with}
 use Rattle.ticklaws.proofs.Lent.{lent-with}
 use Rattle.ticklaws.proofs.Keeps.{two-reached, three-settled}
@@ -68,7 +69,7 @@ module _ (t : List ℤ) (f : InOrder t) where
       lent-with t f (λ st. Followed (treeOf t) (stepThree t) st × Fair (treeOf t) (st .entries))
       (λ st r k hk e d p. (
         followed-next (treeOf t) st k (supplier (st .table) k) d (p .1 .whole) (stepThree t) (p .0),
-        fair-next (treeOf t) (ways-of t f) st k (supplier (st .table) k) (client-at t (st .table) (r .reached) k hk (e .waits)) (rw (frame-tree t (st .table) (r .reached .frame)) at (e .way)) (p .1),
+        fair-next (treeOf t) (ways-of t f) st k (supplier (st .table) k) (client-at t (st .table) (r .reached) k hk (e .waits)) (rw (frame-tree t (st .table) (r .reached .frame)) at (supplier-way (st .table) k e)) (p .1),
       ))
       (allWaiting (stepThree t .table)) (stepThree t) (three-settled t f)
       (followed-first (treeOf t) (stepThree t), three-fair)

@@ -21,7 +21,7 @@ use Rattle.treelaws.proofs.Sorts.{client-there, client-class}
 use Rattle.ticklaws.proofs.Frame.{frame-grains}
 use Rattle.ticklaws.proofs.Reached.{Reached, reached-first}
 use Rattle.ticklaws.proofs.Way.{way-first}
-use Rattle.ticklaws.proofs.Next.{not-supplied}
+use Rattle.ticklaws.proofs.Supplier.{not-supplied}
 use Rattle.ticklaws.proofs.Served.{facts-ready}
 use Rattle.ticklaws.proofs.Keeps.{two-reached, two-suffices, ticked-settled, none-supplied}
 use Rattle.bounds.specs.Counts.{grainsForClient, sumOver}

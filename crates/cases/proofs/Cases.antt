@@ -6,8 +6,8 @@ use Rattle.scenarios.proofs.Run.{passes, allPass, at}
 use Rattle.cases.specs.Cases.{Case, roundedDown, lostByClasses, emptyBuckets, restOfList, cutToDepth, firstSupplier, headerPlaces, nodesInOrder, sumsInOrder, requestsInOrder, scenario}
 
 -- The scenarios.
-joint : List Scenario
-joint =
+all : List Scenario
+all =
     map scenario
     (roundedDown
     ∷ lostByClasses
@@ -21,19 +21,19 @@ joint =
     ∷ requestsInOrder
     ∷ [])
 
-computed : T (allPass joint)
-unfolding allPass joint passes scenario
+computed : T (allPass all)
+unfolding allPass all passes scenario
 computed = tt
 
 pub cases-hold : (c : Case) → Passes (scenario c)
-unfolding joint
-cases-hold roundedDown = at joint computed 0
-cases-hold lostByClasses = at joint computed 1
-cases-hold emptyBuckets = at joint computed 2
-cases-hold restOfList = at joint computed 3
-cases-hold cutToDepth = at joint computed 4
-cases-hold firstSupplier = at joint computed 5
-cases-hold headerPlaces = at joint computed 6
-cases-hold nodesInOrder = at joint computed 7
-cases-hold sumsInOrder = at joint computed 8
-cases-hold requestsInOrder = at joint computed 9
+unfolding all
+cases-hold roundedDown = at all computed 0
+cases-hold lostByClasses = at all computed 1
+cases-hold emptyBuckets = at all computed 2
+cases-hold restOfList = at all computed 3
+cases-hold cutToDepth = at all computed 4
+cases-hold firstSupplier = at all computed 5
+cases-hold headerPlaces = at all computed 6
+cases-hold nodesInOrder = at all computed 7
+cases-hold sumsInOrder = at all computed 8
+cases-hold requestsInOrder = at all computed 9

@@ -6,8 +6,8 @@ use Rattle.scenarios.proofs.Run.{passes, allPass, at}
 use Rattle.causes.specs.Causes.{TurnedBack, notInOrder, tableLengths, opens, joinLimits, joins, leaves, changesShare, changesRate, requests, looks, compares, ticks, scenario}
 
 -- The scenarios.
-joint : List Scenario
-joint =
+all : List Scenario
+all =
     map scenario
     (notInOrder
     ∷ tableLengths
@@ -23,21 +23,21 @@ joint =
     ∷ ticks
     ∷ [])
 
-computed : T (allPass joint)
-unfolding allPass joint passes scenario
+computed : T (allPass all)
+unfolding allPass all passes scenario
 computed = tt
 
 pub causes-hold : (c : TurnedBack) → Passes (scenario c)
-unfolding joint
-causes-hold notInOrder = at joint computed 0
-causes-hold tableLengths = at joint computed 1
-causes-hold opens = at joint computed 2
-causes-hold joinLimits = at joint computed 3
-causes-hold joins = at joint computed 4
-causes-hold leaves = at joint computed 5
-causes-hold changesShare = at joint computed 6
-causes-hold changesRate = at joint computed 7
-causes-hold requests = at joint computed 8
-causes-hold looks = at joint computed 9
-causes-hold compares = at joint computed 10
-causes-hold ticks = at joint computed 11
+unfolding all
+causes-hold notInOrder = at all computed 0
+causes-hold tableLengths = at all computed 1
+causes-hold opens = at all computed 2
+causes-hold joinLimits = at all computed 3
+causes-hold joins = at all computed 4
+causes-hold leaves = at all computed 5
+causes-hold changesShare = at all computed 6
+causes-hold changesRate = at all computed 7
+causes-hold requests = at all computed 8
+causes-hold looks = at all computed 9
+causes-hold compares = at all computed 10
+causes-hold ticks = at all computed 11

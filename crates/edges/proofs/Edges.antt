@@ -4,12 +4,12 @@ use mathlib.Core.List.{List, [], _∷_, map}
 use lib.Dec.{T}
 use Rattle.scenarios.specs.Scenario.{Scenario, Passes}
 use Rattle.scenarios.proofs.Run.{passes, allPass, at}
-use Rattle.changes.proofs.Changes.{changes-hold}
-use Rattle.edges.specs.Edges.{Edge, paper, thirds, nothingLeft, nothingLeftOfThirds, aboveWhole, alone, oneAsks, bothAsk, debt, sizes, depths, ninth, listLengths, ofRequest, scenario}
+use Rattle.lateredges.proofs.Edges.{later-edges-hold}
+use Rattle.edges.specs.Edges.{Edge, paper, thirds, nothingLeft, nothingLeftOfThirds, aboveWhole, alone, oneAsks, bothAsk, debt, sizes, depths, ninth, listLengths, later, scenario}
 
 -- The scenarios of document 01's edges.
-joint : List Scenario
-joint =
+marked : List Scenario
+marked =
     map scenario
     (paper
     ∷ thirds
@@ -26,23 +26,23 @@ joint =
     ∷ listLengths
     ∷ [])
 
-computed : T (allPass joint)
-unfolding allPass joint passes scenario
+computed : T (allPass marked)
+unfolding allPass marked passes scenario
 computed = tt
 
 pub edges-hold : (e : Edge) → Passes (scenario e)
-unfolding joint scenario
-edges-hold paper = at joint computed 0
-edges-hold thirds = at joint computed 1
-edges-hold nothingLeft = at joint computed 2
-edges-hold nothingLeftOfThirds = at joint computed 3
-edges-hold aboveWhole = at joint computed 4
-edges-hold alone = at joint computed 5
-edges-hold oneAsks = at joint computed 6
-edges-hold bothAsk = at joint computed 7
-edges-hold debt = at joint computed 8
-edges-hold sizes = at joint computed 9
-edges-hold depths = at joint computed 10
-edges-hold ninth = at joint computed 11
-edges-hold listLengths = at joint computed 12
-edges-hold (ofRequest change) = changes-hold change
+unfolding marked scenario
+edges-hold paper = at marked computed 0
+edges-hold thirds = at marked computed 1
+edges-hold nothingLeft = at marked computed 2
+edges-hold nothingLeftOfThirds = at marked computed 3
+edges-hold aboveWhole = at marked computed 4
+edges-hold alone = at marked computed 5
+edges-hold oneAsks = at marked computed 6
+edges-hold bothAsk = at marked computed 7
+edges-hold debt = at marked computed 8
+edges-hold sizes = at marked computed 9
+edges-hold depths = at marked computed 10
+edges-hold ninth = at marked computed 11
+edges-hold listLengths = at marked computed 12
+edges-hold (later edge) = later-edges-hold edge

@@ -6,13 +6,13 @@ use mathlib.Core.List.{[], _∷_}
 use lib.IntN.{pos, negℤ}
 use Rattle.table.specs.Limits.{root, class, client, fixed, weighted, wholeShare}
 use Rattle.table.specs.Refusals.{refused}
-use Rattle.changes.specs.Changes.{Change, ofChange}
+use Rattle.lateredges.specs.Edges.{LaterEdge, laterScenario}
 use Rattle.scenarios.specs.Scenario.{Scenario, disk, join, request, look, tick, dispatch, _gives_, _lists_, _refuses_, setBalance, times, number, seen}
 
 -- The edges by name: document 01's in its order, then those of the requests.
 pub data Edge : Type 0 where
   paper thirds nothingLeft nothingLeftOfThirds aboveWhole alone oneAsks bothAsk debt sizes depths ninth listLengths : Edge
-  ofRequest : Change → Edge
+  later : LaterEdge → Edge
 
 unfoldable pub scenario : Edge → Scenario
 -- "Disk 1000; class 1 fixed 5000: rate 500. Under it fixed 4000: 200; weights 4 and 6: 120 and 180." The class loses nothing,
@@ -159,4 +159,4 @@ scenario listLengths =
     ∷ tick 7 refuses 13
     ∷ tick 8 lists []
     ∷ []
-scenario (ofRequest change) = ofChange change
+scenario (later edge) = laterScenario edge

@@ -17,7 +17,7 @@ use Rattle.table.specs.Cost.{cost, sizeWithin}
 use Rattle.table.specs.Order.{isZero, headerInOrder, rootInOrder, parentInOrder, requestInOrder, queueInOrder, differsAt}
 use Rattle.table.specs.Refusals.{first, outcome, kept}
 use Rattle.table.specs.Calls.{blank, opened, openRefusal, openTable, openAnswer, joined, cleared, reshared, requested}
-use Rattle.table.specs.Tick.{grains, enough, supplierFrom, supply, isFound, nodeFound, stepsFound, supplier, steps, lower, charge, takenOut, dispatched, ready, served, supplied, better, choice, listed}
+use Rattle.table.specs.Tick.{grains, enough, supplierFrom, supply, isFound, nodeFound, stepsFound, supplier, stepsAbove, lower, charge, takenOut, dispatched, ready, served, supplied, better, goesBefore, choice, listed}
 use Rattle.scenarios.specs.Scenario.{Scenario, lentTo, entries, keptAfter, after, sevens, Passes}
 use Rattle.scenarios.proofs.Judge.{sameList, sameOutcome, holds, run, run-hold}
 use Rattle.scenarios.proofs.Near.{zeros, few, recordOn, placeNear, putNear, treeNear, unusedAt, unusedNear, nextNear, lentNear}
@@ -25,7 +25,7 @@ use Rattle.scenarios.proofs.Short.{by, with, each, shortLimits, shortSp
 
 -- A scenario run by the short forms of its steps. The line under the signature names what antt unfolds to compute it.
 unfoldable pub shortRun : Scenario → (kept t : List ℤ) → Bool
-unfolding plus sameℤ withinℤ every sumBelow sumℤBelow allBelow forBelow place put header putHeader count tag size arrival treeOf there isClass isClient isFixed childOf childless countIf testIf sumUnder eachNode eachClass eachClient fixedShare weight fixedSum weightSum fixedRate leftRate weightedRate childRate rateAtLevel rateIn writeRates isZero headerInOrder rootInOrder parentInOrder cost sizeWithin requestInOrder queueInOrder differsAt first outcome kept blank opened openRefusal openTable openAnswer joined cleared reshared requested grains enough supplierFrom supply isFound nodeFound stepsFound supplier steps lower charge takenOut dispatched ready served supplied better choice listed lentTo entries sameList sameOutcome zeros few recordOn placeNear putNear treeNear unusedAt unusedNear nextNear lentNear by with each shortLimits shortSpare shortClass shortRate shortChild shortBalance shortArrivals shortInOrder shortJoinRefusal shortLeaveRefusal shortChangeShareRefusal shortChangeRateRefusal shortRequestRefusal shortLookRefusal shortSameRefusal shortRates shortLost shortWaiting shortAllWaiting shortTickRefusal shortGrown shortServed shortCut shortStepTwo shortStepThree shortTicked shortStep
+unfolding plus sameℤ withinℤ every sumBelow sumℤBelow allBelow forBelow place put header putHeader count tag size arrival treeOf there isClass isClient isFixed childOf childless countIf testIf sumUnder eachNode eachClass eachClient fixedShare weight fixedSum weightSum fixedRate leftRate weightedRate childRate rateAtLevel rateIn writeRates isZero headerInOrder rootInOrder parentInOrder cost sizeWithin requestInOrder queueInOrder differsAt first outcome kept blank opened openRefusal openTable openAnswer joined cleared reshared requested grains enough supplierFrom supply isFound nodeFound stepsFound supplier stepsAbove lower charge takenOut dispatched ready served supplied better goesBefore choice listed lentTo entries sameList sameOutcome zeros few recordOn placeNear putNear treeNear unusedAt unusedNear nextNear lentNear by with each shortLimits shortSpare shortClass shortRate shortChild shortBalance shortArrivals shortInOrder shortJoinRefusal shortLeaveRefusal shortChangeShareRefusal shortChangeRateRefusal shortRequestRefusal shortLookRefusal shortSameRefusal shortRates shortLost shortWaiting shortAllWaiting shortTickRefusal shortGrown shortServed shortCut shortStepTwo shortStepThree shortTicked shortStep
 shortRun [] = λ kept t. true
 shortRun (step ∷ steps) = λ kept t. shortStep step (shortRun steps) kept t .value
 
@@ -45,24 +45,24 @@ passed : (steps : Scenario) → passes steps ≡ true → Passes steps
 unfolding Passes passes
 passed steps h = run-hold steps sevens sevens (run-is steps sevens sevens ∙ h)
 
--- Tests of scenarios, and whether all hold.
+-- Whether every one of these scenarios passes.
 unfoldable pub allPass : List Scenario → Bool
-allPass table = every (map passes table)
+allPass scenarios = every (map passes scenarios)
 
 no-steps : passes [] ≡ true
 unfolding passes shortRun
 no-steps = refl
 
-passed-at : (table : List Scenario) → allPass table ≡ true → (k : ℕ) → Passes (getD table k [])
+passed-at : (scenarios : List Scenario) → allPass scenarios ≡ true → (k : ℕ) → Passes (getD scenarios k [])
 unfolding allPass
 passed-at [] h k = passed [] no-steps
-passed-at (steps ∷ table) h zero = passed steps (head-holds (passes steps) (map passes table) h)
-passed-at (steps ∷ table) h (suc k) = passed-at table (rest-hold (passes steps) (map passes table) h) k
+passed-at (steps ∷ scenarios) h zero = passed steps (head-holds (passes steps) (map passes scenarios) h)
+passed-at (steps ∷ scenarios) h (suc k) = passed-at scenarios (rest-hold (passes steps) (map passes scenarios) h) k
 
 truth : (b : Bool) → T b → b ≡ true
 truth true h = refl
 truth false h = absurd h
 
--- Where antt has computed that all do, each passes, by its place in the table.
-pub at : (table : List Scenario) → T (allPass table) → (k : ℕ) → Passes (getD table k [])
-at table h = passed-at table (truth (allPass table) h)
+-- Where antt has computed that all do, each passes, by its place in the list.
+pub at : (scenarios : List Scenario) → T (allPass scenarios) → (k : ℕ) → Passes (getD scenarios k [])
+at scenarios h = passed-at scenarios (truth (allPass scenarios) h)

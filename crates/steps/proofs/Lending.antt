@@ -10,10 +10,9 @@ use Rattle.table.specs.Places.{waiting}
 use Rattle.table.specs.Tree.{treeOf}
 use Rattle.table.specs.Tick.{nobody, State, dispatched, supplier, supplied, next, lent, allWaiting}
 use Rattle.table.proofs.Facts.{InOrder}
-use Rattle.table.proofs.Choice.{next-found}
+use Rattle.table.proofs.Choice.{has-supplier, next-found}
 use Rattle.ticklaws.proofs.Cut.{cut-reached, cut-under}
 use Rattle.ticklaws.proofs.Dispatch.{Dispatch}
-use Rattle.ticklaws.proofs.Next.{supplied-facts}
 use Rattle.ticklaws.proofs.Lent.{Settled, lent-again, lent-done, supplier-at, lent-dispatch, lent-settled, waiting-falls}
 use Rattle.balances.specs.Within.{Within}
 use Rattle.suppliers.proofs.Answer.{Goes}
@@ -34,7 +33,7 @@ record Level (u : List ℤ) : Type 0 where
 module _ (u : List ℤ) (w : Level u) (k : ℕ) (hk : k < nodes) (e : supplied u k ≡ true) where
   turn : Dispatch (treeOf (w .from)) u (tableAfter u k (supplier u k)) k (supplier u k)
   unfolding tableAfter
-  turn = lent-dispatch (w .from) (w .order) (record { table = u; entries = [] }) (w .settled) k hk (supplied-facts u k e)
+  turn = lent-dispatch (w .from) (w .order) (record { table = u; entries = [] }) (w .settled) k hk (has-supplier u k e)
 
   turn-level : Level (tableAfter u k (supplier u k))
   unfolding tableAfter
@@ -42,7 +41,7 @@ module _ (u : List ℤ) (w : Level u) (k : ℕ) (hk : k < nodes) (e : supplied u
       record {
         from = w .from;
         order = w .order;
-        settled = lent-settled (w .from) (w .order) (record { table = u; entries = [] }) (w .settled) k hk (supplied-facts u k e);
+        settled = lent-settled (w .from) (w .order) (record { table = u; entries = [] }) (w .settled) k hk (has-supplier u k e);
       }
 
 lending-level : {u : List ℤ} → Lending u → Level u
@@ -76,8 +75,8 @@ found t on k s n =
     let low : k < nodes = omega (arith, n .client, first .0) in
     let has : supplied t k ≡ true = rw (n .client) (first .1) in
     let w = lending-level on in
-    let at = supplier-at (w .from) (w .order) (record { table = t; entries = [] }) (w .settled) k low (supplied-facts t k has) in
-    record { low = low; has = has; node = omega (arith, n .node, at .low); waits = supplied-facts t k has .waits }
+    let at = supplier-at (w .from) (w .order) (record { table = t; entries = [] }) (w .settled) k low (has-supplier t k has) in
+    record { low = low; has = has; node = omega (arith, n .node, at .low); waits = has-supplier t k has .waits }
 
 -- One request less waits.
 falls : (t : List ℤ) → Lending t → (k s : ℕ) → Goes t k s → allWaiting (tableAfter t k s) + 1 ≡ allWaiting t

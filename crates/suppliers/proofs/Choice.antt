@@ -14,12 +14,12 @@ use Rattle.numbers.proofs.Tests.{cond-true, cond-false, or-true-left}
 use Rattle.numbers.proofs.Every.{none-left, holds-with, head-fails, rest-fail}
 use Rattle.table.specs.Places.{waiting, arrival}
 use Rattle.table.specs.declared.Supply.the-variants as found
-use Rattle.table.specs.Tick.{nobody, isFound, nodeFound, stepsFound, supply, supplier, steps, supplied, better, choice}
+use Rattle.table.specs.Tick.{nobody, isFound, nodeFound, stepsFound, supply, supplier, stepsAbove, supplied, better, goesBefore, choice}
 
 -- The best client so far, where there is one, with its supplier, steps and arrival number.
 pub record Held (t : List ℤ) (best s least lowest : ℕ) : Type 0 where
   pub node : (best ≡ nobody → ⊥) → s ≡ supplier t best
-  pub steps : (best ≡ nobody → ⊥) → least ≡ steps t best
+  pub steps : (best ≡ nobody → ⊥) → least ≡ stepsAbove t best
   pub arrival : (best ≡ nobody → ⊥) → lowest ≡ arrival t best 0
 
 pub held-first : (t : List ℤ) (s least lowest : ℕ) → Held t nobody s least lowest
@@ -33,12 +33,9 @@ pub record Met (t : List ℤ) (k best s least lowest node n a : ℕ) : Type 0 wh
   pub number : a ≡ arrival t k 0
 
 module _ (t : List ℤ) (k best : ℕ) where
-  first : Bool
-  first = eqb best nobody || better (steps t k) (arrival t k 0) (steps t best) (arrival t best 0)
-
   stays : supplied t k ≡ false → choice t k best ≡ best
-  unfolding choice first
-  stays h = cond-false (every (supplied t k ∷ first ∷ [])) k best (head-fails (supplied t k) (first ∷ []) h)
+  unfolding choice
+  stays h = cond-false (every (supplied t k ∷ goesBefore t k best ∷ [])) k best (head-fails (supplied t k) (goesBefore t k best ∷ []) h)
 
   pub idle : waiting t k ≡ 0 → choice t k best ≡ best
   unfolding supplied
@@ -51,8 +48,8 @@ module _ (t : List ℤ) (k best : ℕ) where
 
   -- The test of the code is that of the definition.
   module _ (s least lowest node n a : ℕ) (met : Met t k best s least lowest node n a) where
-    test-is : (eqb best nobody || better n a least lowest) ≡ first
-    unfolding first steps stepsFound
+    test-is : (eqb best nobody || better n a least lowest) ≡ goesBefore t k best
+    unfolding goesBefore stepsAbove stepsFound
     test-is =
         elim (ℕ-discrete best nobody) [
           | yes e ↦ or-true-left _ _ (eq-eqb best nobody e) ∙ sym (or-true-left _ _ (eq-eqb best nobody e))
@@ -60,19 +57,19 @@ module _ (t : List ℤ) (k best : ℕ) where
         ]
 
     pub later : (r : Bool) → r ≡ (eqb best nobody || better n a least lowest) → r ≡ false → choice t k best ≡ best
-    unfolding choice first
+    unfolding choice
     later r e h =
-        cond-false (every (supplied t k ∷ first ∷ [])) k best
-        (rest-fail (supplied t k) (first ∷ []) (head-fails first [] (sym (e ∙ test-is) ∙ h)))
+        cond-false (every (supplied t k ∷ goesBefore t k best ∷ [])) k best
+        (rest-fail (supplied t k) (goesBefore t k best ∷ []) (head-fails (goesBefore t k best) [] (sym (e ∙ test-is) ∙ h)))
 
     pub taken : (r : Bool) → r ≡ (eqb best nobody || better n a least lowest) → r ≡ true → (waiting t k ≡ 0 → ⊥) → choice t k best ≡ k
-    unfolding choice first supplied isFound
+    unfolding choice supplied isFound
     taken r e h w =
         let waits = holds-with (ltb 0 (waiting t k)) (isFound (supply t k) ∷ []) (lt-ltb 0 (waiting t k) (omega arith)) in
-        cond-true (every (supplied t k ∷ first ∷ [])) k best
-        (holds-with (supplied t k) (first ∷ []) (waits (holds-with (isFound (supply t k)) [] (sym (ap isFound (met .supply))) none-left))
-        (holds-with first [] (sym (e ∙ test-is) ∙ h) none-left))
+        cond-true (every (supplied t k ∷ goesBefore t k best ∷ [])) k best
+        (holds-with (supplied t k) (goesBefore t k best ∷ []) (waits (holds-with (isFound (supply t k)) [] (sym (ap isFound (met .supply))) none-left))
+        (holds-with (goesBefore t k best) [] (sym (e ∙ test-is) ∙ h) none-left))
 
     pub held-next : Held t k node n a
-    unfolding supplier steps nodeFound stepsFound
+    unfolding supplier stepsAbove nodeFound stepsFound
     held-next = record { node = λ _. ap nodeFound (met .supply); steps = λ _. ap stepsFound (met .supply); arrival = λ _. met .number }

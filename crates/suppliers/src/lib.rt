@@ -28,8 +28,8 @@ pub fn enough(table: &[i64], amount: u64, k: usize) -> bool
 }
 
 // The supplier of client k's oldest request, the first node with enough balance on the way from the client up to the root, and
-// how many steps it is above the client.
-pub fn supplier_of(table: &[i64], k: usize) -> Supply
+// how many steps it is above the client; or nobody where none has enough.
+fn supplier_of(table: &[i64], k: usize) -> Supply
     requires { ⌜ Within (now table) × (k < nodes) ⌝ }
     ensures { λ r. ⌜ r ≡ supply (now (table .entry)) k ⌝ }
 {

@@ -1,9 +1,9 @@
 -- Step 4's choice: the search for a supplier finds the first node with enough balance, and the fold over the clients keeps the
--- best of those it has seen. Two folds that have seen all clients agree, since arrival numbers differ.
+-- best of those it has seen. Two folds that have seen all clients with a supplier agree, since arrival numbers differ.
 use Prim.Native.Nat.{ℕ, zero, suc, _+_, _≤_, _<_}
 use mathlib.Core.Logic.{_⊎_, inl, inr, ⊎-elim}
 use mathlib.Core.Path.{_≡_, refl, sym, ap, _∙_}
-use mathlib.Core.Bool.{Bool, true, false, _||_}
+use mathlib.Core.Bool.{true, false}
 use mathlib.Core.List.{List, [], _∷_}
 use native.Mathlib.Omega.{arith}
 use native.Mathlib.Decide.{ℕ-discrete}
@@ -20,7 +20,7 @@ use Rattle.table.specs.Limits.{nodes}
 use Rattle.table.specs.Places.{waiting, size, arrival}
 use Rattle.table.specs.Tree.{treeOf, nodeAbove}
 use Rattle.table.specs.declared.Supply.{Supply}
-use Rattle.table.specs.Tick.{nobody, grains, enough, supplierFrom, supply, isFound, nodeFound, stepsFound, supplier, steps, supplied, better, choice, next}
+use Rattle.table.specs.Tick.{nobody, grains, enough, supplierFrom, supply, isFound, nodeFound, stepsFound, supplier, stepsAbove, supplied, better, goesBefore, choice, next}
 use Rattle.table.specs.Choice.{HasSupplier, GoesNext, SeenIn}
 
 -- What a search that finds a supplier has climbed, from node k at level l and so many steps above the client.
@@ -53,10 +53,10 @@ climbed t amount steps (suc l) k h =
     }))
 
 pub has-supplier : (t : List ℤ) (k : ℕ) → supplied t k ≡ true → HasSupplier t k
-unfolding supplied supplier steps supply
+unfolding supplied supplier stepsAbove supply
 has-supplier t k h =
     let c = climbed t (grains (size t k 0)) 0 (treeOf t .level k) k (head-holds _ _ (rest-hold _ _ h)) in
-    let up : steps t k ≡ c .up = omega (arith, c .count) in
+    let up : stepsAbove t k ≡ c .up = omega (arith, c .count) in
     record {
       waits = ltb-true 0 (waiting t k) (head-holds _ _ h);
       within = omega (arith, up, c .within);
@@ -65,15 +65,14 @@ has-supplier t k h =
       enough = c .has;
     }
 
--- Better goes by the arrival numbers where the steps are as many, else by the steps.
-module _ (s a s' a' : ℕ) where
-  pub as-many : s ≡ s' → better s a s' a' ≡ ltb a a'
-  unfolding better
-  as-many e = simp (le-ltb s s' (omega arith), eq-eqb s s' e)
+-- Better goes by the steps where these differ, else by the arrival numbers.
+pub not-as-many : (s a s' a' : ℕ) → (s ≡ s' → ⊥) → better s a s' a' ≡ ltb s s'
+unfolding better
+not-as-many s a s' a' ne = by-test (ltb s s') (λ l. simp (l, ne-eqb s s' ne)) (λ l. simp (l, ne-eqb s s' ne))
 
-  pub not-as-many : (s ≡ s' → ⊥) → better s a s' a' ≡ ltb s s'
-  unfolding better
-  not-as-many ne = by-test (ltb s s') (λ l. simp (l, ne-eqb s s' ne)) (λ l. simp (l, ne-eqb s s' ne))
+pub as-many : (s a s' a' : ℕ) → s ≡ s' → better s a s' a' ≡ ltb a a'
+unfolding better
+as-many s a s' a' e = rw e (simp (le-ltb s' s' (omega arith), eq-eqb s' s' refl))
 
 -- A request with these steps and this arrival number is at least as good as one with those.
 record AsGood (s a s' a' : ℕ) : Type 0 where
@@ -96,7 +95,7 @@ not-better s a s' a' h =
 
 -- Client k's oldest request is at least as good as client j's.
 Good : List ℤ → ℕ → ℕ → Type 0
-Good t k j = AsGood (steps t k) (arrival t k 0) (steps t j) (arrival t j 0)
+Good t k j = AsGood (stepsAbove t k) (arrival t k 0) (stepsAbove t j) (arrival t j 0)
 
 good-itself : (t : List ℤ) (k j : ℕ) → j ≡ k → Good t k j
 unfolding Good
@@ -119,11 +118,8 @@ record Best (t : List ℤ) (Seen : ℕ → Type 0) (best : ℕ) : Type 0 where
 
 -- Client k is seen as well.
 module _ (t : List ℤ) (Seen Then : ℕ → Type 0) (k best : ℕ) (hk : k < nodes) (b : Best t Seen best) (split : (j : ℕ) → Then j → Seen j ⊎ (j ≡ k)) where
-  none-or-better : Bool
-  none-or-better = eqb best nobody || better (steps t k) (arrival t k 0) (steps t best) (arrival t best 0)
-
-  goes-first : supplied t k ≡ true → none-or-better ≡ true → Best t Then k
-  unfolding none-or-better Good
+  goes-first : supplied t k ≡ true → goesBefore t k best ≡ true → Best t Then k
+  unfolding goesBefore stepsAbove Good
   goes-first s h =
       record {
         most = omega arith;
@@ -139,13 +135,13 @@ module _ (t : List ℤ) (Seen Then : ℕ → Type 0) (k best : ℕ) (hk : k < no
               | yes e ↦ absurd (true-false has (b .none e j seen))
               | no ne ↦ good-trans t k best j (is-better _ _ _ _ better) (b .good ne j seen has)
             ])
-            (or-cases (eqb best nobody) (better (steps t k) (arrival t k 0) (steps t best) (arrival t best 0)) h))
+            (or-cases (eqb best nobody) _ h))
             (good-itself t k j)
             (split j then);
       }
 
-  stays-first : (supplied t k ≡ true → none-or-better ≡ false) → Best t Then best
-  unfolding none-or-better Good
+  stays-first : (supplied t k ≡ true → goesBefore t k best ≡ false) → Best t Then best
+  unfolding goesBefore stepsAbove Good
   stays-first h =
       record {
         most = b .most;
@@ -169,14 +165,14 @@ module _ (t : List ℤ) (Seen Then : ℕ → Type 0) (k best : ℕ) (hk : k < no
       }
 
   best-next : Best t Then (choice t k best)
-  unfolding choice none-or-better steps
+  unfolding choice
   best-next =
-      by-test (every (supplied t k ∷ none-or-better ∷ []))
+      by-test (every (supplied t k ∷ goesBefore t k best ∷ []))
       (λ yes. rw yes (goes-first (head-holds _ _ yes) (head-holds _ _ (rest-hold _ _ yes))))
       (λ no.
       rw no
       (stays-first
-      (λ s. by-test none-or-better (λ h. absurd (true-false (holds-with _ _ s (holds-with _ _ h none-left)) no)) (λ h. h))))
+      (λ s. by-test (goesBefore t k best) (λ h. absurd (true-false (holds-with _ _ s (holds-with _ _ h none-left)) no)) (λ h. h))))
 
 ordered : List ℤ → ℕ → (ℕ → ℕ) → ℕ
 ordered t n order = forBelow n (λ i best. choice t (order i) best) nobody
@@ -228,32 +224,32 @@ next-goes t ne =
       lowest = λ j hj h e. next-best t .good ne j (seen-by-number j hj) h .arrival (sym e);
     }
 
--- Two folds that have seen all clients agree, where no two clients share an arrival number.
+-- Two folds that have seen all clients with a supplier agree, where no two clients share an arrival number.
 module _ (t : List ℤ) (one : (k j : ℕ) → k < nodes → j < nodes → 0 < waiting t k → 0 < waiting t j → arrival t k 0 ≡ arrival t j 0 → k ≡ j) where
-  same-best : (S R : ℕ → Type 0) → ((k : ℕ) → k < nodes → S k) → ((k : ℕ) → k < nodes → R k) → (a b : ℕ) → Best t S a → Best t R b → a ≡ b
+  same-best : (S R : ℕ → Type 0) → ((k : ℕ) → k < nodes → supplied t k ≡ true → S k) → ((k : ℕ) → k < nodes → supplied t k ≡ true → R k) → (a b : ℕ) → Best t S a → Best t R b → a ≡ b
   unfolding Good
   same-best S R allS allR a b p q =
       elim (ℕ-discrete a nobody) [
         | yes e ↦
             elim (ℕ-discrete b nobody) [
               | yes d ↦ e ∙ sym d
-              | no nb ↦ absurd (true-false (q .has nb) (p .none e b (allS b (omega (arith, q .most, nb)))))
+              | no nb ↦ absurd (true-false (q .has nb) (p .none e b (allS b (omega (arith, q .most, nb)) (q .has nb))))
             ]
         | no na ↦
             elim (ℕ-discrete b nobody) [
-              | yes d ↦ absurd (true-false (p .has na) (q .none d a (allR a (omega (arith, p .most, na)))))
+              | yes d ↦ absurd (true-false (p .has na) (q .none d a (allR a (omega (arith, p .most, na)) (p .has na))))
               | no nb ↦
                   let ha : a < nodes = omega (arith, p .most, na) in
                   let hb : b < nodes = omega (arith, q .most, nb) in
-                  let g = p .good na b (allS b hb) (q .has nb) in
-                  let h = q .good nb a (allR a ha) (p .has na) in
-                  let even : steps t a ≡ steps t b = omega (arith, g .steps, h .steps) in
+                  let g = p .good na b (allS b hb (q .has nb)) (q .has nb) in
+                  let h = q .good nb a (allR a ha (p .has na)) (p .has na) in
+                  let even : stepsAbove t a ≡ stepsAbove t b = omega (arith, g .steps, h .steps) in
                   one a b ha hb (has-supplier t a (p .has na) .waits) (has-supplier t b (q .has nb) .waits)
                   (omega (arith, g .arrival even, h .arrival (sym even)))
             ]
       ]
 
-  pub any-order : (n : ℕ) (order : ℕ → ℕ) → ((i : ℕ) → i < n → order i < nodes) → ((k : ℕ) → k < nodes → SeenIn n order k) → forBelow n (λ i best. choice t (order i) best) nobody ≡ next t
+  pub any-order : (n : ℕ) (order : ℕ → ℕ) → ((i : ℕ) → i < n → order i < nodes) → ((k : ℕ) → k < nodes → supplied t k ≡ true → SeenIn n order k) → forBelow n (λ i best. choice t (order i) best) nobody ≡ next t
   unfolding ordered
   any-order n order low sees =
-      same-best (SeenIn n order) (SeenIn nodes (λ k. k)) sees seen-by-number _ _ (best-in t n order low) (next-best t)
+      same-best (SeenIn n order) (SeenIn nodes (λ k. k)) sees (λ k hk h. seen-by-number k hk) _ _ (best-in t n order low) (next-best t)

@@ -7,14 +7,14 @@ use lib.IntN.{ℤ}
 use Rattle.table.specs.Limits.{nodes}
 use Rattle.table.specs.Places.{waiting, size, arrival}
 use Rattle.table.specs.Tree.{treeOf, nodeAbove}
-use Rattle.table.specs.Tick.{grains, enough, supplier, steps, supplied}
+use Rattle.table.specs.Tick.{grains, enough, supplier, stepsAbove, supplied}
 
 -- The oldest request of client k has a supplier: the first node with enough balance on the way up, so many steps above it.
 pub record HasSupplier (t : List ℤ) (k : ℕ) : Type 0 where
   pub waits : 0 < waiting t k
-  pub within : steps t k ≤ treeOf t .level k
-  pub node : supplier t k ≡ nodeAbove (treeOf t) (steps t k) k
-  pub first : (n : ℕ) → n < steps t k → enough t (grains (size t k 0)) (nodeAbove (treeOf t) n k) ≡ false
+  pub within : stepsAbove t k ≤ treeOf t .level k
+  pub node : supplier t k ≡ nodeAbove (treeOf t) (stepsAbove t k) k
+  pub first : (n : ℕ) → n < stepsAbove t k → enough t (grains (size t k 0)) (nodeAbove (treeOf t) n k) ≡ false
   pub enough : enough t (grains (size t k 0)) (supplier t k) ≡ true
 
 -- Client k's oldest request goes next: it has a supplier; no other client's oldest request that has one has fewer steps, and
@@ -22,8 +22,8 @@ pub record HasSupplier (t : List ℤ) (k : ℕ) : Type 0 where
 pub record GoesNext (t : List ℤ) (k : ℕ) : Type 0 where
   pub low : k < nodes
   pub has : HasSupplier t k
-  pub fewest : (j : ℕ) → j < nodes → supplied t j ≡ true → steps t k ≤ steps t j
-  pub lowest : (j : ℕ) → j < nodes → supplied t j ≡ true → steps t j ≡ steps t k → arrival t k 0 ≤ arrival t j 0
+  pub fewest : (j : ℕ) → j < nodes → supplied t j ≡ true → stepsAbove t k ≤ stepsAbove t j
+  pub lowest : (j : ℕ) → j < nodes → supplied t j ≡ true → stepsAbove t j ≡ stepsAbove t k → arrival t k 0 ≤ arrival t j 0
 
 -- Client k is one of those seen in n looks, where look i is at client order i.
 pub record SeenIn (n : ℕ) (order : ℕ → ℕ) (k : ℕ) : Type 0 where

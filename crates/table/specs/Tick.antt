@@ -30,7 +30,7 @@ abbrev pub nobody : ℕ
 nobody = nodes
 
 -- The search for a supplier on the way from node k, at level l and so many steps above the client, up to the root, both
--- included: it answers the first node with enough balance and the steps.
+-- included: it answers the first node with enough balance and the steps, or nobody where none has.
 unfoldable pub supplierFrom : List ℤ → ℕ → ℕ → ℕ → ℕ → Supply
 supplierFrom t amount steps zero k = cond (enough t amount k) (Node k steps) Nobody
 supplierFrom t amount steps (suc l) k =
@@ -40,7 +40,7 @@ supplierFrom t amount steps (suc l) k =
 unfoldable pub supply : List ℤ → ℕ → Supply
 supply t k = supplierFrom t (grains (size t k 0)) 0 (treeOf t .level k) k
 
--- Whether there is a supplier, which node it is, and how many steps it is above the client; nobody and 0 where there is none.
+-- Whether such an answer has a supplier, which node it is, and the steps; nobody and 0 where there is none.
 unfoldable pub isFound : Supply → Bool
 isFound (Node node steps) = true
 isFound Nobody = false
@@ -53,11 +53,12 @@ unfoldable pub stepsFound : Supply → ℕ
 stepsFound (Node node steps) = steps
 stepsFound Nobody = 0
 
+-- The supplier of client k's oldest request, and how many steps it is above the client.
 unfoldable pub supplier : List ℤ → ℕ → ℕ
 supplier t k = nodeFound (supply t k)
 
-unfoldable pub steps : List ℤ → ℕ → ℕ
-steps t k = stepsFound (supply t k)
+unfoldable pub stepsAbove : List ℤ → ℕ → ℕ
+stepsAbove t k = stepsFound (supply t k)
 
 -- A balance falls by an amount.
 unfoldable pub lower : List ℤ → ℕ → ℕ → List ℤ
@@ -121,14 +122,14 @@ supplied t k = every (ltb 0 (waiting t k) ∷ isFound (supply t k) ∷ [])
 unfoldable pub better : ℕ → ℕ → ℕ → ℕ → Bool
 better steps arrival steps' arrival' = ltb steps steps' || (eqb steps steps' && ltb arrival arrival')
 
--- Of client k and the best so far, the one whose oldest request goes first: k where its request has a supplier and is better
--- than that of best, or there is no best.
+-- Whether client k's oldest request is better than that of best, or there is no best.
+unfoldable pub goesBefore : List ℤ → ℕ → ℕ → Bool
+goesBefore t k best = eqb best nobody || better (stepsAbove t k) (arrival t k 0) (stepsAbove t best) (arrival t best 0)
+
+-- Of client k and the best so far, the one whose oldest request goes first: k where its request has a supplier and goes before
+-- that of best.
 unfoldable pub choice : List ℤ → ℕ → ℕ → ℕ
-choice t k best =
-    cond
-    (every (supplied t k ∷ (eqb best nobody || better (steps t k) (arrival t k 0) (steps t best) (arrival t best 0)) ∷ []))
-    k
-    best
+choice t k best = cond (every (supplied t k ∷ goesBefore t k best ∷ [])) k best
 
 -- The client whose oldest request goes next, or nobody where no request has a supplier.
 unfoldable pub next : List ℤ → ℕ

@@ -15,7 +15,7 @@ use Rattle.table.specs.Tick.{grains, enough, ticked}
 use Rattle.table.proofs.Facts.{InOrder, facts}
 use Rattle.ticklaws.specs.Laws.{TickLaws}
 use Rattle.ticklaws.proofs.Frame.{frame-tree}
-use Rattle.ticklaws.proofs.Next.{not-supplied}
+use Rattle.ticklaws.proofs.Supplier.{not-supplied}
 use Rattle.ticklaws.proofs.Keeps.{tick-keeps, ticked-settled, none-supplied}
 use Rattle.ticklaws.proofs.Entries.{ticked-entries}
 

@@ -18,13 +18,14 @@ use Rattle.table.specs.Limits.{nodes}
 use Rattle.table.specs.Places.{balance, waiting, size}
 use Rattle.table.specs.Tree.{Tree, treeOf}
 use Rattle.table.specs.Tick.{nobody, State, grains, enough, dispatched, supplier, supplied, next, lent, allWaiting}
+use Rattle.table.specs.Choice.{HasSupplier}
 use Rattle.table.proofs.Facts.{InOrder}
-use Rattle.table.proofs.Choice.{next-found, none-next}
+use Rattle.table.proofs.Choice.{has-supplier, next-found, none-next}
 use Rattle.treelaws.proofs.Floors.{children-under, Levels, Room, Under}
 use Rattle.ticklaws.proofs.Frame.{frame-tree}
 use Rattle.ticklaws.proofs.Reached.{Reached}
 use Rattle.ticklaws.proofs.Way.{ways-of, At, above-there}
-use Rattle.ticklaws.proofs.Next.{Supplied, supplied-facts}
+use Rattle.ticklaws.proofs.Supplier.{supplier-way}
 use Rattle.ticklaws.proofs.Dispatch.{Dispatch, dispatch, dispatch-reached, dispatch-under}
 use Rattle.ticklaws.proofs.Served.{client-at}
 
@@ -37,7 +38,7 @@ unfolding lent
 lent-done n st e = rw (eq-eqb (next (st .table)) nobody e, lent)
 
 -- What each dispatch of a request that has a supplier keeps, step 4 keeps.
-pub lent-keeps : (P : State → Type 0) → ((st : State) → P st → (k : ℕ) → k < nodes → Supplied (st .table) k → P (dispatched st k (supplier (st .table) k))) → (n : ℕ) (st : State) → P st → P (lent n st)
+pub lent-keeps : (P : State → Type 0) → ((st : State) → P st → (k : ℕ) → k < nodes → HasSupplier (st .table) k → P (dispatched st k (supplier (st .table) k))) → (n : ℕ) (st : State) → P st → P (lent n st)
 unfolding lent
 lent-keeps P each zero st p = p
 lent-keeps P each (suc n) st p =
@@ -47,7 +48,7 @@ lent-keeps P each (suc n) st p =
           let k = next (st .table) in
           let found = next-found (st .table) ne in
           rw (lent-again n st ne)
-          (lent-keeps P each n (dispatched st k (supplier (st .table) k)) (each st p k (found .0) (supplied-facts (st .table) k (found .1))))
+          (lent-keeps P each n (dispatched st k (supplier (st .table) k)) (each st p k (found .0) (has-supplier (st .table) k (found .1))))
     ]
 
 -- A node with enough balance, in a tree where no balance exceeds its depth, stands that amount above its floor.
@@ -64,13 +65,13 @@ pub record Settled (t u : List ℤ) : Type 0 where
   pub reached : Reached t u
   pub under : Under (treeOf t) (balance u)
 
-module _ (t : List ℤ) (f : InOrder t) (st : State) (r : Settled t (st .table)) (k : ℕ) (hk : k < nodes) (s : Supplied (st .table) k) where
+module _ (t : List ℤ) (f : InOrder t) (st : State) (r : Settled t (st .table)) (k : ℕ) (hk : k < nodes) (s : HasSupplier (st .table) k) where
   same : treeOf (st .table) ≡ treeOf t
   same = frame-tree t (st .table) (r .reached .frame)
 
   pub supplier-at : At (treeOf t) (treeOf t .level (supplier (st .table) k)) (supplier (st .table) k)
   supplier-at =
-      above-there (treeOf t) (ways-of t f) k (supplier (st .table) k) (client-at t (st .table) (r .reached) k hk (s .waits)) (rw same at (s .way))
+      above-there (treeOf t) (ways-of t f) k (supplier (st .table) k) (client-at t (st .table) (r .reached) k hk (s .waits)) (rw same at (supplier-way (st .table) k s))
 
   pub lent-dispatch : Dispatch (treeOf t) (st .table) (dispatched st k (supplier (st .table) k) .table) k (supplier (st .table) k)
   lent-dispatch = dispatch t f st (r .reached) k hk (s .waits) (supplier (st .table) k) supplier-at
@@ -99,7 +100,7 @@ waiting-falls tree t u k s hk d =
 
 none-supplied : (t : List ℤ) → allWaiting t ≡ 0 → (k : ℕ) → k < nodes → supplied t k ≡ false
 unfolding allWaiting
-none-supplied t e k hk = by-test (supplied t k) (λ h. absurd (none (supplied-facts t k h .waits))) (λ h. h)
+none-supplied t e k hk = by-test (supplied t k) (λ h. absurd (none (has-supplier t k h .waits))) (λ h. h)
   where
     none : 0 < waiting t k → ⊥
     none l = omega (arith, term-le-sum nodes k (waiting t) hk)
@@ -119,14 +120,14 @@ module _ (t : List ℤ) (f : InOrder t) where
             let k = next (st .table) in
             let s = supplier (st .table) k in
             let found = next-found (st .table) ne in
-            let facts = supplied-facts (st .table) k (found .1) in
+            let facts = has-supplier (st .table) k (found .1) in
             rw (lent-again n st ne)
             (lent-suffices n (dispatched st k s) (lent-settled t f st r k (found .0) facts)
             (omega (arith, waiting-falls (treeOf t) (st .table) (dispatched st k s .table) k s (found .0) (lent-dispatch t f st r k (found .0) facts))))
       ]
 
 -- What each dispatch of step 4 keeps, with what is known at it, step 4 keeps.
-pub lent-with : (t : List ℤ) → InOrder t → (P : State → Type 0) → ((st : State) → Settled t (st .table) → (k : ℕ) → k < nodes → Supplied (st .table) k → Dispatch (treeOf t) (st .table) (dispatched st k (supplier (st .table) k) .table) k (supplier (st .table) k) → P st → P (dispatched st k (supplier (st .table) k))) → (n : ℕ) (st : State) → Settled t (st .table) → P st → P (lent n st)
+pub lent-with : (t : List ℤ) → InOrder t → (P : State → Type 0) → ((st : State) → Settled t (st .table) → (k : ℕ) → k < nodes → HasSupplier (st .table) k → Dispatch (treeOf t) (st .table) (dispatched st k (supplier (st .table) k) .table) k (supplier (st .table) k) → P st → P (dispatched st k (supplier (st .table) k))) → (n : ℕ) (st : State) → Settled t (st .table) → P st → P (lent n st)
 lent-with t f P each n st r p =
     lent-keeps (λ s. Settled t (s .table) × P s)
     (λ s q k hk e. (lent-settled t f s (q .0) k hk e, each s (q .0) k hk e (lent-dispatch t f s (q .0) k hk e) (q .1)))

@@ -7,7 +7,7 @@ pub mod TakenOut
 pub mod Sweep
 pub mod Cut
 pub mod Grown
-pub mod Next
+pub mod Supplier
 pub mod Dispatch
 pub mod Served
 pub mod Lent

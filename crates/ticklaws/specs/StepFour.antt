@@ -17,9 +17,9 @@ pub record Choices (t : List ℤ) : Type 0 where
   pub oldest : (next t ≡ nobody → ⊥) → (i : ℕ) → i < waiting t (next t) → arrival t (next t) 0 ≤ arrival t (next t) i
   -- Where there is no next client, no request has a supplier.
   pub none : next t ≡ nobody → (k : ℕ) → k < nodes → supplied t k ≡ false
-  -- The clients may be looked at in any order, and more than once.
+  -- The clients may be looked at in any order, and more than once; only those whose oldest request has a supplier must be.
   pub any-order :
-      (n : ℕ) (order : ℕ → ℕ) → ((i : ℕ) → i < n → order i < nodes) → ((k : ℕ) → k < nodes → SeenIn n order k)
+      (n : ℕ) (order : ℕ → ℕ) → ((i : ℕ) → i < n → order i < nodes) → ((k : ℕ) → k < nodes → supplied t k ≡ true → SeenIn n order k)
       → forBelow n (λ i best. choice t (order i) best) nobody ≡ next t
 
 -- Dispatch n of step 4, counted from 0, is made by a choice in the table that the n before it left.

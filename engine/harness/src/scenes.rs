@@ -1,7 +1,7 @@
 //! Lists of steps with known numbers: the edges of document 01 with the costs of document 02's request (a), every end of
 //! the ranges of cost, the grains nobody gets before and after every change, what step 4 picks, every call at wrong
-//! lengths and at every limit, a plan cut short, lengthened and changed byte by byte, and a table damaged in every clause of "in order". Each
-//! begins with two zeroed tables.
+//! lengths and at every limit, a plan cut short, lengthened and changed byte by byte, and a table damaged in every
+//! clause of "in order". Each begins with two zeroed tables.
 
 use hds_engine::cost::{cost, largest_size, RANGE_ENDS};
 use hds_engine::damage;

@@ -374,7 +374,7 @@ fn the_judge_is_quiet_on_the_engine() {
     for (seeds, profile) in [(0..120, Profile::Clean), (0..60, Profile::Family)] {
         for seed in seeds {
             let steps = run(seed, 400, profile);
-            assert_eq!(watch(&mut Engine, &steps), [], "seed {seed}");
+            assert_eq!(watch(&mut Engine, &steps), [], "{profile:?}, seed {seed}");
         }
     }
 }

@@ -28,7 +28,7 @@ struct Counts {
 
 fn main() -> ExitCode {
     let numbers: Vec<u64> = std::env::args().skip(1).filter_map(|text| text.parse().ok()).collect();
-    let most = numbers.first().copied().unwrap_or(1_000_000) as usize;
+    let most = numbers.first().copied().unwrap_or(1_500_000) as usize;
     let first = numbers.get(1).copied().unwrap_or(1);
     let began = Instant::now();
     match compare(most, first) {
@@ -58,10 +58,10 @@ fn compare(most: usize, first: u64) -> Result<Counts, String> {
     while random < most {
         for profile in [Profile::Wild, Profile::Clean, Profile::Family] {
             let steps = run(seed, LENGTH, profile);
-            compared(seed, &steps).map_err(|difference| difference.to_string())?;
+            compared(seed, &steps).map_err(|difference| format!("{profile:?}, {difference}"))?;
             if profile != Profile::Wild {
                 if let Some(violation) = judge::watch(&mut Cabinet, &steps).first() {
-                    return Err(format!("seed {seed}: {violation}"));
+                    return Err(format!("{profile:?}, seed {seed}: {violation}"));
                 }
                 counts.judged += 1;
             }

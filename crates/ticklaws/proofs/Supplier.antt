@@ -1,5 +1,4 @@
--- The supplier of a request: one that is found stands on the way and has enough balance; where none is found, no node on the
--- way has.
+-- The supplier of a request stands on the way up from its client; where there is none, no node on the way has enough balance.
 use Prim.Native.Nat.{ℕ, zero, suc, _<_}
 use mathlib.Core.Path.{_≡_, refl}
 use mathlib.Core.Bool.{true, false}
@@ -10,25 +9,13 @@ use Rattle.numbers.proofs.Tests.{by-test, true-false}
 use Rattle.numbers.proofs.Every.{holds-with, none-left}
 use Rattle.table.specs.Places.{waiting, size}
 use Rattle.table.specs.Tree.{treeOf, onWay, atOrAbove}
-use Rattle.table.specs.Tick.{grains, enough, supplierFrom, supply, isFound, supplier, steps, supplied}
-use Rattle.table.proofs.Choice.{has-supplier}
+use Rattle.table.specs.Tick.{grains, enough, supplierFrom, supply, isFound, supplier, stepsAbove, supplied}
+use Rattle.table.specs.Choice.{HasSupplier}
 use Rattle.ticklaws.proofs.Way.{way-top, way-cases, way-above}
 
--- The oldest request of client k has a supplier.
-pub record Supplied (t : List ℤ) (k : ℕ) : Type 0 where
-  pub waits : 0 < waiting t k
-  pub way : atOrAbove (treeOf t) k (supplier t k) ≡ true
-  pub enough : enough t (grains (size t k 0)) (supplier t k) ≡ true
-
-pub supplied-facts : (t : List ℤ) (k : ℕ) → supplied t k ≡ true → Supplied t k
+pub supplier-way : (t : List ℤ) (k : ℕ) → HasSupplier t k → atOrAbove (treeOf t) k (supplier t k) ≡ true
 unfolding atOrAbove
-supplied-facts t k h =
-    let s = has-supplier t k h in
-    record {
-      waits = s .waits;
-      way = rw (s .node) (way-above (treeOf t) (steps t k) (treeOf t .level k) k (s .within));
-      enough = s .enough;
-    }
+supplier-way t k s = rw (s .node) (way-above (treeOf t) (stepsAbove t k) (treeOf t .level k) k (s .within))
 
 none-on-way : (t : List ℤ) (amount n l k : ℕ) → isFound (supplierFrom t amount n l k) ≡ false → (j : ℕ) → onWay (treeOf t) l k j ≡ true → enough t amount j ≡ false
 unfolding supplierFrom isFound
