@@ -1,15 +1,18 @@
 //! The second engine of the disk share controller.
 //!
 //! It is written from document 01 ("Hierarchical Disk Sharing: the account
-//! table and its calls") and document 02 up to request (c) alone, to check
+//! table and its calls") and document 02 up to request (d) alone, to check
 //! another implementation of them call by call. Quoted words in the comments are
 //! the documents'.
 //!
 //! * The engine: [`table`], [`order`], [`rates`], [`cost`](mod@cost), `calls`,
-//!   `tick`, [`plan`], [`mod@print`], behind the trait [`Controller`].
+//!   `tick`, [`plan`], [`mod@print`], behind the trait [`Controller`], and
+//!   [`load`].
 //! * The checks: [`judge`] (demand 3), [`random`] with [`damage`] and
 //!   [`plans`] (whole runs of calls), [`steps`] and [`differential`] (two
-//!   controllers side by side), [`faulty`] (controllers with known faults).
+//!   controllers side by side), [`faulty`] (controllers with known faults),
+//!   [`loads`] and [`faulty_load`] (inputs of the load, and loads with known
+//!   faults).
 
 #![forbid(unsafe_code)]
 #![warn(missing_docs)]
@@ -22,9 +25,12 @@ pub mod damage;
 pub mod differential;
 mod families;
 pub mod faulty;
+pub mod faulty_load;
 mod faulty_parts;
 mod faulty_picks;
 pub mod judge;
+pub mod load;
+pub mod loads;
 pub mod order;
 pub mod plan;
 pub mod plans;

@@ -25,18 +25,10 @@ use Rattle.layout.specs.Kinds.{sortOf, shareKindOf}
 use Rattle.layout.specs.Format.{countIn, entryIn, planIn, entryFormed, formed}
 use Rattle.planlaws.specs.Reading.{joinOf, entryRefusal, afterEntry, afterEntries, entriesRefusal, openedFor, joinedFor, rising, planRefusal, planTable, checkAnswer}
 use Rattle.planlaws.proofs.Accepted.{after-none, after-suc, entries-none, entries-suc, accepted-plan, plan-table, opened-for}
-use Rattle.report.specs.Text.{ascii, decimalWithin, decimal, sortText, nodeLine, linesOf, refusedLine, reportOf}
+use Rattle.text.specs.Text.{ascii, decimalWithin, decimal, refusedLine}
+use Rattle.report.specs.Text.{sortText, nodeLine, linesOf, reportOf}
 use Rattle.report.proofs.Texts.{accepted-report}
 use Rattle.report.proofs.Renewed.{lineIn, lines-renewed}
-
--- The least and the greatest number of 64 bits.
-pub decimal-least : decimal 0 ≡ ascii "0"
-unfolding decimal decimalWithin ascii
-decimal-least = refl
-
-pub decimal-greatest : decimal 18446744073709551615 ≡ ascii "18446744073709551615"
-unfolding decimal decimalWithin ascii
-decimal-greatest = refl
 
 -- Empty input.
 pub empty-input : reportOf [] ≡ ascii "refused 14\n"

@@ -1,5 +1,3 @@
-pub mod Appending
-pub mod Decimal
 pub mod Lines
 pub mod Texts
 pub mod Renewed

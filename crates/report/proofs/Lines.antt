@@ -1,5 +1,5 @@
 -- How long a line can be: the digits of the node, the word of the sort, the digits of the rate and the end.
-use Prim.Native.Nat.{ℕ, zero, suc, _+_, _*_, _≤_}
+use Prim.Native.Nat.{ℕ, _+_, _*_, _≤_}
 use mathlib.Core.Path.{_≡_, sym}
 use mathlib.Core.Bool.{Bool, true, false}
 use mathlib.Core.List.{List, []}
@@ -10,10 +10,12 @@ use Rattle.numbers.proofs.Tests.{by-test, cond-true, cond-false}
 use Rattle.table.specs.Places.{rate}
 use Rattle.table.specs.Tree.{treeOf, there, isClass}
 use Rattle.layout.specs.Bytes.{bytesBelow}
-use Rattle.report.specs.Text.{longestSort, longestLine, ascii, decimal, sortText, nodeLine, line}
-use Rattle.report.specs.Appended.{Appended}
-use Rattle.report.proofs.Appending.{append-more}
-use Rattle.report.proofs.Decimal.{decimal-short}
+use Rattle.text.specs.Text.{ascii, decimal}
+use Rattle.report.specs.Text.{longestSort, longestLine, sortText, nodeLine, line}
+use Rattle.text.specs.Appended.{Appended}
+use Rattle.text.proofs.Below.{bytes-short}
+use Rattle.text.proofs.Appending.{append-more}
+use Rattle.text.proofs.Decimal.{decimal-short}
 
 pub sort-short : (class : Bool) → length (sortText class) ≤ longestSort
 unfolding sortText ascii
@@ -55,6 +57,4 @@ module _ (t : List ℤ) where
       (λ h. rw (line-none k h) (omega arith))
 
   pub lines-short : (k : ℕ) → length (bytesBelow k (line t)) ≤ longestLine * k
-  unfolding bytesBelow
-  lines-short zero = omega arith
-  lines-short (suc k) = omega (arith, length-append (bytesBelow k (line t)) (line t k), lines-short k, line-short k)
+  lines-short k = bytes-short k longestLine (line t) line-short

@@ -1,9 +1,8 @@
 -- The lines of a table whose rates were renewed show the rates of the rates section.
-use Prim.Native.Nat.{ℕ, zero, suc, _<_}
-use mathlib.Core.Path.{_≡_, refl, sym, ap, _∙_}
+use Prim.Native.Nat.{ℕ, _<_}
+use mathlib.Core.Path.{_≡_, sym, ap, _∙_}
 use mathlib.Core.Bool.{cond}
 use mathlib.Core.List.{List, []}
-use native.Mathlib.Omega.{arith}
 use lib.ListN.{length}
 use lib.IntN.{ℤ}
 use Rattle.numbers.specs.Whole.{plus}
@@ -14,17 +13,13 @@ use Rattle.table.specs.Tree.{Tree, treeOf, there, isClass}
 use Rattle.table.specs.Rates.{rateIn, renewed}
 use Rattle.treelaws.proofs.Renewed.{renewed-rate, renewed-tree}
 use Rattle.layout.specs.Bytes.{bytesBelow}
+use Rattle.text.proofs.Below.{bytes-cong}
 use Rattle.report.specs.Text.{nodeLine, line, linesOf}
 use Rattle.report.proofs.Lines.{line-of, line-none}
 
 -- The line of node k by the tree and the disk's rate.
 unfoldable pub lineIn : Tree → ℕ → ℕ → List ℕ
 lineIn tree disk k = cond (there tree k) (nodeLine k (isClass tree k) (rateIn tree disk k)) []
-
-bytes-cong : (n : ℕ) (f g : ℕ → List ℕ) → ((k : ℕ) → k < n → f k ≡ g k) → bytesBelow n f ≡ bytesBelow n g
-unfolding bytesBelow
-bytes-cong zero f g h = refl
-bytes-cong (suc n) f g h = rw (bytes-cong n f g (λ k l. h k (omega arith)), h n (omega arith))
 
 module _ (t : List ℤ) (long : length t ≡ tableLength) where
   line-renewed : (k : ℕ) → k < nodes → line (renewed t) k ≡ lineIn (treeOf t) (rate t root) k

@@ -9,7 +9,8 @@ use Rattle.table.specs.Refusals.{numberTold}
 use Rattle.table.specs.Calls.{blank}
 use Rattle.table.proofs.Refusals.{number-outcome}
 use Rattle.planlaws.specs.Reading.{planTable, planAnswer, checkAnswer}
-use Rattle.report.specs.Text.{linesOf, refusedLine, reportOf}
+use Rattle.text.specs.Text.{refusedLine}
+use Rattle.report.specs.Text.{linesOf, reportOf}
 
 -- The number told of a plan read into a table of zeros.
 pub told-check : (s : List ℕ) → numberTold (planAnswer blank s) ≡ checkAnswer s

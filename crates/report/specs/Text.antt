@@ -1,48 +1,26 @@
 -- The text that is printed for a plan. Document 01, "Same tree, and the plan file".
-use Prim.Native.Nat.{ℕ, zero, suc, _+_, _/_, _%_}
-use Prim.Native.Char.{code}
-use Prim.Native.String.{String, [] as end, _∷_ as _then_}
+use Prim.Native.Nat.{ℕ, _+_}
 use mathlib.Core.Bool.{Bool, cond}
-use mathlib.Core.List.{List, [], _∷_, _++_}
-use lib.Dec.{eqb, ltb}
+use mathlib.Core.List.{List, [], _++_}
+use lib.Dec.{eqb}
 use lib.IntN.{ℤ}
 use Rattle.table.specs.Limits.{nodes}
 use Rattle.table.specs.Places.{rate}
 use Rattle.table.specs.Tree.{treeOf, there, isClass}
 use Rattle.table.specs.Calls.{blank}
 use Rattle.layout.specs.Bytes.{bytesBelow}
+use Rattle.text.specs.Text.{mostDigits, ascii, decimal, refusedLine}
 use Rattle.planlaws.specs.Reading.{planTable, checkAnswer}
 
--- The ASCII codes of a text.
-unfoldable pub ascii : String → List ℕ
-ascii end = []
-ascii (c then s) = code c ∷ ascii s
-
--- What the text's buffer holds, and how long a number of 64 bits, the word of a sort and a line can be.
+-- What the text's buffer holds, and how long the word of a sort and a line can be.
 abbrev pub textLength : ℕ
 textLength = 4096
-
-abbrev pub mostDigits : ℕ
-mostDigits = 20
 
 abbrev pub longestSort : ℕ
 longestSort = 8
 
 abbrev pub longestLine : ℕ
 longestLine = mostDigits + longestSort + mostDigits + 1
-
--- The ASCII code of a digit.
-abbrev pub digit : ℕ → ℕ
-digit d = code "0" + d
-
--- The decimal digits of n without leading zeros, where n is below 10 ^ m.
-unfoldable pub decimalWithin : ℕ → ℕ → List ℕ
-decimalWithin zero n = []
-decimalWithin (suc m) n = cond (ltb n 10) (digit n ∷ []) (decimalWithin m (n / 10) ++ (digit (n % 10) ∷ []))
-
--- The same for every number of 64 bits.
-unfoldable pub decimal : ℕ → List ℕ
-decimal n = decimalWithin mostDigits n
 
 -- The word of a sort, and the line of a node: node, sort, rate.
 unfoldable pub sortText : Bool → List ℕ
@@ -58,10 +36,6 @@ line t k = cond (there (treeOf t) k) (nodeLine k (isClass (treeOf t) k) (rate t 
 -- One line for each node in rising number.
 unfoldable pub linesOf : List ℤ → List ℕ
 linesOf t = bytesBelow nodes (line t)
-
--- The line of a refused plan.
-unfoldable pub refusedLine : ℕ → List ℕ
-refusedLine number = ascii "refused " ++ decimal number ++ ascii "\n"
 
 -- The text for plan bytes: the lines of the table that they are read into, or the line of their refusal.
 unfoldable pub reportOf : List ℕ → List ℕ

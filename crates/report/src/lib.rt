@@ -6,11 +6,8 @@ ghost use lib.ListN.{length};
 ghost use Rattle.io.specs.Counts.{Counts};
 ghost use Rattle.table.specs.Limits.{tableLength, nodes};
 ghost use Rattle.layout.specs.Written.{written};
-ghost use Rattle.report.specs.Appended.{Appended};
-ghost use Rattle.report.specs.Text.{textLength, longestSort, longestLine, sortText, nodeLine, line, linesOf, refusedLine, reportOf};
-
-mod pieces;
-
+ghost use Rattle.text.specs.Appended.{Appended};
+ghost use Rattle.report.specs.Text.{textLength, longestSort, longestLine, sortText, nodeLine, line, linesOf, reportOf};
 use rating::tree;
 use table::Table;
 
@@ -23,9 +20,9 @@ fn put_sort(text: &mut [u8], a: usize, class: bool) -> usize
     ensures { λ r. ⌜ Appended (now (text .entry)) a (sortText class) (now (text .exit)) r ⌝ }
 {
     if class {
-        pieces::put_text(text, a, b" class ")
+        text::put_text(text, a, b" class ")
     } else {
-        pieces::put_text(text, a, b" client ")
+        text::put_text(text, a, b" client ")
     }
 }
 
@@ -34,10 +31,10 @@ fn put_node(text: &mut [u8], a: usize, node: u64, class: bool, rate: u64) -> usi
     requires { ⌜ a + longestLine ≤ length (now text) ⌝ }
     ensures { λ r. ⌜ Appended (now (text .entry)) a (nodeLine node class rate) (now (text .exit)) r ⌝ }
 {
-    let sort_at = pieces::put_decimal(text, a, node);
+    let sort_at = text::put_decimal(text, a, node);
     let rate_at = put_sort(text, sort_at, class);
-    let end = pieces::put_decimal(text, rate_at, rate);
-    pieces::put_text(text, end, b"\n")
+    let end = text::put_decimal(text, rate_at, rate);
+    text::put_text(text, end, b"\n")
 }
 
 // The line of node k of a table where it is there, else nothing.
@@ -67,16 +64,6 @@ fn put_lines(text: &mut [u8], table: &[i64]) -> usize
     a
 }
 
-// The line of a refused plan.
-fn put_refused(text: &mut [u8], number: u64) -> usize
-    requires { ⌜ textLength ≤ length (now text) ⌝ }
-    ensures { λ r. ⌜ Appended (now (text .entry)) 0 (refusedLine number) (now (text .exit)) r ⌝ }
-{
-    let number_at = pieces::put_text(text, 0, b"refused ");
-    let end = pieces::put_decimal(text, number_at, number);
-    pieces::put_text(text, end, b"\n")
-}
-
 // Puts the text that is printed for a plan at the start of a buffer, touches nothing beyond it, and answers its length.
 pub fn report(contents: &[u8], text: &mut [u8; TEXT_LENGTH]) -> usize
     ensures count { λ r. ⌜ Counts r (now (text .exit)) ⌝ }
@@ -89,6 +76,6 @@ pub fn report(contents: &[u8], text: &mut [u8; TEXT_LENGTH]) -> usize
     if number == 0 {
         put_lines(text, &table)
     } else {
-        put_refused(text, number)
+        text::put_refused(text, number)
     }
 }

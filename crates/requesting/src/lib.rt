@@ -69,6 +69,16 @@ fn tree_refusal(table: &[i64], k: usize, size: u64) -> u64
     0
 }
 
+// A request at node k of a table that is known to be in order. Where it is refused, nothing is written.
+pub fn request_in_order(table: &mut [i64], k: usize, tag: i64, size: u64)
+    requires { ⌜ (inOrder (now table) ≡ true) × (requestLimits (pos k) (pos size) ≡ true) × (size < 2 ^ 63) ⌝ }
+    ensures { λ _. ⌜ now (table .exit) ≡ requestTable (now (table .entry)) (pos k) tag (pos size) ⌝ }
+{
+    if tree_refusal(table, k, size) == 0 {
+        write_request(table, k, tag, numbers::whole(size));
+    }
+}
+
 // The number of the first cause that turns a request back, or 0.
 fn request_refusal(table: &[i64], client: i64, tag: i64, size: i64) -> u64
     ensures first { λ r. ⌜ r ≡ requestRefusal (now (table .entry)) client tag size ⌝ }

@@ -5,6 +5,8 @@ mod edges;
 mod family;
 mod faults;
 mod judging;
+mod load;
+mod loads;
 mod lost_grains;
 mod observer;
 mod ordering;

@@ -2,7 +2,7 @@
 use mathlib.Core.Path.{sym, _∙_}
 use borrow.Author.Tests.{not-true, not-false}
 use Rattle.table.specs.Places.{rate}
-use Rattle.report.proofs.Appending.{append-as, append-none}
+use Rattle.text.proofs.Appending.{append-as, append-none}
 use Rattle.report.proofs.Lines.{line-of, line-none}
 use borrow.Author.Needs.{needs}
 use Rattle.report.proofs.put_line.Statement.{statement}

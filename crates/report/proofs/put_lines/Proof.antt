@@ -7,9 +7,9 @@ use lib.ListN.{length}
 use Rattle.table.specs.Limits.{nodes}
 use Rattle.layout.specs.Bytes.{bytesBelow}
 use Rattle.layout.proofs.Shows.{bytes-next}
-use Rattle.report.specs.Appended.{Appended}
+use Rattle.text.specs.Appended.{Appended}
 use Rattle.report.specs.Text.{line, linesOf}
-use Rattle.report.proofs.Appending.{append-as, append-none, append-more}
+use Rattle.text.proofs.Appending.{append-as, append-none, append-more}
 use Rattle.report.proofs.Lines.{lines-short}
 use Rattle.report.proofs.put_lines.Statement.{statement}
 use Rattle.report.proofs.put_lines.Tie as tie

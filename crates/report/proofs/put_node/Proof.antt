@@ -1,7 +1,7 @@
 -- `report::put_node` meets its contract: node, sort, rate and the line's end stand one behind the other.
 use native.Mathlib.Omega.{arith}
-use Rattle.report.specs.Text.{ascii}
-use Rattle.report.proofs.Decimal.{decimal-short}
+use Rattle.text.specs.Text.{ascii}
+use Rattle.text.proofs.Decimal.{decimal-short}
 use Rattle.report.proofs.Lines.{sort-short, node-appended}
 use borrow.Author.Needs.{needs}
 use Rattle.report.proofs.put_node.Statement.{statement}

@@ -1,6 +1,7 @@
 -- `report::put_sort` meets its contract: a class's word or a client's.
-use Rattle.report.specs.Text.{ascii, sortText}
-use Rattle.report.proofs.Appending.{append-as}
+use Rattle.text.specs.Text.{ascii}
+use Rattle.report.specs.Text.{sortText}
+use Rattle.text.proofs.Appending.{append-as}
 use Rattle.numbers.proofs.Tests.{cond-true, cond-false}
 use mathlib.Core.Path.{sym}
 use borrow.Author.Needs.{needs}

@@ -5,8 +5,9 @@ use borrow.Author.Needs.{needs}
 use Rattle.table.specs.Refusals.{numberTold}
 use Rattle.table.specs.Calls.{blank}
 use Rattle.planlaws.specs.Reading.{checkAnswer}
-use Rattle.report.specs.Text.{linesOf, refusedLine}
-use Rattle.report.proofs.Appending.{append-as, appended-counts}
+use Rattle.text.specs.Text.{refusedLine}
+use Rattle.report.specs.Text.{linesOf}
+use Rattle.text.proofs.Appending.{append-as, appended-counts}
 use Rattle.report.proofs.Texts.{told-check, accepted-report, refused-report}
 use Rattle.report.proofs.report.Statement.{statement}
 use Rattle.report.proofs.report.Tie as tie

@@ -1,25 +1,21 @@
 -- `requesting::request` meets its contract: refused, nothing is written; accepted, the request stands behind
 -- the others and the new count is returned.
-use Prim.Native.Nat.{ℕ, suc, _+_, _<_, _^_}
+use Prim.Native.Nat.{suc, _+_}
 use mathlib.Core.Path.{_≡_, sym, ap, _∙_}
-use mathlib.Core.List.{List, [], _∷_}
+use mathlib.Core.List.{[], _∷_}
 use native.Mathlib.Omega.{arith}
 use native.Mathlib.Numerals.{add-one}
 use borrow.Author.Needs.{needs, sfits-of}
-use lib.ListN.{length}
 use lib.IntN.{ℤ, pos}
 use mir.Syntax.{w64}
 use mir.ValLaws.{toZ-ofZ}
 use Rattle.numbers.specs.Whole.{plus}
-use Rattle.numbers.proofs.Parts.{zarith}
-use Rattle.table.specs.Limits.{tableLength, nodes, mostWaiting}
-use Rattle.table.specs.Places.{count, waiting}
+use Rattle.table.specs.Places.{count}
 use Rattle.table.specs.Answers.{told}
 use Rattle.table.specs.Refusals.{accepted, refused}
 use Rattle.table.specs.Calls.{requestRefusal, requestTable, requestAnswer}
-use Rattle.table.proofs.Facts.{facts}
 use Rattle.table.proofs.Refusals.{kept-new, kept-old, outcome-accepted, outcome-refused, natural-of}
-use Rattle.table.proofs.Passed.{request-passed}
+use Rattle.requesting.proofs.Room.{Room, accepted-room}
 use Rattle.requesting.proofs.request.Statement.{statement}
 use Rattle.requesting.proofs.request.Tie as tie
 
@@ -35,20 +31,8 @@ none c = sym (number (c .before)) ∙ c .if1 .left
 abbrev start : tie.Else1 → tie.Start
 start c = c .before .before .before
 
--- There is room for the request and for its number.
-record Room (t : List ℤ) (k : ℕ) : Type 0 where
-  long : length t ≡ tableLength
-  node : k < nodes
-  places : waiting t k < mostWaiting
-  numbers : count t + 1 < 2 ^ 63
-
 room : (c : tie.Else1) → let s = start c in Room (s .args .table .now) (plus (s .args .client))
-unfolding count waiting
-room c =
-    let p = request-passed _ _ _ _ (none c) in
-    let f = facts _ (p .order) in
-    let waits = f .limits _ (p .node) (p .there) .waiting in
-    record { long = f .long; node = p .node; places = omega (arith, zarith, p .room); numbers = omega (arith, zarith, f .counted) }
+room c = accepted-room _ _ _ _ (none c)
 
 -- The client and its new arrival number, where the request is accepted.
 abbrev accepts : tie.After-natural → tie.Else1

@@ -1,10 +1,16 @@
 //! How long the archive's calls take, over the second engine's and over one plain pass through the table: ratios of
-//! medians, both engines on copies of the same tables. `bench [rounds]`.
+//! medians, both engines on copies of the same tables. The last row is the program `load` of the repository's target/bin over
+//! the second engine's, the ratio of the least times. `bench [rounds]`.
 
+use std::fs;
 use std::hint::black_box;
+use std::io::Write;
+use std::path::Path;
+use std::process::{Command, Stdio};
 use std::time::Instant;
 
 use harness::{trees, Cabinet};
+use hds_engine::loads;
 use hds_engine::table::{
     at, classes, get, waiting_in_all, BALANCE, CLIENT, DEPTH, NODES, PARENT, ROOT, WEIGHTED,
 };
@@ -14,6 +20,12 @@ use hds_engine::{Controller, Engine, NewNode};
 const COPIES: usize = 16;
 /// Calls of a round.
 const CALLS: usize = 64;
+/// Ticks of the load.
+const LOAD_TICKS: u32 = 1_000_000;
+/// How often each of the two programs runs the load.
+const LOAD_TURNS: usize = 15;
+/// The load's ratio at most.
+const LOAD_BOUND: f64 = 1.00;
 
 /// A call to be measured, on a table and a list.
 type Call = Box<dyn Fn(&mut dyn Controller, &mut [i64], &mut [i64])>;
@@ -30,8 +42,19 @@ fn main() {
         let [ours, theirs] = measure(rounds, &table, &call);
         println!("| {name} | {:.2} | {:.1} |", ours / theirs, ours / plain);
     }
+    let load = load_ratio();
+    if let Ok(ratio) = load {
+        println!("| program load, {LOAD_TICKS} ticks of examples/studio.plan | {ratio:.2} | |");
+    }
     let quick = pass(rounds, all_at_once);
     println!();
+    match load {
+        Ok(ratio) if ratio <= LOAD_BOUND => {
+            println!("The load is within its bound of {LOAD_BOUND:.2}.")
+        }
+        Ok(ratio) => println!("The load is ABOVE its bound of {LOAD_BOUND:.2}: {ratio:.3}."),
+        Err(what) => println!("The load was NOT measured: {what}."),
+    }
     println!("A plain pass adds the 2,568 numbers one by one; added several at a time it takes {:.2} of that.", quick / plain);
 }
 
@@ -189,6 +212,48 @@ fn measure(rounds: usize, table: &[i64], call: &Call) -> [f64; 2] {
         }
     }
     times.map(median)
+}
+
+/// The least time of the program `load` over that of the second engine's, from turns, on seed 1 and the sample plan. Both
+/// must print the same.
+fn load_ratio() -> Result<f64, String> {
+    let root = Path::new(env!("CARGO_MANIFEST_DIR")).join("../..");
+    let names = ["target/bin/load", "engine/target/timed/load"];
+    if let Some(name) = names.iter().find(|name| !root.join(name).is_file()) {
+        return Err(format!("{name} is not there"));
+    }
+    let plan = fs::read(root.join("examples/studio.plan"))
+        .map_err(|error| format!("examples/studio.plan: {error}"))?;
+    let input = loads::input(1, LOAD_TICKS, &plan);
+    let mut least = [f64::INFINITY; 2];
+    let mut texts = [Vec::new(), Vec::new()];
+    for _ in 0..LOAD_TURNS {
+        for which in [0, 1] {
+            let began = Instant::now();
+            let text = output(&root.join(names[which]), &input)
+                .map_err(|error| format!("{}: {error}", names[which]))?;
+            least[which] = least[which].min(began.elapsed().as_secs_f64());
+            texts[which] = text;
+        }
+    }
+    if texts[0] != texts[1] {
+        return Err("the two programs print different texts".into());
+    }
+    Ok(least[0] / least[1])
+}
+
+/// What a program prints of an input, read whole from a pipe.
+fn output(program: &Path, input: &[u8]) -> std::io::Result<Vec<u8>> {
+    let mut child = Command::new(program).stdin(Stdio::piped()).stdout(Stdio::piped()).spawn()?;
+    if let Some(mut stdin) = child.stdin.take() {
+        stdin.write_all(input)?;
+    }
+    let output = child.wait_with_output()?;
+    if output.status.success() {
+        Ok(output.stdout)
+    } else {
+        Err(std::io::Error::other("it failed"))
+    }
 }
 
 /// The median of the time of one pass through a table.

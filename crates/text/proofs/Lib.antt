@@ -1,0 +1,4 @@
+pub mod Appending
+pub mod Below
+pub mod Decimal
+pub mod Example
