@@ -10,7 +10,7 @@ use Rattle.table.specs.Tree.{Tree, treeOf, isClient}
 use Rattle.table.specs.Calls.{requestTable}
 use Rattle.draws.specs.Draws.{stateAfter, draw}
 
--- The clients below node n, by rising number, and all clients.
+-- The clients whose numbers are below n, by rising number, and all clients.
 unfoldable pub clientsBelow : Tree → ℕ → List ℕ
 clientsBelow tree zero = []
 clientsBelow tree (suc n) = clientsBelow tree n ++ cond (isClient tree n) (n ∷ []) []

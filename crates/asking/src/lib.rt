@@ -29,18 +29,18 @@ pub fn list_clients(table: &[i64], list: &mut [u64]) -> usize
 }
 
 // Makes a load's next request, where its tree has clients, and answers the state of the draws after it. The table is known to be in
-// order, and its clients are listed.
-pub fn ask(table: &mut [i64], listed: &[u64], state: u32) -> u32
-    requires { ⌜ (inOrder (now table) ≡ true) × (now listed ≡ clients (now table)) ⌝ }
+// order, and the askers are its clients.
+pub fn ask(table: &mut [i64], askers: &[u64], state: u32) -> u32
+    requires { ⌜ (inOrder (now table) ≡ true) × (now askers ≡ clients (now table)) ⌝ }
     ensures { λ r. ⌜ loadOf (now (table .exit)) r ≡ asked (loadOf (now (table .entry)) state) ⌝ }
 {
-    if listed.len() == 0 {
+    if askers.len() == 0 {
         return state;
     }
     let first = draws::next_state(state);
     let second = draws::next_state(first);
     let third = draws::next_state(second);
-    let client = listed[draws::upper(first) as usize % listed.len()];
+    let client = askers[draws::upper(first) as usize % askers.len()];
     let depth = Table::natural(table, client as usize, Table::DEPTH);
     let size = draws::upper(second) % depth + 1;
     let tag = numbers::whole(draws::upper(third));

@@ -1,4 +1,4 @@
--- The first ten draws from seed 1, worked out by hand.
+-- The first ten draws from seed 1, as docs/MANUAL.md has them.
 use mathlib.Core.Path.{_≡_, refl}
 use mathlib.Core.List.{[], _∷_}
 use Rattle.draws.specs.Draws.{nextState, stateAfter, upper, draw}

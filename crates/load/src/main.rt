@@ -1,45 +1,58 @@
 // Prints the dispatches of a load that can be repeated, a line for each: tick, client, tag, size, supplier. Standard input has the
 // seed, the number of ticks and a plan. Document 02, (d).
 ghost use mathlib.Core.Path.{_≡_};
-ghost use Rattle.loads.specs.Parts.{opening, partOf};
+ghost use mathlib.Core.Bool.{false};
+ghost use Rattle.loadtext.specs.Parts.{opening, ticksAllowed, partOf};
 use libc::STDERR_FILENO;
 use libc::STDIN_FILENO;
 use libc::STDOUT_FILENO;
 use table::Table;
 
-// Writes what stands before the first tick of an input.
-fn write_opening(part: &[u8], input: &[u8]) -> bool
+// Up to which tick the text was handed on to be written, and whether writing failed.
+struct Sent {
+    tick: u64,
+    failed: bool,
+}
+
+// Hands on what stands before the first tick of an input.
+fn send_opening(part: &[u8], input: &[u8]) -> Sent
     requires { ⌜ now part ≡ opening (now input) ⌝ }
+    ensures { λ r. ⌜ r .tick ≡ 0 ⌝ }
 {
-    io::write_all(STDOUT_FILENO, part)
+    let failed = !io::write_all(STDOUT_FILENO, part);
+    Sent { tick: 0, failed }
 }
 
-// Writes the part of an input that has the ticks behind number made, up to number last.
-fn write_part(part: &[u8], input: &[u8], made: u64, last: u64) -> bool
-    requires { ⌜ now part ≡ partOf (now input) made last ⌝ }
+// Hands on the part of an input behind what was sent, up to a last tick.
+fn send_part(part: &[u8], input: &[u8], sent: Sent, last: u64) -> Sent
+    requires { ⌜ now part ≡ partOf (now input) (sent .tick) last ⌝ }
+    ensures { λ r. ⌜ r .tick ≡ last ⌝ }
 {
-    io::write_all(STDOUT_FILENO, part)
+    let failed = !io::write_all(STDOUT_FILENO, part);
+    Sent { tick: last, failed }
 }
 
-// Writes the text of an input part by part, and answers whether all of it was written.
-fn run(input: &[u8]) -> bool {
+// Hands on the text of an input, part by part and up to its last tick, unless writing fails.
+fn send(input: &[u8]) -> Sent
+    ensures { λ r. ⌜ (r .failed ≡ false → r .tick ≡ ticksAllowed (now (input .entry))) ⌝ }
+{
     let mut table = [0i64; Table::LENGTH];
     let mut text = io::large_buffer();
-    let mut run = loads::begin(&mut text, &mut table, input);
-    let mut written = write_opening(&text[..run.length], input);
-    while written && run.made < run.ticks {
-        let made = run.made;
-        run = loads::go_on(&mut text, &mut table, run);
-        written = write_part(&text[..run.length], input, made, run.made);
+    let mut progress = loadtext::begin(&mut text, &mut table, input);
+    let mut sent = send_opening(&text[..progress.length], input);
+    while !sent.failed && progress.made < progress.ticks {
+        progress = loadtext::go_on(&mut text, &mut table, progress);
+        sent = send_part(&text[..progress.length], input, sent, progress.made);
     }
-    written
+    sent
 }
 
-// The buffer is longer than any input with a good plan, so what does not fit into it is refused as reading refuses it.
+// Of an input the first 4096 bytes are read: with more, its text is the same (`first-bytes`, loadtext/proofs/Inputs.antt).
 fn main() {
     let mut input = io::buffer();
     let n = io::read_full(STDIN_FILENO, &mut input);
-    if !run(&input[..n]) {
+    let sent = send(&input[..n]);
+    if sent.failed {
         io::write_all(STDERR_FILENO, b"load: cannot write\n");
     }
 }

@@ -3,14 +3,17 @@ use Prim.Native.Nat.{ℕ, _≤_, _<_}
 use mathlib.Core.Path.{_≡_, refl, sym, ap, _∙_}
 use mathlib.Core.Bool.{true, false, not}
 use mathlib.Core.List.{List}
+use native.Mathlib.Omega.{arith}
 use borrow.Author.Tests.{eq-eqb, ne-eqb}
 use lib.ListN.{length, length-replicate}
 use lib.IntN.{ℤ, pos}
+use Rattle.numbers.proofs.Tests.{by-test}
 use Rattle.table.specs.Limits.{tableLength, nodes, lastLevel}
 use Rattle.table.specs.Tree.{treeOf}
 use Rattle.table.specs.Calls.{blank, openRefusal}
 use Rattle.table.proofs.Refusals.{first-here, first-past}
-use Rattle.layout.specs.Format.{countIn, planIn, formed}
+use Rattle.layout.specs.Format.{lastCount, planLength, countIn, planIn, formed}
+use Rattle.layout.proofs.Codec.{formed-facts}
 use Rattle.planlaws.specs.Reading.{afterEntries, entriesRefusal, openedFor, joinedFor, rising, planRefusal, checkAnswer}
 use Rattle.planlaws.proofs.Accepted.{refusing-here, refusing-past, entries-each, plan-refusal-any}
 use Rattle.planlaws.proofs.Entered.{shown-there, entered}
@@ -29,6 +32,12 @@ module _ (t : List ℤ) (s : List ℕ) (long : length t ≡ tableLength) where
   pub wrong-form : formed s ≡ false → planRefusal t s ≡ 14
   unfolding planRefusal
   wrong-form h = first-past 1 _ _ (ap not (eq-eqb (length t) tableLength long)) ∙ first-here 14 _ _ (ap not h)
+
+  -- No plan is so long.
+  pub too-long : planLength lastCount < length s → planRefusal t s ≡ 14
+  too-long more =
+      wrong-form
+      (by-test (formed s) (λ e. let f = formed-facts s e in absurd (omega (arith, f .long, f .count))) (λ e. e))
 
   module _ (right : formed s ≡ true) where
     pub wrong-open : (openRefusal t (pos (planIn s .rate)) (pos (planIn s .depth)) ≡ 0 → ⊥) → planRefusal t s ≡ openRefusal t (pos (planIn s .rate)) (pos (planIn s .depth))

@@ -3,7 +3,7 @@
 use libc::STDIN_FILENO;
 use libc::STDOUT_FILENO;
 
-// The buffer is longer than any plan, so what does not fit into it is refused as reading refuses it.
+// Of an input the first 4096 bytes are read: with more, its text is the same (`first-bytes`, report/proofs/Texts.antt).
 fn main() {
     let mut contents = io::buffer();
     let n = io::read_full(STDIN_FILENO, &mut contents);

@@ -28,9 +28,13 @@ decimalWithin (suc m) n = cond (ltb n 10) (digit n ∷ []) (decimalWithin m (n /
 unfoldable pub decimal : ℕ → List ℕ
 decimal n = decimalWithin mostDigits n
 
--- The line of a refusal, and how long it can be.
+-- The line of a refusal, and how long it can be: the word, the digits and the end.
 unfoldable pub refusedLine : ℕ → List ℕ
 refusedLine number = ascii "refused " ++ decimal number ++ ascii "\n"
 
 abbrev pub longestRefused : ℕ
-longestRefused = 9 + mostDigits
+longestRefused = 8 + mostDigits + 1
+
+-- How many bytes of an input are read at most.
+abbrev pub inputLength : ℕ
+inputLength = 4096

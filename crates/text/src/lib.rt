@@ -5,7 +5,7 @@ ghost use Rattle.text.specs.Appended.{Appended};
 ghost use Rattle.text.specs.Text.{mostDigits, longestRefused, decimal, refusedLine};
 
 // The most digits of a number of 64 bits.
-const MOST_DIGITS: usize = 20;
+pub const MOST_DIGITS: usize = 20;
 
 // Bytes as they are.
 pub fn put_text(text: &mut [u8], a: usize, piece: &[u8]) -> usize

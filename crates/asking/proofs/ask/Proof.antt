@@ -28,12 +28,12 @@ sizing c = c .before .before .before .before
 
 -- The client that the first draw picks.
 abbrev client : tie.After-upper → ℕ
-client c = let listed = start c .args .listed .now in getD listed (c .upper .result % length listed) 0
+client c = let xs = start c .args .askers .now in getD xs (c .upper .result % length xs) 0
 
 pick : (c : tie.After-upper) → Picked (start c .args .table .now) (c .upper .result) (client c)
 pick c = picked _ _ _ (start c .pre .1) (test c .if1 .left)
 
-index : (c : tie.After-upper) → let n = length (start c .args .listed .now) in c .upper .result % n < n
+index : (c : tie.After-upper) → let n = length (start c .args .askers .now) in c .upper .result % n < n
 index c = mod-lt (c .upper .result) (omega (arith, test c .if1 .left))
 
 -- Its depth, and the size that is drawn by it.

@@ -1,15 +1,15 @@
 -- `report::put_lines` meets its contract. The invariant: the lines of the nodes below k are put.
 use Prim.Native.Nat.{ℕ, _-_, _≤_}
-use mathlib.Core.Path.{_≡_, refl, sym, ap}
+use mathlib.Core.Path.{_≡_, refl, ap}
 use native.Mathlib.Omega.{arith}
 use borrow.Author.Needs.{needs}
 use lib.ListN.{length}
 use Rattle.table.specs.Limits.{nodes}
 use Rattle.layout.specs.Bytes.{bytesBelow}
-use Rattle.layout.proofs.Shows.{bytes-next}
 use Rattle.text.specs.Appended.{Appended}
 use Rattle.report.specs.Text.{line, linesOf}
-use Rattle.text.proofs.Appending.{append-as, append-none, append-more}
+use Rattle.text.proofs.Appending.{append-as, append-none}
+use Rattle.text.proofs.Below.{append-next}
 use Rattle.report.proofs.Lines.{lines-short}
 use Rattle.report.proofs.put_lines.Statement.{statement}
 use Rattle.report.proofs.put_lines.Tie as tie
@@ -43,7 +43,7 @@ loop-again c =
     let t = at .before .before .args .table .now in
     let k = at .loop .k in (
       omega arith,
-      append-as _ _ _ _ _ _ (sym (bytes-next k (line t))) (append-more _ _ _ _ _ _ _ _ (omega (arith, lines-short t k)) (at .loop .inv .1) (call .put-line .ensures)),
+      append-next _ _ _ _ _ _ k (line t) (omega (arith, lines-short t k)) (at .loop .inv .1) (call .put-line .ensures),
       search needs,
     )
 
