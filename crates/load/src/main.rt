@@ -2,6 +2,7 @@
 // seed, the number of ticks and a plan. Document 02, (d).
 ghost use mathlib.Core.Path.{_≡_};
 ghost use mathlib.Core.Bool.{false};
+ghost use Prim.Native.Nat.{_≤_};
 ghost use Rattle.loadtext.specs.Parts.{opening, ticksAllowed, partOf};
 use libc::STDERR_FILENO;
 use libc::STDIN_FILENO;
@@ -25,7 +26,7 @@ fn send_opening(part: &[u8], input: &[u8]) -> Sent
 
 // Hands on the part of an input behind what was sent, up to a last tick.
 fn send_part(part: &[u8], input: &[u8], sent: Sent, last: u64) -> Sent
-    requires { ⌜ now part ≡ partOf (now input) (sent .tick) last ⌝ }
+    requires { ⌜ (sent .tick ≤ last) × (now part ≡ partOf (now input) (sent .tick) last) ⌝ }
     ensures { λ r. ⌜ r .tick ≡ last ⌝ }
 {
     let failed = !io::write_all(STDOUT_FILENO, part);

@@ -81,8 +81,10 @@ slice-aggregate-send-part c = search needs
 send-part-requires : tie.Need-send-part-requires Inv-loop μ-loop
 send-part-requires c κs =
     let call = c .before .before .before in
-    let at = head (test call) in
-    part-stands _ _ _ _ _ _ _ _ _ (at .loop .inv .0) (left (test call)) (call .go-on .ensures .1 .0) _ (at .loop .inv .3)
+    let at = head (test call) in (
+      omega (arith, at .loop .inv .3, call .go-on .ensures .1 .1 .0),
+      part-stands _ _ _ _ _ _ _ _ _ (at .loop .inv .0) (left (test call)) (call .go-on .ensures .1 .0) _ (at .loop .inv .3),
+    )
 
 loop-less : tie.Need-loop-less Inv-loop μ-loop
 loop-less c =
