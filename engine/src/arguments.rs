@@ -53,6 +53,11 @@ pub(crate) fn class(rng: &mut Rng, table: &[i64]) -> usize {
     rng.pick(&all)
 }
 
+/// The class with the most children, the root where there is none.
+pub(crate) fn largest_class(table: &[i64]) -> usize {
+    classes(table).max_by_key(|&class| children(table, class).count()).unwrap_or(ROOT)
+}
+
 /// A number for a joining node, unused if there is one.
 pub(crate) fn unused_node(rng: &mut Rng, table: &[i64]) -> i64 {
     let unused: Vec<usize> = (1..NODES).filter(|&node| !is_used(table, node)).collect();

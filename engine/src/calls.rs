@@ -2,7 +2,8 @@
 //!
 //! The functions here are the bodies of the calls: refusal 1 was judged
 //! before, by [`crate::Engine`]. Each judges its refusals in rising order and
-//! writes nothing before the last of them.
+//! writes nothing before the last of them. A join, a leave and a change of share
+//! renew what stands below the node's class; all other rates stay.
 
 use crate::controller::{NewNode, Seen};
 use crate::cost::cost;
@@ -39,7 +40,7 @@ pub(crate) fn join(table: &mut [i64], new: &NewNode) -> Answer<i64> {
     set(table, node, KIND, new.kind);
     set(table, node, SHARE, new.share);
     set(table, node, DEPTH, new.depth);
-    rates::renew(table);
+    rates::renew_below(table, parent);
     Ok(0)
 }
 
@@ -58,13 +59,13 @@ fn joining_numbers(new: &NewNode) -> Answer<(usize, usize)> {
 pub(crate) fn leave(table: &mut [i64], node: i64) -> Answer<i64> {
     let node = existing_number(node)?;
     require(is_used(table, node), NOT_THERE)?;
-    require(node != ROOT, WRONG_NODE)?;
+    let parent = parent(table, node).ok_or(WRONG_NODE)?;
     let childless = children(table, node).next().is_none();
     require(childless && waiting_count(table, node) == 0, NOT_EMPTY)?;
     let in_debt = is_class(table, node) && get(table, node, BALANCE) < 0;
     require(!in_debt, IN_DEBT)?;
     table[at(node, 0)..at(node + 1, 0)].fill(0);
-    rates::renew(table);
+    rates::renew_below(table, parent);
     Ok(0)
 }
 
@@ -77,15 +78,15 @@ pub(crate) fn change_share(table: &mut [i64], node: i64, kind: i64, share: i64) 
     require(fixed_shares_fit(table, parent, node, kind, share), SHARES_ABOVE)?;
     set(table, node, KIND, kind);
     set(table, node, SHARE, share);
-    rates::renew(table);
+    rates::renew_below(table, parent);
     Ok(0)
 }
 
-/// Change rate: gives the disk another rate.
+/// Change rate: gives the disk another rate, and renews all others.
 pub(crate) fn change_rate(table: &mut [i64], rate: i64) -> Answer<i64> {
     require((1..=MAX_RATE).contains(&rate), OUTSIDE_LIMITS)?;
     set(table, ROOT, RATE, rate);
-    rates::renew(table);
+    rates::renew_below(table, ROOT);
     Ok(0)
 }
 
@@ -146,4 +147,56 @@ fn fixed_shares_fit(table: &[i64], class: usize, node: usize, kind: i64, share: 
 fn depth_fits(table: &[i64], class: usize, depth: i64) -> bool {
     let others: i64 = children(table, class).map(|child| get(table, child, DEPTH)).sum();
     others + depth <= get(table, class, DEPTH)
+}
+
+/// The bodies of the calls on tables whose rates are wrong, which no call takes: what
+/// stands above and beside the class stays wrong.
+#[cfg(test)]
+mod tests {
+    use super::*;
+
+    /// Classes 1 (fixed 5000) and 2 (weight 1) under the root, clients 3 and 4 under
+    /// them, by weight. The rates are wrong: class 1 has 100.
+    fn wrong() -> [i64; TABLE_LEN] {
+        let mut table = [0; TABLE_LEN];
+        open(&mut table, 1000, 100).unwrap();
+        for (node, parent, sort, kind, share, depth) in [
+            (1, 0, CLASS, FIXED, 5000, 50),
+            (2, 0, CLASS, WEIGHTED, 1, 50),
+            (3, 1, CLIENT, WEIGHTED, 1, 40),
+            (4, 2, CLIENT, WEIGHTED, 1, 40),
+        ] {
+            join(&mut table, &NewNode { node, parent, sort, kind, share, depth }).unwrap();
+        }
+        for (node, rate) in [(0, -7), (1, 100), (2, i64::MAX), (3, -1), (4, i64::MIN)] {
+            set(&mut table, node, RATE, rate);
+        }
+        table
+    }
+
+    /// The rates of nodes 0 to 5.
+    fn rates(table: &[i64]) -> [i64; 6] {
+        [0, 1, 2, 3, 4, 5].map(|node| get(table, node, RATE))
+    }
+
+    #[test]
+    fn only_what_stands_below_the_class_is_renewed() {
+        let mut table = wrong();
+        let new = NewNode { node: 5, parent: 1, sort: CLIENT, kind: WEIGHTED, share: 1, depth: 1 };
+        // Halves of 100, then all of it, then a quarter.
+        assert_eq!(join(&mut table, &new), Ok(0));
+        assert_eq!(rates(&table), [-7, 100, i64::MAX, 50, i64::MIN, 50]);
+        assert_eq!(leave(&mut table, 5), Ok(0));
+        assert_eq!(rates(&table), [-7, 100, i64::MAX, 100, i64::MIN, 0]);
+        assert_eq!(change_share(&mut table, 3, FIXED, 2500), Ok(0));
+        assert_eq!(rates(&table), [-7, 100, i64::MAX, 25, i64::MIN, 0]);
+    }
+
+    #[test]
+    fn a_change_of_rate_renews_all() {
+        // Halves of 600, and all of them.
+        let mut table = wrong();
+        assert_eq!(change_rate(&mut table, 600), Ok(0));
+        assert_eq!(rates(&table), [600, 300, 300, 300, 300, 0]);
+    }
 }

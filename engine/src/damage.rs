@@ -1,8 +1,9 @@
-//! Damage to the table: every clause of the in-order test broken alone, places
-//! written at random, wrong lengths, and lawful changes.
+//! Damage to the table: every clause of the in-order test broken alone, rates that
+//! are wrong at one node or below a whole class, places written at random, wrong
+//! lengths, and lawful changes.
 
 use crate::cost::{cost, largest_size, RANGE_ENDS};
-use crate::order::{self, CLAUSES};
+use crate::order::{self, CLAUSES, RATES_CLAUSE};
 use crate::random::Rng;
 use crate::rates;
 use crate::steps::Step;
@@ -11,13 +12,14 @@ use crate::table::*;
 /// Steps that write a table in order from outside, in some way or other.
 pub fn any(rng: &mut Rng, table: &[i64]) -> Vec<Step> {
     let clause = rng.below(CLAUSES.len());
-    match rng.below(12) {
+    match rng.below(14) {
         0..=4 => isolated(rng, table, clause).unwrap_or_default(),
         5 | 6 => random_pokes(rng, table),
         7 => near_pokes(rng, table),
         8 => extreme(rng, table),
         9 => other_size(rng, table),
         10 => other_depth(rng, table),
+        11 | 12 => isolated(rng, table, RATES_CLAUSE).unwrap_or_default(),
         _ => vec![Step::Resize { len: wrong_length(rng) }],
     }
 }
@@ -48,7 +50,7 @@ pub fn other_tree(rng: &mut Rng, table: &[i64]) -> Vec<Step> {
             _ => old + rng.pick(&[-1, 1]),
         };
         set(&mut changed, node, place, value);
-        rates::renew(&mut changed);
+        rates::renew_all(&mut changed);
         if changed != table && order::in_order(&changed) {
             return pokes(table, &changed);
         }
@@ -210,11 +212,7 @@ fn break_clause(rng: &mut Rng, table: &mut [i64], clause: usize) -> Option<()> {
         }
         10 => break_fixed_sum(rng, table)?,
         11 => break_depth_sum(rng, table)?,
-        12 => {
-            let node = some(rng, used_nodes(table).filter(|&node| node != ROOT))?;
-            let rate = get(table, node, RATE);
-            set(table, node, RATE, rng.pick(&[rate - 1, rate + 1, i64::MIN, i64::MAX]));
-        }
+        RATES_CLAUSE => break_rates(rng, table)?,
         13 => {
             let node = some(rng, used_nodes(table))?;
             let above = get(table, node, DEPTH) * GRAINS + 1;
@@ -254,7 +252,7 @@ fn break_root(rng: &mut Rng, table: &mut [i64]) {
         3 => set(table, ROOT, LEVEL, rng.pick(&[1, 3])),
         _ => {
             set(table, ROOT, RATE, rng.pick(&[-1, 0, MAX_RATE + 1]));
-            rates::renew(table);
+            rates::renew_all(table);
         }
     }
 }
@@ -284,7 +282,7 @@ fn break_limits(rng: &mut Rng, table: &mut [i64]) -> Option<()> {
         1 => set(table, node, SHARE, rng.pick(&[-1, 0, MAX_SHARE + 1])),
         _ => set(table, node, DEPTH, rng.pick(&[-1, 0, MAX_DEPTH + 1])),
     }
-    rates::renew(table);
+    rates::renew_all(table);
     Some(())
 }
 
@@ -296,7 +294,7 @@ fn break_parent(rng: &mut Rng, table: &mut [i64]) -> Option<()> {
     } else {
         let other = rng.between(0, 63);
         set(table, node, PARENT, rng.pick(&[other, other, -1, 64, i64::MIN, i64::MAX]));
-        rates::renew(table);
+        rates::renew_all(table);
     }
     Some(())
 }
@@ -333,7 +331,7 @@ fn break_fixed_sum(rng: &mut Rng, table: &mut [i64]) -> Option<()> {
         set(table, child, KIND, FIXED);
         set(table, child, SHARE, share);
     }
-    rates::renew(table);
+    rates::renew_all(table);
     Some(())
 }
 
@@ -346,6 +344,69 @@ fn break_depth_sum(rng: &mut Rng, table: &mut [i64]) -> Option<()> {
     let depth = get(table, node, DEPTH);
     set(table, node, DEPTH, depth + missing);
     Some(())
+}
+
+/// Makes the rate of one node wrong; or that of a class, with all below it derived from
+/// that; or all of them, derived from another disk's rate.
+fn break_rates(rng: &mut Rng, table: &mut [i64]) -> Option<()> {
+    match rng.below(8) {
+        0..=4 => {
+            let node = some_on_a_level(rng, table)?;
+            let rate = wrong_rate(rng, table, node);
+            set(table, node, RATE, rate);
+        }
+        5 | 6 => {
+            let class = some(rng, classes(table).filter(|&class| class != ROOT))?;
+            let rate = wrong_class_rate(rng, get(table, class, RATE));
+            set(table, class, RATE, rate);
+            rates::renew_below(table, class);
+        }
+        _ => {
+            let right = get(table, ROOT, RATE);
+            set(table, ROOT, RATE, wrong_class_rate(rng, right));
+            rates::renew_below(table, ROOT);
+            set(table, ROOT, RATE, right);
+        }
+    }
+    Some(())
+}
+
+/// A node below the root, from any of the levels that has one.
+fn some_on_a_level(rng: &mut Rng, table: &[i64]) -> Option<usize> {
+    let on = |level: usize| {
+        used_nodes(table).filter(move |&node| get(table, node, LEVEL) == level as i64)
+    };
+    let lowest = MAX_CLASS_LEVEL as usize + 1;
+    let level = some(rng, (1..=lowest).filter(|&level| on(level).next().is_some()))?;
+    some(rng, on(level))
+}
+
+/// A rate that a node has not, save by chance: next to its own, at or beyond the limits,
+/// its own in all but some high bits, another node's, or its part of its class's whole
+/// rate.
+fn wrong_rate(rng: &mut Rng, table: &[i64], node: usize) -> i64 {
+    let rate = get(table, node, RATE);
+    let near = rng.pick(&[rate - 1, rate + 1]);
+    let limit = rng.pick(&[i64::MIN, -1, 0, MAX_RATE, MAX_RATE + 1, i64::MAX]);
+    let high = rate.wrapping_add(1 << rng.between(32, 63));
+    let other = some(rng, used_nodes(table)).map_or(0, |other| get(table, other, RATE));
+    rng.pick(&[near, near, near, limit, high, other, part_of_whole(table, node)])
+}
+
+/// A weighted node's part of its class's whole rate, and a fixed node's rate.
+fn part_of_whole(table: &[i64], node: usize) -> i64 {
+    let class = parent(table, node).unwrap_or(ROOT);
+    let weights: i64 =
+        children(table, class).map(|child| share_of_kind(table, child, WEIGHTED)).sum();
+    let whole = if get(table, node, KIND) == FIXED { MAX_SHARE } else { weights };
+    get(table, class, RATE) * get(table, node, SHARE) / whole
+}
+
+/// A rate within the limits of a class's, from which all below it may be derived.
+fn wrong_class_rate(rng: &mut Rng, rate: i64) -> i64 {
+    let any = rng.between(0, MAX_RATE);
+    let rate = rng.pick(&[rate - 1, rate + 1, rate + 1, 2 * rate, 0, any, MAX_RATE]);
+    rate.clamp(0, MAX_RATE)
 }
 
 fn break_arrivals(rng: &mut Rng, table: &mut [i64]) -> Option<()> {

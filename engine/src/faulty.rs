@@ -1,10 +1,11 @@
 //! Controllers with one known fault each: the paper's slips, the fakes that
 //! document 01 names, misreadings of what a request costs, of the grains nobody
-//! gets and of what step 4 picks, and some more. The judge or the differential
-//! must object to every one of them.
+//! gets, of what step 4 picks and of which rates are renewed, and some more. The
+//! judge or the differential must object to every one of them.
 
 use crate::controller::{Controller, Engine, NewNode, Seen};
 use crate::damage::failing;
+use crate::faulty_renewals::{self, Cause, Change};
 use crate::plan::{Plan, MAX_COUNT};
 use crate::refusal::*;
 use crate::table::*;
@@ -98,6 +99,8 @@ pub enum Fault {
     WrongLost(Lost),
     /// Step 4 picks by another rule.
     WrongPick(Pick),
+    /// The rates after a change of the tree are renewed in another way.
+    WrongRenewal(Renewal),
     /// The in-order test lacks the clause of that number.
     LacksClause(usize),
 }
@@ -207,8 +210,91 @@ pub enum Pick {
     WithoutStepTwo,
 }
 
+/// Misreadings of the renewal of rates. The node is the one that joined, left or
+/// changed its share, and the class is its parent. Where nothing else is said, what
+/// stands below the class is renewed from the class's own rate, and a change of rate
+/// renews all.
+#[derive(Clone, Copy, Debug, PartialEq, Eq)]
+pub enum Renewal {
+    /// The class's children are renewed, and nothing below them.
+    ChildrenOnly,
+    /// Two levels below the class are renewed.
+    TwoLevels,
+    /// Three levels below the class are renewed.
+    ThreeLevels,
+    /// What stands on the lowest level, 4, is not renewed.
+    NotTheLowest,
+    /// As many levels are renewed as there are below the class, counted from the root:
+    /// what stands lower is not.
+    LevelsFromRoot,
+    /// Only what stands below the node is renewed.
+    BelowNode,
+    /// A join renews the node and no other.
+    NewNodeOnly,
+    /// A change of share renews the node and no other.
+    ChangedNodeOnly,
+    /// The node itself keeps its rate, which is 0 after a join.
+    WithoutNode,
+    /// What stands below the node keeps its rates.
+    NotBelowNode,
+    /// What stands below the other children of the class keeps its rates.
+    NotBelowOthers,
+    /// Fixed nodes keep their rates.
+    FixedKept,
+    /// Where the node has or had a fixed share, the weighted children of its class
+    /// keep their rates.
+    WeightsKept,
+    /// Classes keep their rates.
+    ClassesKept,
+    /// A leave takes the class's number from the zeroed record, which gives the root,
+    /// and renews that one's children.
+    ClassFromZeroed,
+    /// A change of rate renews the root's children, and nothing below them.
+    RateChildrenOnly,
+    /// A change of rate renews nothing.
+    RateNothing,
+    /// The class's children get their parts of the disk's rate.
+    FromDiskRate,
+    /// All that stands below the class gets its parts of the class's own rate.
+    AllFromClass,
+    /// The class's own rate becomes the sum of its children's.
+    OwnRateIsSum,
+    /// The class's own rate is worked out first, as that of a fixed share.
+    OwnRateAsFixed,
+    /// The class's own rate is worked out first, with the sums of its children's
+    /// shares instead of those beside it.
+    OwnRateByOwnSums,
+    /// All nodes on the level of the class's children are renewed as if they were its
+    /// children, and what stands below them.
+    SameLevel,
+    /// What stands below all classes on the class's level is renewed, as if all had
+    /// its rate.
+    NeighboursToo,
+    /// The sums of shares are those of the class from before the change.
+    OldSums,
+    /// The sums of shares are over the node's whole level.
+    SumsOfLevel,
+    /// The sums of shares are over all that stands below a class.
+    SumsOfAllBelow,
+    /// The root's own share counts among those of its children.
+    RootAmongChildren,
+    /// The nodes are renewed in rising number, at times before their classes.
+    ByNumber,
+    /// The renewal ends at the first node, by level and number, whose rate is the one
+    /// that it has.
+    StopsAtSame,
+    /// Below the class's children each rate changes in proportion to its class's.
+    Scaled,
+    /// What the fixed shares leave is not rounded.
+    RoundsOnce,
+    /// What is left is the class's rate less the rates of its fixed children.
+    LessFixedRates,
+    /// The balance of a renewed node becomes 0.
+    EmptiesBuckets,
+}
+
 /// All faults that are no lacking clause.
-pub const FAULTS: [Fault; 90] = [
+pub const FAULTS: [Fault; 124] = [
     Fault::CutsFirst,
     Fault::ChargesClient,
     Fault::SparesRoot,
@@ -301,6 +387,40 @@ pub const FAULTS: [Fault; 90] = [
     Fault::WrongPick(Pick::AnyOfQueue),
     Fault::WrongPick(Pick::StepTwoByArrival),
     Fault::WrongPick(Pick::WithoutStepTwo),
+    Fault::WrongRenewal(Renewal::ChildrenOnly),
+    Fault::WrongRenewal(Renewal::TwoLevels),
+    Fault::WrongRenewal(Renewal::ThreeLevels),
+    Fault::WrongRenewal(Renewal::NotTheLowest),
+    Fault::WrongRenewal(Renewal::LevelsFromRoot),
+    Fault::WrongRenewal(Renewal::BelowNode),
+    Fault::WrongRenewal(Renewal::NewNodeOnly),
+    Fault::WrongRenewal(Renewal::ChangedNodeOnly),
+    Fault::WrongRenewal(Renewal::WithoutNode),
+    Fault::WrongRenewal(Renewal::NotBelowNode),
+    Fault::WrongRenewal(Renewal::NotBelowOthers),
+    Fault::WrongRenewal(Renewal::FixedKept),
+    Fault::WrongRenewal(Renewal::WeightsKept),
+    Fault::WrongRenewal(Renewal::ClassesKept),
+    Fault::WrongRenewal(Renewal::ClassFromZeroed),
+    Fault::WrongRenewal(Renewal::RateChildrenOnly),
+    Fault::WrongRenewal(Renewal::RateNothing),
+    Fault::WrongRenewal(Renewal::FromDiskRate),
+    Fault::WrongRenewal(Renewal::AllFromClass),
+    Fault::WrongRenewal(Renewal::OwnRateIsSum),
+    Fault::WrongRenewal(Renewal::OwnRateAsFixed),
+    Fault::WrongRenewal(Renewal::OwnRateByOwnSums),
+    Fault::WrongRenewal(Renewal::SameLevel),
+    Fault::WrongRenewal(Renewal::NeighboursToo),
+    Fault::WrongRenewal(Renewal::OldSums),
+    Fault::WrongRenewal(Renewal::SumsOfLevel),
+    Fault::WrongRenewal(Renewal::SumsOfAllBelow),
+    Fault::WrongRenewal(Renewal::RootAmongChildren),
+    Fault::WrongRenewal(Renewal::ByNumber),
+    Fault::WrongRenewal(Renewal::StopsAtSame),
+    Fault::WrongRenewal(Renewal::Scaled),
+    Fault::WrongRenewal(Renewal::RoundsOnce),
+    Fault::WrongRenewal(Renewal::LessFixedRates),
+    Fault::WrongRenewal(Renewal::EmptiesBuckets),
 ];
 
 impl Fault {
@@ -371,13 +491,14 @@ impl Faulty {
         answer
     }
 
-    /// Renews the rates in the fault's way.
-    fn renew(&self, table: &mut [i64]) {
-        if self.has(Fault::WeighsWholeRate) {
-            faulty_parts::renew_on_whole_rate(table);
-        }
-        if self.has(Fault::GivesRemainder) {
-            faulty_parts::give_remainder(table);
+    /// Renews the rates after a change in the fault's way. The table comes with the
+    /// right rates.
+    fn renew(&self, change: &Change, table: &mut [i64]) {
+        match self.fault {
+            Fault::WeighsWholeRate => faulty_parts::renew_on_whole_rate(table),
+            Fault::GivesRemainder => faulty_parts::give_remainder(table),
+            Fault::WrongRenewal(wrong) => faulty_renewals::renew(wrong, change, table),
+            _ => {}
         }
     }
 }
@@ -385,6 +506,7 @@ impl Faulty {
 /// The bodies of the calls that change the table.
 impl Faulty {
     fn join_body(&mut self, table: &mut [i64], new: &NewNode) -> Answer<i64> {
+        let before = table.to_vec();
         let answer = calls::join(table, new);
         if self.has(Fault::DepthsBeforeShares) && answer == Err(SHARES_ABOVE) {
             let weighted = NewNode { kind: WEIGHTED, ..*new };
@@ -394,7 +516,8 @@ impl Faulty {
         if self.has(Fault::FullBucket) {
             set(table, new.node as usize, BALANCE, new.depth * GRAINS);
         }
-        self.renew(table);
+        let node = new.node as usize;
+        self.renew(&Change { cause: Cause::Join, before: &before, node }, table);
         answer
     }
 
@@ -415,7 +538,8 @@ impl Faulty {
                 table[at(other, RATE)] = before[at(other, RATE)];
             }
         }
-        self.renew(table);
+        let node = node as usize;
+        self.renew(&Change { cause: Cause::Leave, before: &before, node }, table);
         answer
     }
 
@@ -437,8 +561,16 @@ impl Faulty {
             }
         }
         answer?;
-        self.renew(table);
+        let node = node as usize;
+        self.renew(&Change { cause: Cause::Share, before: &before, node }, table);
         answer
+    }
+
+    fn change_rate_body(&mut self, table: &mut [i64], rate: i64) -> Answer<i64> {
+        let before = table.to_vec();
+        let answer = calls::change_rate(table, rate)?;
+        self.renew(&Change { cause: Cause::Rate, before: &before, node: ROOT }, table);
+        Ok(answer)
     }
 
     fn request_body(&mut self, table: &mut [i64], client: i64, tag: i64, size: i64) -> Answer<i64> {
@@ -495,11 +627,7 @@ impl Controller for Faulty {
     }
 
     fn change_rate(&mut self, table: &mut [i64], rate: i64) -> Answer<i64> {
-        self.change(table, |this, table| {
-            calls::change_rate(table, rate)?;
-            this.renew(table);
-            Ok(0)
-        })
+        self.change(table, |this, table| this.change_rate_body(table, rate))
     }
 
     fn request(&mut self, table: &mut [i64], client: i64, tag: i64, size: i64) -> Answer<i64> {

@@ -223,7 +223,7 @@ pub(crate) fn renew_on_whole_rate(table: &mut [i64]) {
 
 /// Gives the lowest child of the root what rounding lost among weights.
 pub(crate) fn give_remainder(table: &mut [i64]) {
-    rates::renew(table);
+    rates::renew_all(table);
     let fixed = children(table, ROOT).any(|child| get(table, child, KIND) == FIXED);
     let sum: i64 = children(table, ROOT).map(|child| get(table, child, RATE)).sum();
     let first = children(table, ROOT).next();

@@ -1,7 +1,7 @@
 //! The second engine of the disk share controller.
 //!
 //! It is written from document 01 ("Hierarchical Disk Sharing: the account
-//! table and its calls") and document 02 up to request (d) alone, to check
+//! table and its calls") and document 02 up to request (e) alone, to check
 //! another implementation of them call by call. Quoted words in the comments are
 //! the documents'.
 //!
@@ -28,6 +28,7 @@ pub mod faulty;
 pub mod faulty_load;
 mod faulty_parts;
 mod faulty_picks;
+mod faulty_renewals;
 pub mod judge;
 pub mod load;
 pub mod loads;

@@ -34,6 +34,8 @@ pub const CLAUSES: [(&str, Clause); 18] = [
     ("arrival numbers", arrivals),
 ];
 
+/// The number of the clause on rates.
+pub const RATES_CLAUSE: usize = 12;
 /// The number of the clause on waiting sizes.
 pub const SIZES_CLAUSE: usize = 16;
 

@@ -21,15 +21,18 @@ pub enum Profile {
     /// The same in a tree whose classes supply their clients, mostly with several
     /// requests before a tick.
     Family,
+    /// The same in a deep tree that changes at almost every call.
+    Tree,
     /// Every call, with damage to the table and to plans.
     Wild,
 }
 
-/// A run of at least `length` steps.
+/// A run of at least `length` steps beside those that write single numbers of the
+/// table.
 pub fn run(seed: u64, length: usize, profile: Profile) -> Vec<Step> {
     let mut generator = Generator::new(seed, profile);
     generator.begin();
-    while generator.steps.len() < length {
+    while generator.counted < length {
         generator.go_on();
     }
     generator.steps
@@ -42,6 +45,8 @@ struct Generator {
     world: World,
     damaged: bool,
     steps: Vec<Step>,
+    /// How many of the steps are no writes of single numbers.
+    counted: usize,
     /// Percentage of arguments that are bent.
     bent: usize,
     /// Percentage of requests among requests and ticks. The busiest runs let many requests
@@ -58,13 +63,16 @@ impl Generator {
         let busy = rng.pick(&[30, 50, 65, 88]);
         let spread = rng.pick(&[2, 5, 30, 200]);
         let world = World::default();
-        Generator { rng, profile, world, damaged: false, steps: Vec::new(), bent, busy, spread }
+        let (damaged, steps, counted) = (false, Vec::new(), 0);
+        Generator { rng, profile, world, damaged, steps, counted, bent, busy, spread }
     }
 
     /// Opens the table and joins some nodes.
     fn begin(&mut self) {
-        if self.profile == Profile::Family {
-            return self.begin_family();
+        match self.profile {
+            Profile::Family => return self.begin_family(),
+            Profile::Tree => return self.begin_tree(),
+            _ => {}
         }
         if self.profile == Profile::Wild && self.rng.chance(10) {
             self.any_call();
@@ -83,6 +91,13 @@ impl Generator {
         }
     }
 
+    fn begin_tree(&mut self) {
+        let any = self.rng.between(1, MAX_RATE);
+        let rate = self.rng.pick(&[1, 7, 1000, 999_983, any, MAX_RATE]);
+        self.call(Call::Open { rate, depth: MAX_DEPTH });
+        self.join_many();
+    }
+
     fn join_many(&mut self) {
         let joins = self.rng.pick(&[3, 20, 60, 150]);
         for _ in 0..joins / 2 + self.rng.below(joins) {
@@ -93,6 +108,8 @@ impl Generator {
     fn go_on(&mut self) {
         if self.profile == Profile::Family {
             self.family_call();
+        } else if self.profile == Profile::Tree {
+            self.tree_call();
         } else if self.profile == Profile::Clean || self.rng.chance(70) {
             self.tree_or_queue_call();
         } else if self.rng.chance(40) {
@@ -133,6 +150,17 @@ impl Generator {
             }
             18..=39 => self.tick(),
             _ => self.rush(),
+        }
+    }
+
+    /// A change of the tree, and now and then a tick.
+    fn tree_call(&mut self) {
+        match self.rng.below(100) {
+            0..=34 => self.join(),
+            35..=54 => self.leave(),
+            55..=84 => self.change_share(),
+            85..=94 => self.change_rate(),
+            _ => self.tick(),
         }
     }
 
@@ -320,12 +348,13 @@ impl Generator {
         self.call(Call::Tick { list_len });
     }
 
-    /// Looks at a class and at any node.
+    /// Looks at two classes, one of which has the most children, and at any node.
     fn look(&mut self) {
         let (rng, view) = self.rng_and_view();
         let class = arguments::class(rng, view) as i64;
+        let largest = arguments::largest_class(view) as i64;
         let any = arguments::any_node(rng, view);
-        for node in [class, any] {
+        for node in [class, largest, any] {
             let node = self.bend(node, 0, 63);
             self.call(Call::Look { node });
         }
@@ -381,6 +410,7 @@ impl Generator {
 
     fn push(&mut self, step: Step) {
         self.world.run(&mut Engine, &step);
+        self.counted += usize::from(!matches!(step, Step::Poke { .. }));
         self.steps.push(step);
     }
 }

@@ -1,5 +1,5 @@
-//! Rates: how a class's rate is divided among its children, and what none of
-//! them gets.
+//! Rates: how a class's rate is divided among its children, which rates a change of
+//! the tree renews, and what no child gets.
 
 use crate::table::*;
 
@@ -60,12 +60,41 @@ impl Sums {
     }
 }
 
-/// Renews every rate below the root, level by level.
-pub(crate) fn renew(table: &mut [i64]) {
+/// Renews the rates below a class: of its children, of their children, and so on.
+///
+/// The table is in order save for its rates, each of which may be right or wrong,
+/// and the class's own rate is 0 to 1,000,000,000. Every node below the class gets
+/// the rate that the section on rates derives from the class's own rate as it
+/// stands in the table. Nothing else in the table changes, and neither does the
+/// class's own rate.
+pub fn renew_below(table: &mut [i64], class: usize) {
+    let sums = Sums::of(table);
+    // The class and those below it that have their rates.
+    let mut is_done = [false; NODES];
+    is_done[class] = true;
+    let own_level = get(table, class, LEVEL).clamp(0, MAX_CLASS_LEVEL);
+    for level in own_level + 1..=MAX_CLASS_LEVEL + 1 {
+        for node in 0..NODES {
+            if !stands_on(table, node, level) {
+                continue;
+            }
+            if let Some(parent) = parent(table, node).filter(|&parent| is_done[parent]) {
+                let rate = sums.rate(table, node, parent);
+                set(table, node, RATE, rate as i64);
+                is_done[node] = true;
+            }
+        }
+    }
+}
+
+/// Renews every rate below the root, whatever the class that changed. No call needs
+/// it: it is the measure for [`renew_below`], and serves to write tables from
+/// outside. On any contents it ends.
+pub fn renew_all(table: &mut [i64]) {
     let sums = Sums::of(table);
     for level in 1..=MAX_CLASS_LEVEL + 1 {
         for node in 0..NODES {
-            if !is_used(table, node) || get(table, node, LEVEL) != level {
+            if !stands_on(table, node, level) {
                 continue;
             }
             if let Some(parent) = parent(table, node) {
@@ -74,6 +103,11 @@ pub(crate) fn renew(table: &mut [i64]) {
             }
         }
     }
+}
+
+/// Whether a node is there and stands on that level.
+fn stands_on(table: &[i64], node: usize, level: i64) -> bool {
+    is_used(table, node) && get(table, node, LEVEL) == level
 }
 
 /// Whether every rate below the root is the one that its parent's rate gives.

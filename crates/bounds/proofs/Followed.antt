@@ -18,7 +18,7 @@ use Rattle.table.specs.Tree.{Tree, isClient, atOrAbove}
 use Rattle.table.specs.Places.{balance, waiting, size}
 use Rattle.table.specs.Tick.{State, grains, dispatched}
 use Rattle.treelaws.proofs.Sorts.{client-class}
-use Rattle.ticklaws.proofs.Way.{Ways, At, way-class, above-there, above-root}
+use Rattle.treelaws.proofs.Way.{Ways, At, way-class, above-there, above-root}
 use Rattle.ticklaws.proofs.Dispatch.{Dispatch, takes, dispatch-shifted}
 use Rattle.bounds.specs.Observer.{entriesFor}
 use Rattle.bounds.specs.Counts.{entryGrains, grainsForClient, grainsToNode, sumOver}

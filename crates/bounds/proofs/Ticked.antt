@@ -14,10 +14,10 @@ use Rattle.table.specs.Tree.{Tree, treeOf, atOrAbove}
 use Rattle.table.specs.Places.{rate, balance, waiting, depthGrains}
 use Rattle.table.specs.Tick.{State, grown, cut, supplier, allWaiting, stepTwo, stepThree, ticked}
 use Rattle.table.proofs.Facts.{InOrder}
+use Rattle.treelaws.proofs.Way.{ways-of, way-first}
 use Rattle.ticklaws.proofs.Frame.{frame-tree}
 use Rattle.ticklaws.proofs.Queues.{only-shifted}
 use Rattle.ticklaws.proofs.Reached.{reached-long}
-use Rattle.ticklaws.proofs.Way.{ways-of, way-first}
 use Rattle.ticklaws.proofs.Grown.{grown-swept, grown-reached}
 use Rattle.ticklaws.proofs.Cut.{cutTo, cut-swept, cut-low, cut-falls}
 use Rattle.ticklaws.proofs.Supplier.{supplier-way}

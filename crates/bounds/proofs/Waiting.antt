@@ -18,9 +18,9 @@ use Rattle.table.specs.Tick.{grains, enough, stepTwo, ticked}
 use Rattle.table.proofs.Facts.{InOrder}
 use Rattle.table.proofs.Cost.{cost-bounds, most-cost}
 use Rattle.treelaws.proofs.Sorts.{client-there, client-class}
+use Rattle.treelaws.proofs.Way.{way-first}
 use Rattle.ticklaws.proofs.Frame.{frame-grains}
 use Rattle.ticklaws.proofs.Reached.{Reached, reached-first}
-use Rattle.ticklaws.proofs.Way.{way-first}
 use Rattle.ticklaws.proofs.Supplier.{not-supplied}
 use Rattle.ticklaws.proofs.Served.{facts-ready}
 use Rattle.ticklaws.proofs.Keeps.{two-reached, two-suffices, ticked-settled, none-supplied}

@@ -1,23 +1,27 @@
 -- Change rate keeps a table in order: it writes the root's rate, which is within its limits by cause 2.
-use mathlib.Core.Path.{_≡_, _∙_}
+use mathlib.Core.Path.{_≡_, sym, ap, _∙_}
 use mathlib.Core.Bool.{true}
 use mathlib.Core.List.{List}
 use native.Mathlib.Omega.{arith}
 use lib.IntN.{ℤ}
-use Rattle.numbers.specs.Whole.{withinℤ}
+use Rattle.numbers.specs.Whole.{plus, withinℤ}
 use Rattle.numbers.proofs.Tests.{true-false}
+use Rattle.numbers.proofs.Parts.{zarith, pos-of-within}
 use Rattle.table.specs.Limits.{rateAt, root, greatestRate}
-use Rattle.table.specs.Places.{put}
-use Rattle.table.specs.Tree.{treeOf}
+use Rattle.table.specs.Places.{put, rate as rateOf}
+use Rattle.table.specs.Tree.{treeOf, there}
 use Rattle.table.specs.Rates.{renewed}
 use Rattle.table.specs.Order.{inOrder}
 use Rattle.table.specs.Calls.{changeRateRefusal, changeRateTable}
 use Rattle.table.proofs.Facts.{facts}
 use Rattle.table.proofs.Places.{length-put, header-put, place-put-same, place-put-node, place-put-place}
 use Rattle.treelaws.proofs.Renewed.{same-tree}
+use Rattle.treelaws.specs.Renewal.{RenewsAll}
+use Rattle.treelaws.proofs.Below.{renewed-by-root}
 use Rattle.table.proofs.Passed.{change-rate-passed}
 use Rattle.calllaws.proofs.Nodes.{Ready, ready, root-kept}
 use Rattle.calllaws.proofs.Ready.{ready-but-rates, ready-renewed, root-there, kept-in-order}
+use Rattle.calllaws.proofs.OneChild.{ways-before}
 
 -- The tree stays.
 pub rerated-tree : (t : List ℤ) (rate : ℤ) → treeOf (put t root rateAt rate) ≡ treeOf t
@@ -39,6 +43,23 @@ changed : (t : List ℤ) (rate : ℤ) → changeRateRefusal t rate ≡ 0 → inO
 changed t rate h =
     let passed = change-rate-passed t rate h in
     ready-renewed (put t root rateAt rate) (rerated-ready t rate (ready t (facts t (passed .order))) (passed .within))
+
+-- Renewing below the root renews everything.
+pub change-rate-renews-below : (t : List ℤ) (rate : ℤ) → changeRateRefusal t rate ≡ 0 → RenewsAll (put t root rateAt rate) root
+unfolding rateOf
+change-rate-renews-below t rate h =
+    let passed = change-rate-passed t rate h in
+    let order = facts t (passed .order) in
+    let written = place-put-same t root rateAt rate (order .long) (omega arith) (omega arith) in
+    let here : there (treeOf (put t root rateAt rate)) root ≡ true = rw (rerated-tree t rate) (root-there t (order .root)) in
+    record {
+      low = omega arith;
+      there = here;
+      small = omega (arith, zarith, ap plus written, passed .within);
+      all =
+          renewed-by-root (put t root rateAt rate) (length-put t root rateAt rate ∙ order .long) (ways-before _ (changed t rate h)) here
+          (rw written (sym (pos-of-within 1 greatestRate rate (passed .within))));
+    }
 
 -- Accepted or not, and accepted.
 pub change-rate-keeps-order : (t : List ℤ) (rate : ℤ) → inOrder t ≡ true → inOrder (changeRateTable t rate) ≡ true

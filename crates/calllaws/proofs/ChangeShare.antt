@@ -16,11 +16,13 @@ use Rattle.table.specs.Rates.{fixedSum, fixedShare, renewed}
 use Rattle.table.specs.Order.{inOrder}
 use Rattle.table.specs.Calls.{reshared, changeShareRefusal, changeShareTable}
 use Rattle.table.proofs.Facts.{Child, Class, facts}
-use Rattle.table.proofs.Edits.{Edited, reshared-edit, reshared-rest}
+use Rattle.table.proofs.Edits.{Edited, reshared-edit, reshared-node, reshared-rest}
 use Rattle.table.proofs.Passed.{change-share-passed}
 use Rattle.treelaws.proofs.Children.{uncounted}
+use Rattle.treelaws.specs.Renewal.{RenewsAll}
 use Rattle.calllaws.proofs.Nodes.{Ready, ready, Sums, node-limited, child-kept, most-waiting}
 use Rattle.calllaws.proofs.OneNode.{child-same, no-child, count-same, shares-changed, depths-changed, balances-changed, edited-ready}
+use Rattle.calllaws.proofs.OneChild.{ways-before, renews-below-parent}
 use Rattle.calllaws.proofs.Ready.{ready-renewed, kept-in-order}
 
 -- A table that differs in the kind and share of node k.
@@ -102,6 +104,16 @@ changed t node kind share h =
     (rw (e .here shareAt (omega arith)) (passed .within))
     (passed .shares)
     r)
+
+-- Renewing below the parent renews everything.
+pub change-share-renews-below : (t : List ℤ) (node kind share : ℤ) → changeShareRefusal t node kind share ≡ 0 → RenewsAll (reshared t (plus node) kind share) (treeOf t .parent (plus node))
+change-share-renews-below t node kind share h =
+    let passed = change-share-passed t node kind share h in
+    let order = facts t (passed .order) in
+    renews-below-parent t _ (plus node) _ (passed .node) (reshared-edit t (plus node) kind share (order .long) (passed .node)) (passed .below) order
+    (ways-before _ (changed t node kind share h))
+    (passed .there)
+    (λ e. reshared-node t (plus node) kind share (order .long) (passed .node) .parent)
 
 -- Accepted or not, and accepted.
 pub change-share-keeps-order : (t : List ℤ) (node kind share : ℤ) → inOrder t ≡ true → inOrder (changeShareTable t node kind share) ≡ true

@@ -21,8 +21,10 @@ use Rattle.table.proofs.Facts.{Limits, Child, Class, facts}
 use Rattle.table.proofs.Passed.{JoinPassed, join-passed}
 use Rattle.treelaws.proofs.Children.{ChildOf, class-there, uncounted}
 use Rattle.table.proofs.Edits.{Edited, SameNode, NodeIs, joinedPlace, joined-edit, joined-node, joined-others, joined-rest}
+use Rattle.treelaws.specs.Renewal.{RenewsAll}
 use Rattle.calllaws.proofs.Nodes.{Ready, ready, Sums, there-same, class-same, child-kept, most-waiting, client-or-class}
 use Rattle.calllaws.proofs.OneNode.{no-child, count-zero, balances-changed, sums-fall, edited-ready}
+use Rattle.calllaws.proofs.OneChild.{ways-before, renews-below}
 use Rattle.calllaws.proofs.Fresh.{fresh-node}
 use Rattle.calllaws.proofs.Ready.{ready-renewed, kept-in-order}
 
@@ -140,6 +142,20 @@ entered : (t : List ℤ) (node parent sort kind share depth : ℤ) → joinRefus
 entered t node parent sort kind share depth h =
     let passed = join-passed t node parent sort kind share depth h in
     ready-renewed _ (joined-ready t (plus node) (plus parent) sort kind share depth passed (ready t (facts t (passed .order))))
+
+-- Renewing below the parent renews everything.
+pub join-renews-below : (t : List ℤ) (node parent sort kind share depth : ℤ) → joinRefusal t node parent sort kind share depth ≡ 0 → RenewsAll (joined t (plus node) (plus parent) sort kind share depth) (plus parent)
+join-renews-below t node parent sort kind share depth h =
+    let passed = join-passed t node parent sort kind share depth h in
+    let order = facts t (passed .order) in
+    let r = ready t order in
+    renews-below t _ (plus node) (plus parent) _ (passed .node) (edited t _ _ sort kind share depth passed r) (passed .below) order
+    (ways-before _ (entered t node parent sort kind share depth h))
+    (λ e. absurd (true-false e (passed .unused)))
+    (λ e. here t _ _ sort kind share depth passed r .parent)
+    (passed .parent)
+    (λ same. true-false (passed .there) (rw same (passed .unused)))
+    (passed .there)
 
 -- Accepted or not, and accepted.
 pub join-keeps-order : (t : List ℤ) (node parent sort kind share depth : ℤ) → inOrder t ≡ true → inOrder (joinTable t node parent sort kind share depth) ≡ true

@@ -19,8 +19,10 @@ use Rattle.table.proofs.Facts.{facts}
 use Rattle.table.proofs.Passed.{LeavePassed, leave-passed}
 use Rattle.treelaws.proofs.Children.{no-children}
 use Rattle.table.proofs.Edits.{Edited, SameNode, cleared-edit, cleared-others}
+use Rattle.treelaws.specs.Renewal.{RenewsAll}
 use Rattle.calllaws.proofs.Nodes.{Ready, ready, child-kept}
 use Rattle.calllaws.proofs.OneNode.{no-child, sums-fall, edited-ready}
+use Rattle.calllaws.proofs.OneChild.{ways-before, renews-below-parent}
 use Rattle.calllaws.proofs.Fresh.{zero-unused, unused-node}
 use Rattle.calllaws.proofs.Ready.{ready-renewed, kept-in-order}
 
@@ -65,6 +67,17 @@ left : (t : List ℤ) (node : ℤ) → leaveRefusal t node ≡ 0 → inOrder (re
 left t node h =
     let passed = leave-passed t node h in
     ready-renewed (cleared t (plus node)) (left-ready t (plus node) passed (ready t (facts t (passed .order))))
+
+-- Renewing below the parent renews everything.
+pub leave-renews-below : (t : List ℤ) (node : ℤ) → leaveRefusal t node ≡ 0 → RenewsAll (cleared t (plus node)) (treeOf t .parent (plus node))
+leave-renews-below t node h =
+    let passed = leave-passed t node h in
+    let order = facts t (passed .order) in
+    let r = ready t order in
+    renews-below-parent t _ (plus node) _ (passed .node) (edited t (plus node) passed r) (passed .below) order
+    (ways-before _ (left t node h))
+    (passed .there)
+    (λ e. absurd (true-false e (gone t (plus node) passed r)))
 
 -- Accepted or not, and accepted.
 pub leave-keeps-order : (t : List ℤ) (node : ℤ) → inOrder t ≡ true → inOrder (leaveTable t node) ≡ true

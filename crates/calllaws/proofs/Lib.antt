@@ -1,7 +1,8 @@
 pub mod Nodes
 pub mod Ready
-pub mod ChangeRate
 pub mod OneNode
+pub mod OneChild
+pub mod ChangeRate
 pub mod ChangeShare
 pub mod Request
 pub mod Fresh

@@ -16,7 +16,7 @@ use Rattle.numbers.proofs.Sums.{sum-changed}
 use Rattle.table.specs.Limits.{nodes, rateAt, balanceAt, waitingAt, arrivalAt, root}
 use Rattle.table.specs.Places.{queuePlace, count, balance, waiting, arrival}
 use Rattle.table.specs.Tree.{Tree, treeOf, there, isClass, isFixed, childOf, countIf, sumUnder}
-use Rattle.table.specs.Rates.{fixedShare, fixedSum}
+use Rattle.table.specs.Rates.{fixedShare, weight, fixedSum, weightSum}
 use Rattle.table.specs.Order.{childBalances}
 use Rattle.table.proofs.Facts.{Child, Class}
 use Rattle.treelaws.proofs.Children.{ChildOf, child-facts, balances-parts, uncounted}
@@ -30,6 +30,10 @@ child-same new old c j sorts parents = rw (there-same new old j sorts, parents)
 fixed-same : (new old : Tree) (j : ℕ) → SameNode new old j → fixedShare new j ≡ fixedShare old j
 unfolding fixedShare isFixed
 fixed-same new old j same = rw (same .kind, same .share)
+
+weight-same : (new old : Tree) (j : ℕ) → SameNode new old j → weight new j ≡ weight old j
+unfolding weight isFixed
+weight-same new old j same = rw (same .kind, same .share)
 
 pub no-child : (tree : Tree) (c k : ℕ) → (ChildOf tree c k → ⊥) → childOf tree c k ≡ false
 no-child tree c k h = by-test (childOf tree c k) (λ e. absurd (h (child-facts tree c k e))) (λ e. e)
@@ -62,6 +66,10 @@ module _ (t u : List ℤ) (k : ℕ) (f : ℕ → ℤ) (hk : k < nodes) (edited :
   pub shares-changed : (c : ℕ) → fixedSum (treeOf u) c + countIf (childOf (treeOf t) c k) (fixedShare (treeOf t)) k ≡ fixedSum (treeOf t) c + countIf (childOf (treeOf u) c k) (fixedShare (treeOf u)) k
   unfolding fixedSum
   shares-changed c = under-changed (treeOf u) (treeOf t) k c (fixedShare (treeOf u)) (fixedShare (treeOf t)) hk others (λ j ne. fixed-same (treeOf u) (treeOf t) j (others j ne))
+
+  pub weights-changed : (c : ℕ) → weightSum (treeOf u) c + countIf (childOf (treeOf t) c k) (weight (treeOf t)) k ≡ weightSum (treeOf t) c + countIf (childOf (treeOf u) c k) (weight (treeOf u)) k
+  unfolding weightSum
+  weights-changed c = under-changed (treeOf u) (treeOf t) k c (weight (treeOf u)) (weight (treeOf t)) hk others (λ j ne. weight-same (treeOf u) (treeOf t) j (others j ne))
 
   pub depths-changed : (c : ℕ) → sumUnder (treeOf u) c (treeOf u .depth) + countIf (childOf (treeOf t) c k) (treeOf t .depth) k ≡ sumUnder (treeOf t) c (treeOf t .depth) + countIf (childOf (treeOf u) c k) (treeOf u .depth) k
   depths-changed c = under-changed (treeOf u) (treeOf t) k c (treeOf u .depth) (treeOf t .depth) hk others (λ j ne. others j ne .depth)

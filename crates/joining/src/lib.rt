@@ -158,6 +158,6 @@ pub fn join(
         return table::answered(number, 0);
     }
     write_node(table, new_node(node, parent, sort, kind, share, depth));
-    rating::rates::renew(table);
+    rating::renewal::renew_below(table, numbers::natural(parent) as usize);
     Answer::Accepted(0)
 }

@@ -92,7 +92,9 @@ pub fn leave(table: &mut [i64], node: i64) -> Answer
     if number != 0 {
         return table::answered(number, 0);
     }
-    clear_node(table, numbers::natural(node) as usize);
-    rating::rates::renew(table);
+    let k = numbers::natural(node) as usize;
+    let parent = Table::natural(table, k, Table::PARENT) as usize;
+    clear_node(table, k);
+    rating::renewal::renew_below(table, parent);
     Answer::Accepted(0)
 }

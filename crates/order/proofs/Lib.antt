@@ -1,2 +1,3 @@
-mod Totals
+mod Small
+mod Following
 mod Verdict

@@ -15,19 +15,20 @@ use Rattle.numbers.proofs.Every.{head-holds, rest-hold, holds-with, none-left}
 use Rattle.numbers.proofs.All.{all-at, all-intro}
 use Rattle.numbers.proofs.Parts.{zarith, add-parts, one-is-zero, plus-pos}
 use Rattle.table.specs.Limits.{tableLength, recordLength, nodes, sortAt, depthAt, waitingAt, class, client, wholeShare, greatestDepth, mostWaiting}
-use Rattle.table.specs.Places.{place, balance, waiting, depthGrains}
+use Rattle.table.specs.Places.{place, rate, balance, waiting, depthGrains}
 use Rattle.table.specs.Tree.{treeOf, there, isClass, isClient, sumUnder, eachNode, eachClass, eachClient}
 use Rattle.table.specs.Rates.{fixedSum}
 use Rattle.table.specs.Order.{isZero, headerInOrder, unusedInOrder, limitsKept, spareInOrder, rootInOrder, parentInOrder, classInOrder, rateInOrder, balanceInOrder, requestInOrder, queueInOrder, arrivalsDiffer, inOrder}
-use Rattle.table.proofs.Facts.{InOrder, facts, each-at, at-each, at-zero, zero-at as zero-of, limits-of, root-of, child-of, of-balance}
+use Rattle.table.proofs.Facts.{InOrder, facts, each-at, at-each, at-zero, zero-at as zero-of, limits-of, root-of, root-there, child-of, of-balance}
 use Rattle.treelaws.proofs.Children.{balances-parts}
 use Rattle.treelaws.proofs.Children.{class-there}
+use Rattle.treelaws.proofs.Rounding.{rate-small, rate-natural}
 use Rattle.treelaws.proofs.Floors.{grounds, balance-room, node-floor}
-use Rattle.rating.specs.Rated.{Rated}
 use Rattle.rating.proofs.Rated.{rated-of}
 use Rattle.records.specs.Record.{recordsInOrder}
 use Rattle.queues.specs.Waiting.{waitingInOrder}
 use Rattle.order.specs.Cover.{classCovers}
+use Rattle.order.specs.Following.{Testable}
 use Rattle.records.proofs.Bounds.{bounds}
 use Rattle.records.proofs.Nodes.{Node, node-at, zero-at, records-by}
 
@@ -82,7 +83,7 @@ queue-empty t k e = all-intro (waiting t k) (requestInOrder t k) (λ i hi. absur
 
 -- A table in order passes each stage.
 node-in : (t : List ℤ) → inOrder t ≡ true → (k : ℕ) → k < nodes → there (treeOf t) k ≡ true → Node t k
-unfolding inOrder eachNode plus minus
+unfolding inOrder eachNode plus minus rate
 node-in t h k hk e =
     let f = facts t h in
     let h4 = rest-hold _ _ (rest-hold _ _ (rest-hold _ _ (rest-hold _ _ h))) in
@@ -96,6 +97,7 @@ node-in t h k hk e =
       most = omega (arith, zarith, b .most, one-is-zero (balance t k));
       least = node-floor t (grounds t f) k hk e;
       client = λ d. omega (arith, zarith, b .client d, one-is-zero (balance t k));
+      rate = omega (arith, zarith, rate-small t f k hk, rate-natural t f k hk e);
     }
 
 pub stages : (t : List ℤ) → inOrder t ≡ true → Stages t
@@ -161,12 +163,21 @@ from-stages t s =
     (holds-with _ _ (at-each (isClient (treeOf t)) (queueInOrder t) (λ k hk e. head-holds _ _ (queue k hk)))
     (holds-with _ _ (all-intro nodes (arrivalsDiffer t) (λ k hk. head-holds _ _ (rest-hold _ _ (queue k hk)))) none-left)))))))))))
 
--- What the stages up to the classes make of a table: its rates can be reckoned.
-pub can-be-rated : (t : List ℤ) → length t ≡ tableLength → rootInOrder t ≡ true → recordsInOrder t ≡ true → eachClass (treeOf t) (classCovers t) ≡ true → Rated t
-can-be-rated t long root records classes =
+-- What the stages up to the classes make of a table: its rates can be tested.
+pub testable : (t : List ℤ) → length t ≡ tableLength → rootInOrder t ≡ true → recordsInOrder t ≡ true → eachClass (treeOf t) (classCovers t) ≡ true → Testable t
+unfolding rate
+testable t long root records classes =
     let node = node-at t records in
-    rated-of t long (root-of t root) (λ k hk e. limits-of t k (node k hk e .limits)) (λ k hk e ne. child-of (treeOf t) k (node k hk e .parent) ne)
-    (λ c hc e. covers-at t classes c hc e .shares)
+    let top = root-of t root in
+    record {
+      rated =
+          rated-of t 0 long top (λ k hk e. limits-of t k (node k hk e .limits)) (λ k hk e ne. child-of (treeOf t) k (node k hk e .parent) ne)
+          (λ c hc e. covers-at t classes c hc e .shares)
+          (omega arith)
+          (root-there t top)
+          (omega (arith, zarith, top .rate));
+      within = λ k hk e. node k hk e .rate;
+    }
 
 -- What they make of a place that has a limit at a node that is there: it keeps that at every node.
 module _ (t : List ℤ) (h : recordsInOrder t ≡ true) (k : ℕ) (hk : k < nodes) where

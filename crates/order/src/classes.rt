@@ -1,12 +1,10 @@
 // What each class covers: fixed shares, depths and balances under it.
-use rating::sums;
-use rating::sums::Summand;
 use rating::tree;
 use table::Table;
 ghost use mathlib.Core.Path.{_≡_};
 ghost use mathlib.Core.Bool.{true};
-ghost use Prim.Native.Nat.{_<_, _≤_, _^_};
-ghost use lib.ListN.{length};
+ghost use Prim.Native.Nat.{ℕ, _<_, _≤_, _^_};
+ghost use lib.ListN.{length, getD};
 ghost use Rattle.table.specs.Limits.{tableLength, nodes};
 ghost use Rattle.table.specs.Tree.{treeOf, isClass, testIf, eachClass};
 ghost use Rattle.records.specs.Record.{recordsInOrder};
@@ -26,15 +24,17 @@ fn class_covers(table: &[i64], c: usize, fixed: u64, depths: u64, credits: u64, 
     (fixed <= Table::WHOLE_SHARE) & (depths <= depth) & (needed <= covered)
 }
 
-// Whether every class covers what stands under it.
-pub fn classes_cover(table: &[i64]) -> bool
-    requires { ⌜ (length (now table) ≡ tableLength) × (recordsInOrder (now table) ≡ true) ⌝ }
+// Whether every class covers what stands under it, by the sums.
+pub fn classes_cover(
+    table: &[i64],
+    fixed: &[u64; Table::NODES],
+    depths: &[u64; Table::NODES],
+    credits: &[u64; Table::NODES],
+    debts: &[u64; Table::NODES],
+) -> bool
+    requires { ⌜ (length (now table) ≡ tableLength) × (recordsInOrder (now table) ≡ true) × ((c : ℕ) → c < nodes → Sums (now table) c (getD (now fixed) c 0) (getD (now depths) c 0) (getD (now credits) c 0) (getD (now debts) c 0)) ⌝ }
     ensures { λ r. ⌜ r ≡ eachClass (treeOf (now (table .entry))) (classCovers (now (table .entry))) ⌝ }
 {
-    let fixed = sums::sums(table, Summand::FixedShares);
-    let depths = sums::sums(table, Summand::Depths);
-    let credits = sums::sums(table, Summand::Credits);
-    let debts = sums::sums(table, Summand::Debts);
     let mut ok = true;
     let mut c: usize = 0;
     while c < Table::NODES {

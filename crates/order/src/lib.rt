@@ -1,8 +1,9 @@
 // Whether a table is in order: the test of document 01, "The table", made in stages. Each stage makes the next one safe
 // to compute.
 mod classes;
+mod rates;
+mod totals;
 
-use rating::rates;
 use table::Table;
 ghost use mathlib.Core.Path.{_≡_};
 ghost use Rattle.table.specs.Order.{inOrder};
@@ -20,10 +21,23 @@ pub fn in_order(table: &[i64]) -> bool
     if !(header & root & each) {
         return false;
     }
-    if !classes::classes_cover(table) {
+    let mut fixed: [u64; Table::NODES] = [0; Table::NODES];
+    let mut weights: [u64; Table::NODES] = [0; Table::NODES];
+    let mut depths: [u64; Table::NODES] = [0; Table::NODES];
+    let mut credits: [u64; Table::NODES] = [0; Table::NODES];
+    let mut debts: [u64; Table::NODES] = [0; Table::NODES];
+    totals::totals(
+        table,
+        &mut fixed,
+        &mut weights,
+        &mut depths,
+        &mut credits,
+        &mut debts,
+    );
+    if !classes::classes_cover(table, &fixed, &depths, &credits, &debts) {
         return false;
     }
-    let rates = rates::rates_in_order(table);
+    let rates = rates::rates_in_order(table, &fixed, &weights);
     let queues = queues::queues_in_order(table);
     rates & queues
 }

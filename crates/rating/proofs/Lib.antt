@@ -1,5 +1,4 @@
 pub mod Under
 pub mod Rated
-pub mod Levels
-pub mod Renewal
+pub mod Descent
 pub mod Summable

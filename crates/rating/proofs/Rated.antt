@@ -1,7 +1,7 @@
--- What a table that can be rated satisfies: its sums can be reckoned, its rates are at most the disk's. A table in order
--- can be rated.
+-- What a rated table satisfies: its sums can be reckoned, the rates below a class are at most the class's own. Which tables
+-- are rated.
 use Prim.Native.Nat.{ℕ, zero, suc, _*_, _≤_, _<_}
-use mathlib.Core.Path.{_≡_, refl, ap, _∙_, subst}
+use mathlib.Core.Path.{_≡_, refl, sym, ap, _∙_, subst}
 use mathlib.Core.Bool.{true, false, cond}
 use mathlib.Core.List.{List}
 use native.Mathlib.Omega.{arith}
@@ -13,15 +13,19 @@ use lib.IntN.{ℤ}
 use Rattle.numbers.specs.Whole.{plus}
 use Rattle.numbers.proofs.Tests.{by-test}
 use Rattle.numbers.proofs.Parts.{plus-pos, zarith}
-use Rattle.table.specs.Limits.{tableLength, nodes, root, wholeShare, greatestRate}
+use Rattle.table.specs.Limits.{tableLength, nodes, root, lastLevel, wholeShare, greatestRate}
 use Rattle.table.specs.Places.{rate}
 use Rattle.table.specs.Tree.{Tree, treeOf, there, isClass, isFixed, childOf}
-use Rattle.table.specs.Rates.{fixedShare, weight, fixedSum, weightSum, rateIn, renewed}
+use Rattle.table.specs.Rates.{fixedShare, weight, fixedSum, weightSum, renewed}
+use Rattle.table.specs.Renewal.{below, rateBelow}
 use Rattle.table.specs.Order.{inOrder}
-use Rattle.table.proofs.Facts.{Limits, Root, Child, InOrder, facts, root-there, root-level}
-use Rattle.treelaws.proofs.Children.{child-of, class-there}
-use Rattle.treelaws.proofs.Renewed.{rate-at-root, renewed-tree, renewed-disk}
-use Rattle.treelaws.proofs.Rounding.{rate-of-child, child-rate-le, weight-le-sum}
+use Rattle.table.proofs.Facts.{Limits, Root, Child, facts, root-there}
+use Rattle.treelaws.proofs.Children.{child-of}
+use Rattle.treelaws.proofs.Renewed.{renewed-tree, renewed-length}
+use Rattle.treelaws.proofs.Rounding.{child-rate-le, weight-le-sum, rate-small}
+use Rattle.treelaws.proofs.Way.{Ways, At, above}
+use Rattle.treelaws.specs.Renewal.{RenewsAll}
+use Rattle.treelaws.proofs.Below.{below-facts, below-level, by-parent, own-rate, rate-below-child}
 use Rattle.rating.specs.declared.sums.Summand.{Summand}
 use Rattle.rating.specs.declared.sums.Summand.the-variants.{FixedShares, Weights}
 use Rattle.rating.specs.Sums.{term, Summable}
@@ -53,7 +57,7 @@ placed-child tree k e ne = child-of tree (tree .parent k) k (record { there = e;
 pub weights-there : (tree : Tree) (k : ℕ) → k < nodes → there tree k ≡ true → (k ≡ 0 → ⊥) → Placed tree k → isFixed tree k ≡ false → 1 ≤ weightSum tree (tree .parent k)
 weights-there tree k hk e ne p weighted = omega (arith, weight-le-sum tree (tree .parent k) k hk (placed-child tree k e ne) weighted)
 
-module _ (t : List ℤ) (f : Rated t) where
+module _ (t : List ℤ) (c : ℕ) (f : Rated t c) where
   -- What is at most the share can be summed.
   share-summable : (which : Summand) → ((k : ℕ) → term which t k ≤ treeOf t .share k) → Summable which t
   share-summable which le =
@@ -70,64 +74,73 @@ module _ (t : List ℤ) (f : Rated t) where
   unfolding term
   weight-summable = share-summable Weights (λ k. weight-le (treeOf t) k)
 
-  -- A node at level 0 is the root.
-  pub only-root : (k : ℕ) → k < nodes → there (treeOf t) k ≡ true → treeOf t .level k ≡ 0 → k ≡ 0
-  only-root k hk e top = elim (ℕ-discrete k 0) [ yes z ↦ z | no ne ↦ absurd (let p = f .node k hk e ne in omega arith) ]
+  -- No node stands lower than level 4.
+  pub level-le : (k : ℕ) → k < nodes → there (treeOf t) k ≡ true → treeOf t .level k ≤ lastLevel
+  level-le k hk e = elim (ℕ-discrete k root) [ yes z ↦ omega (arith, f .top, ap (treeOf t .level) z) | no ne ↦ f .node k hk e ne .deep ]
 
-  rate-le-at : (l k : ℕ) → treeOf t .level k ≡ l → k < nodes → there (treeOf t) k ≡ true → rateIn (treeOf t) (rate t root) k ≤ rate t root
-  rate-le-at zero k at hk e = omega (arith, rate-at-root (treeOf t) (rate t root) k at)
-  rate-le-at (suc l) k at hk e =
-      let ne : k ≡ 0 → ⊥ = λ z. let top = f .top in omega (arith, ap (treeOf t .level) z) in
-      let p = f .node k hk e ne in
+  pub rated-ways : Ways (treeOf t)
+  rated-ways =
+      record {
+        child = λ k hk e ne. let p = f .node k hk e ne in record { class = p .class; level = p .level };
+        parent = λ k hk e ne. f .node k hk e ne .parent;
+        top = f .top;
+      }
+
+  -- No rate below a class exceeds the class's own.
+  rate-le : (l r k : ℕ) → At (treeOf t) l k → below (treeOf t) c k ≡ true → rateBelow (treeOf t) c r k ≤ r
+  rate-le zero r k a h = absurd (omega (arith, a .level, below-level (treeOf t) rated-ways c k (a .low) h))
+  rate-le (suc l) r k a h =
+      let tree = treeOf t in
+      let up = above tree rated-ways l k a in
       omega (
         arith,
-        rate-of-child (treeOf t) (rate t root) k (p .level),
-        child-rate-le (treeOf t) (treeOf t .parent k) (rateIn (treeOf t) (rate t root) (treeOf t .parent k)) k hk (placed-child (treeOf t) k e ne) (p .most),
-        rate-le-at l (treeOf t .parent k) (omega arith) (p .parent) (p .above),
+        rate-below-child tree rated-ways l c r k a (omega (arith, a .level, below-level tree rated-ways c k (a .low) h)),
+        child-rate-le tree (tree .parent k) (rateBelow tree c r (tree .parent k)) k (a .low) (placed-child tree k (a .there) (up .below)) (f .node k (a .low) (a .there) (up .below) .most),
+        by-parent tree rated-ways {P = rateBelow tree c r (tree .parent k) ≤ r} l c k a h
+            (λ e. omega (arith, ap (rateBelow tree c r) e, own-rate tree c r))
+            (λ e. rate-le l r (tree .parent k) (up .up) e),
       )
 
-  -- No rate exceeds the disk's.
-  pub rate-le-disk : (k : ℕ) → k < nodes → there (treeOf t) k ≡ true → rateIn (treeOf t) (rate t root) k ≤ rate t root
-  rate-le-disk k hk e = rate-le-at (treeOf t .level k) k refl hk e
+  pub rate-below-le : (r k : ℕ) → k < nodes → below (treeOf t) c k ≡ true → rateBelow (treeOf t) c r k ≤ r
+  rate-below-le r k hk h = rate-le (treeOf t .level k) r k (record { low = hk; there = below-facts (treeOf t) c k h .there; level = refl }) h
 
--- What makes a table rated: its root, the limits of its nodes, their parents, and the fixed shares under each class.
-pub rated-of : (t : List ℤ) → length t ≡ tableLength → Root t → ((k : ℕ) → k < nodes → there (treeOf t) k ≡ true → Limits t k) → ((k : ℕ) → k < nodes → there (treeOf t) k ≡ true → (k ≡ 0 → ⊥) → Child (treeOf t) k) → ((c : ℕ) → c < nodes → isClass (treeOf t) c ≡ true → fixedSum (treeOf t) c ≤ wholeShare) → Rated t
-unfolding treeOf rate
-rated-of t long root limits child shares =
+-- What makes a table rated: its root, the limits of its nodes, their parents, the fixed shares under each class, and the
+-- class's own rate.
+pub rated-of : (t : List ℤ) (c : ℕ) → length t ≡ tableLength → Root t → ((k : ℕ) → k < nodes → there (treeOf t) k ≡ true → Limits t k) → ((k : ℕ) → k < nodes → there (treeOf t) k ≡ true → (k ≡ 0 → ⊥) → Child (treeOf t) k) → ((c : ℕ) → c < nodes → isClass (treeOf t) c ≡ true → fixedSum (treeOf t) c ≤ wholeShare) → c < nodes → there (treeOf t) c ≡ true → rate t c ≤ greatestRate → Rated t c
+unfolding treeOf
+rated-of t c long root limits child shares low here own =
     record {
       long = long;
       top = ap plus (root .level) ∙ plus-pos 0;
-      disk = let r = root .rate in omega (arith, zarith);
       node = λ k hk e ne.
           let l = limits k hk e in
-          let c = child k hk e ne in
           let parent : treeOf t .parent k < nodes = omega (arith, zarith) in
+          let class = child k hk e ne .class in
           record {
             parent = parent;
-            above = class-there (treeOf t) (treeOf t .parent k) (c .class);
-            level = c .level;
+            class = class;
+            level = child k hk e ne .level;
             deep = omega (arith, zarith);
             least = omega (arith, zarith);
             most = omega (arith, zarith);
-            shares = shares (treeOf t .parent k) parent (c .class);
+            shares = shares (treeOf t .parent k) parent class;
           };
+      low = low;
+      here = here;
+      own = own;
     }
 
--- A table in order can be rated.
-pub rated : (t : List ℤ) → InOrder t → Rated t
-rated t f = rated-of t (f .long) (f .root) (f .limits) (f .child) (λ c hc e. f .class c hc e .shares)
-
--- So can a table that is in order once its rates are renewed: what rates are reckoned from is the same before and after.
-pub rated-before : (u : List ℤ) → length u ≡ tableLength → inOrder (renewed u) ≡ true → Rated u
-rated-before u long h =
+-- A table that is in order once its rates are renewed is rated: what rates are worked out from is the same before and after.
+pub rated-before : (u : List ℤ) (c : ℕ) → inOrder (renewed u) ≡ true → RenewsAll u c → Rated u c
+rated-before u c h below =
     let f = facts (renewed u) h in
-    let r = rated (renewed u) f in
+    let r = rated-of (renewed u) root (f .long) (f .root) (f .limits) (f .child) (λ c hc e. f .class c hc e .shares) (omega arith) (root-there (renewed u) (f .root)) (rate-small (renewed u) f root (omega arith)) in
     let same = renewed-tree u in
-    let root : there (treeOf u) 0 ≡ true = rw same at (root-there (renewed u) (f .root)) in
-    let top : treeOf u .level 0 ≡ 0 = rw same at (root-level (renewed u) (f .root)) in
     record {
-      long = long;
-      top = top;
-      disk = omega (arith, r .disk, renewed-disk u long root top);
+      long = sym (renewed-length u) ∙ f .long;
+      top = rw same at (r .top);
       node = subst (λ (tree : Tree). (k : ℕ) → k < nodes → there tree k ≡ true → (k ≡ 0 → ⊥) → Placed tree k) same (r .node);
+      low = below .low;
+      here = below .there;
+      own = below .small;
     }

@@ -5,7 +5,7 @@ use mathlib.Core.Bool.{true, false}
 use mathlib.Core.List.{List}
 use native.Mathlib.Omega.{arith}
 use native.Mathlib.Decide.{ℕ-discrete}
-use lib.ListN.{length, getD, set, replicate, getD-replicate}
+use lib.ListN.{getD, set, length-set, replicate, length-replicate, getD-replicate}
 use lib.Seq.{getD-set-same, getD-set-other}
 use lib.IntN.{ℤ}
 use Rattle.numbers.specs.Below.{sumBelow}
@@ -13,13 +13,12 @@ use Rattle.numbers.proofs.Tests.{by-test, true-false}
 use Rattle.numbers.proofs.Sums.{sum-next, sum-bound}
 use Rattle.table.specs.Limits.{nodes}
 use Rattle.table.specs.Tree.{Tree, treeOf, there, childOf, countIf, sumUnder}
+use Rattle.table.specs.Rates.{fixedSum, weightSum}
 use Rattle.treelaws.proofs.Children.{child-facts, child-of, counted, uncounted}
 use Rattle.rating.specs.declared.sums.Summand.{Summand}
-use Rattle.rating.specs.Sums.{term, Summable}
-
--- The sum under class c of the nodes below n.
-unfoldable pub underBelow : ℕ → Tree → ℕ → (ℕ → ℕ) → ℕ
-underBelow n tree c f = sumBelow n (λ k. countIf (childOf tree c k) f k)
+use Rattle.rating.specs.declared.sums.Summand.the-variants.{FixedShares, Weights}
+use Rattle.rating.specs.Rated.{ClassSums}
+use Rattle.rating.specs.Sums.{term, Summable, underBelow, SumsBelow}
 
 module _ (tree : Tree) (c : ℕ) (f : ℕ → ℕ) where
   pub under-start : underBelow 0 tree c f ≡ 0
@@ -56,35 +55,44 @@ unfolding underBelow
 under-small which t s n c h = sum-bound n (2 ^ 57) (λ k. countIf (childOf (treeOf t) c k) (term which t) k) (λ k hk. child-small which t s c k (omega arith))
 
 -- All sums at once: node k's term is added to the sum of its parent.
-unfoldable pub AllUnder : ℕ → Tree → (ℕ → ℕ) → List ℕ → Type 0
-AllUnder n tree f sums = (c : ℕ) → c < nodes → getD sums c 0 ≡ underBelow n tree c f
+module _ (which : Summand) (t : List ℤ) where
+  pub sums-start : SumsBelow which t 1 (replicate nodes 0)
+  sums-start = record { long = length-replicate {A = ℕ} nodes 0; at = λ c hc. getD-replicate nodes c 0 0 hc ∙ sym (under-root (treeOf t) c (term which t)) }
 
-pub all-there : (tree : Tree) (f : ℕ → ℕ) (sums : List ℕ) (k p : ℕ) → there tree k ≡ true → (k ≡ 0 → ⊥) → tree .parent k ≡ p → p < length sums → AllUnder k tree f sums → AllUnder (k + 1) tree f (set sums p (getD sums p 0 + f k))
-unfolding AllUnder
-all-there tree f sums k p here below parent hp h c hc = elim (ℕ-discrete c p) [ yes e ↦ same e | no ne ↦ other ne ]
-  where
-    same : c ≡ p → getD (set sums p (getD sums p 0 + f k)) c 0 ≡ underBelow (k + 1) tree c f
-    same e =
-        let child = child-of tree c k (record { there = here; below = below; parent = parent ∙ sym e }) in
-        ap (λ (j : ℕ). getD (set sums p (getD sums p 0 + f k)) j 0) e
-        ∙ getD-set-same sums p (getD sums p 0 + f k) 0 hp
-        ∙ omega (arith, h c hc, ap (λ (j : ℕ). getD sums j 0) e, under-next tree c f k, counted (childOf tree c k) f k child)
+  pub sums-end : (sums : List ℕ) → SumsBelow which t nodes sums → (c : ℕ) → c < nodes → getD sums c 0 ≡ sumUnder (treeOf t) c (term which t)
+  sums-end sums f c hc = f .at c hc ∙ under-end (treeOf t) c (term which t)
 
-    other : (c ≡ p → ⊥) → getD (set sums p (getD sums p 0 + f k)) c 0 ≡ underBelow (k + 1) tree c f
-    other ne = getD-set-other sums p c (getD sums p 0 + f k) 0 ne ∙ h c hc ∙ sym (under-skip tree c f k (λ e. ne (sym (child-facts tree c k e .parent) ∙ parent)))
+  pub sums-small : Summable which t → (n : ℕ) → n ≤ nodes → (sums : List ℕ) → SumsBelow which t n sums → (c : ℕ) → c < nodes → getD sums c 0 ≤ n * 2 ^ 57
+  sums-small s n hn sums f c hc = omega (arith, f .at c hc, under-small which t s n c hn)
 
-pub all-skip : (tree : Tree) (f : ℕ → ℕ) (sums : List ℕ) (k : ℕ) → there tree k ≡ false → AllUnder k tree f sums → AllUnder (k + 1) tree f sums
-unfolding AllUnder
-all-skip tree f sums k gone h c hc = h c hc ∙ sym (under-skip tree c f k (λ e. true-false (child-facts tree c k e .there) gone))
+  pub sums-past : (sums : List ℕ) (k : ℕ) → there (treeOf t) k ≡ false → SumsBelow which t k sums → SumsBelow which t (k + 1) sums
+  sums-past sums k gone f =
+      record {
+        long = f .long;
+        at = λ c hc. f .at c hc ∙ sym (under-skip (treeOf t) c (term which t) k (λ e. true-false (child-facts (treeOf t) c k e .there) gone));
+      }
 
-pub all-start : (tree : Tree) (f : ℕ → ℕ) → AllUnder 1 tree f (replicate nodes 0)
-unfolding AllUnder
-all-start tree f c hc = getD-replicate nodes c 0 0 hc ∙ sym (under-root tree c f)
+  pub sums-next : (sums : List ℕ) (k p : ℕ) → there (treeOf t) k ≡ true → (k ≡ 0 → ⊥) → treeOf t .parent k ≡ p → p < nodes → SumsBelow which t k sums → SumsBelow which t (k + 1) (set sums p (getD sums p 0 + term which t k))
+  sums-next sums k p here below parent hp f =
+      record {
+        long = length-set sums p (getD sums p 0 + term which t k) ∙ f .long;
+        at = λ c hc. elim (ℕ-discrete c p) [ yes e ↦ same c hc e | no ne ↦ other c hc ne ];
+      }
+    where
+      same : (c : ℕ) → c < nodes → c ≡ p → getD (set sums p (getD sums p 0 + term which t k)) c 0 ≡ underBelow (k + 1) (treeOf t) c (term which t)
+      same c hc e =
+          let child = child-of (treeOf t) c k (record { there = here; below = below; parent = parent ∙ sym e }) in
+          ap (λ (j : ℕ). getD (set sums p (getD sums p 0 + term which t k)) j 0) e
+          ∙ getD-set-same sums p (getD sums p 0 + term which t k) 0 (omega (arith, f .long))
+          ∙ omega (arith, f .at c hc, ap (λ (j : ℕ). getD sums j 0) e, under-next (treeOf t) c (term which t) k, counted (childOf (treeOf t) c k) (term which t) k child)
 
-pub all-end : (tree : Tree) (f : ℕ → ℕ) (sums : List ℕ) → AllUnder nodes tree f sums → (c : ℕ) → c < nodes → getD sums c 0 ≡ sumUnder tree c f
-unfolding AllUnder
-all-end tree f sums h c hc = h c hc ∙ under-end tree c f
+      other : (c : ℕ) → c < nodes → (c ≡ p → ⊥) → getD (set sums p (getD sums p 0 + term which t k)) c 0 ≡ underBelow (k + 1) (treeOf t) c (term which t)
+      other c hc ne =
+          getD-set-other sums p c (getD sums p 0 + term which t k) 0 ne
+          ∙ f .at c hc
+          ∙ sym (under-skip (treeOf t) c (term which t) k (λ e. ne (sym (child-facts (treeOf t) c k e .parent) ∙ parent)))
 
-pub all-small : (which : Summand) (t : List ℤ) → Summable which t → (n : ℕ) → n ≤ nodes → (sums : List ℕ) → AllUnder n (treeOf t) (term which t) sums → (c : ℕ) → c < nodes → getD sums c 0 ≤ n * 2 ^ 57
-unfolding AllUnder
-all-small which t s n hn sums h c hc = omega (arith, h c hc, under-small which t s n c hn)
+-- Both sums of shares.
+pub class-sums : (t : List ℤ) (fs ws : List ℕ) → SumsBelow FixedShares t nodes fs → SumsBelow Weights t nodes ws → ClassSums t fs ws
+unfolding term fixedSum weightSum
+class-sums t fs ws fixed weights = record { fixed = sums-end FixedShares t fs fixed; weights = sums-end Weights t ws weights }

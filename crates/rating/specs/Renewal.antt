@@ -1,17 +1,30 @@
--- One node's part in renewing the rates, and in the test of them.
-use Prim.Native.Nat.{ℕ}
-use mathlib.Core.Bool.{Bool, cond}
+-- How far the renewal below a class has come. It goes by level, and at one level by number: the turn of node k at level l is
+-- l x 64 + k.
+use Prim.Native.Nat.{ℕ, _+_, _*_, _≤_, _<_}
+use mathlib.Core.Path.{_≡_}
+use mathlib.Core.Bool.{Bool, true, false}
 use mathlib.Core.List.{List}
+use lib.ListN.{length, getD}
 use lib.IntN.{ℤ, pos}
-use Rattle.numbers.specs.Whole.{sameℤ}
-use Rattle.table.specs.Limits.{rateAt}
-use Rattle.table.specs.Places.{place, put}
-use Rattle.table.specs.Tree.{treeOf, there, testIf}
+use Rattle.table.specs.Limits.{nodes, rateAt}
+use Rattle.table.specs.Places.{place, rate}
+use Rattle.table.specs.Tree.{Tree, treeOf}
+use Rattle.table.specs.Renewal.{below, rateBelow, renewedBelow}
+use Rattle.rating.specs.Rated.{Rated}
 
--- The table with rate r written for node k, where it is there.
-unfoldable pub withRate : List ℤ → ℕ → ℕ → List ℤ
-withRate t k r = cond (there (treeOf t) k) (put t k rateAt (pos r)) t
+abbrev pub turn : Tree → ℕ → ℕ
+turn tree k = tree .level k * nodes + k
 
--- Whether rate r stands at node k, where it is there.
-unfoldable pub hasRate : List ℤ → ℕ → ℕ → Bool
-hasRate t k r = testIf (there (treeOf t) k) (λ j. sameℤ (place t j rateAt) (pos r)) k
+-- The nodes below class c whose turn was before m have their rates, and they alone are marked.
+pub record Descent (t : List ℤ) (c m : ℕ) (marks : List Bool) : Type 0 where
+  pub rated : Rated t c
+  pub wide : length marks ≡ nodes
+  pub right : (k : ℕ) → k < nodes → below (treeOf t) c k ≡ true → turn (treeOf t) k < m → place t k rateAt ≡ pos (rateBelow (treeOf t) c (rate t c) k)
+  pub marked : (k : ℕ) → k < nodes → turn (treeOf t) k < m → getD marks k false ≡ below (treeOf t) c k
+  pub unmarked : (k : ℕ) → k < nodes → m ≤ turn (treeOf t) k → getD marks k false ≡ false
+
+-- Table u has come so far from table t, whose renewal it does not change.
+pub record Onward (t u : List ℤ) (c m : ℕ) (marks : List Bool) : Type 0 where
+  pub descent : Descent u c m marks
+  pub tree : treeOf u ≡ treeOf t
+  pub renewal : renewedBelow u c ≡ renewedBelow t c

@@ -3,11 +3,13 @@ use Prim.Native.Nat.{ℕ, _≤_, _<_, _^_}
 use mathlib.Core.Path.{_≡_}
 use mathlib.Core.Bool.{true}
 use mathlib.Core.List.{List}
+use lib.ListN.{length, getD}
 use lib.IntN.{ℤ}
 use Rattle.numbers.specs.Whole.{plus, minus}
+use Rattle.numbers.specs.Below.{sumBelow}
 use Rattle.table.specs.Limits.{nodes, root}
 use Rattle.table.specs.Places.{rate, balance}
-use Rattle.table.specs.Tree.{treeOf, there}
+use Rattle.table.specs.Tree.{Tree, treeOf, there, childOf, countIf}
 use Rattle.table.specs.Rates.{fixedShare, weight}
 use Rattle.rating.specs.declared.sums.Summand.{Summand}
 use Rattle.rating.specs.declared.sums.Summand.the-variants.{FixedShares, Weights, Depths, Rates, Credits, Debts}
@@ -26,3 +28,12 @@ term Debts t k = minus (balance t k)
 pub record Summable (which : Summand) (t : List ℤ) : Type 0 where
   pub parent : (k : ℕ) → k < nodes → there (treeOf t) k ≡ true → (k ≡ root → ⊥) → treeOf t .parent k < nodes
   pub small : (k : ℕ) → k < nodes → there (treeOf t) k ≡ true → (k ≡ root → ⊥) → term which t k ≤ 2 ^ 57
+
+-- The sum under class c of the nodes below n.
+unfoldable pub underBelow : ℕ → Tree → ℕ → (ℕ → ℕ) → ℕ
+underBelow n tree c f = sumBelow n (λ k. countIf (childOf tree c k) f k)
+
+-- A list has these sums for each class.
+pub record SumsBelow (which : Summand) (t : List ℤ) (n : ℕ) (sums : List ℕ) : Type 0 where
+  pub long : length sums ≡ nodes
+  pub at : (c : ℕ) → c < nodes → getD sums c 0 ≡ underBelow n (treeOf t) c (term which t)

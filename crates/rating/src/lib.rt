@@ -1,4 +1,5 @@
-// Sums per class, every node's rate, and the renewal of rates.
+// Sums per class, a child's rate, and the renewal of the rates below a class.
 pub mod rates;
+pub mod renewal;
 pub mod sums;
 pub mod tree;

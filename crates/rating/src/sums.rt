@@ -1,13 +1,13 @@
 // Sums over the children of a class.
 ghost use mathlib.Core.Path.{_≡_};
 ghost use mathlib.Core.Bool.{cond};
-ghost use Prim.Native.Nat.{ℕ, _+_, _-_, _≤_, _<_};
-ghost use lib.ListN.{length, getD};
+ghost use Prim.Native.Nat.{_+_, _-_, _≤_, _<_};
+ghost use lib.ListN.{length};
 ghost use lib.Dec.{eqb, ltb};
 ghost use Rattle.table.specs.Limits.{tableLength, nodes, wholeShare};
 ghost use Rattle.table.specs.Tree.{treeOf, childOf, countIf, sumUnder};
 ghost use Rattle.table.specs.Rates.{fixedShare, weight, fixedSum};
-ghost use Rattle.rating.specs.Sums.{term, Summable};
+ghost use Rattle.rating.specs.Sums.{term, Summable, SumsBelow};
 use super::tree;
 use table::Table;
 
@@ -95,19 +95,27 @@ pub fn shares_above(table: &[i64], c: usize, old: u64, kind: u64, share: u64) ->
     Table::WHOLE_SHARE < sum - old
 }
 
-// The sums under all classes, in one pass. The root is nobody's child.
-pub fn sums(table: &[i64], which: Summand) -> [u64; Table::NODES]
-    requires { ⌜ (length (now table) ≡ tableLength) × Summable which (now table) ⌝ }
-    ensures { λ r. ⌜ ((c : ℕ) → c < nodes → getD r c 0 ≡ sumUnder (treeOf (now (table .entry))) c (term which (now (table .entry)))) ⌝ }
+// Adds the summand of node k, where it is there, to the sum of its class.
+pub fn add_node(table: &[i64], which: Summand, sums: &mut [u64; Table::NODES], k: usize)
+    requires { ⌜ (length (now table) ≡ tableLength) × Summable which (now table) × (0 < k) × (k < nodes) × SumsBelow which (now table) k (now sums) ⌝ }
+    ensures { λ _. ⌜ SumsBelow which (now (table .entry)) (k + 1) (now (sums .exit)) ⌝ }
 {
-    let mut sums: [u64; Table::NODES] = [0; Table::NODES];
+    if !tree::there(table, k) {
+        return;
+    }
+    let c = Table::natural(table, k, Table::PARENT) as usize;
+    sums[c] = sums[c] + term(table, which, k);
+}
+
+// The sums of fixed shares and of weights under all classes, in one pass from sums of 0. The root is nobody's child.
+pub fn share_sums(table: &[i64], fixed: &mut [u64; Table::NODES], weights: &mut [u64; Table::NODES])
+    requires { ⌜ (length (now table) ≡ tableLength) × (Summable Summand.FixedShares (now table)) × (Summable Summand.Weights (now table)) × (SumsBelow Summand.FixedShares (now table) 1 (now fixed)) × (SumsBelow Summand.Weights (now table) 1 (now weights)) ⌝ }
+    ensures { λ _. ⌜ (SumsBelow Summand.FixedShares (now (table .entry)) nodes (now (fixed .exit))) × (SumsBelow Summand.Weights (now (table .entry)) nodes (now (weights .exit))) ⌝ }
+{
     let mut k: usize = 1;
     while k < Table::NODES {
-        if tree::there(table, k) {
-            let c = Table::natural(table, k, Table::PARENT) as usize;
-            sums[c] = sums[c] + term(table, which, k);
-        }
+        add_node(table, Summand::FixedShares, fixed, k);
+        add_node(table, Summand::Weights, weights, k);
         k += 1;
     }
-    sums
 }

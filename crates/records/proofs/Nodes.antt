@@ -7,12 +7,12 @@ use mathlib.Core.List.{List}
 use borrow.Author.Tests.{leb-true, le-leb, eqb-true, eq-eqb}
 use lib.Dec.{eqb}
 use lib.IntN.{ℤ}
-use Rattle.numbers.specs.Whole.{plus, minus}
+use Rattle.numbers.specs.Whole.{plus, minus, withinℤ}
 use Rattle.numbers.specs.Below.{allBelow}
 use Rattle.numbers.proofs.Tests.{by-test, true-false, cond-true, cond-false, or-cases, or-true-left, or-true-right}
 use Rattle.numbers.proofs.Every.{head-holds, rest-hold, holds-with, none-left}
 use Rattle.numbers.proofs.All.{all-at, all-intro}
-use Rattle.table.specs.Limits.{recordLength, nodes, lastClassLevel, lastLevel}
+use Rattle.table.specs.Limits.{recordLength, nodes, rateAt, lastClassLevel, lastLevel, greatestRate}
 use Rattle.table.specs.Places.{place, balance, waiting, depthGrains}
 use Rattle.table.specs.Tree.{treeOf, there, isClass}
 use Rattle.table.specs.Order.{isZero, limitsKept, spareInOrder, parentInOrder}
@@ -28,6 +28,7 @@ pub record Node (t : List ℤ) (k : ℕ) : Type 0 where
   pub most : plus (balance t k) ≤ depthGrains t k
   pub least : minus (balance t k) ≤ lastLevel * depthGrains t k
   pub client : isClass (treeOf t) k ≡ false → minus (balance t k) ≡ 0
+  pub rate : withinℤ 0 greatestRate (place t k rateAt) ≡ true
 
 node-of : (t : List ℤ) (k : ℕ) → nodeInOrder t k ≡ true → Node t k
 unfolding nodeInOrder classPlaced balanceWithin
@@ -36,7 +37,8 @@ node-of t k h =
     let h2 = rest-hold _ _ h1 in
     let h3 = rest-hold _ _ h2 in
     let placed = test-at (isClass (treeOf t) k) (classPlaced t) k (head-holds _ _ h3) in
-    let b = head-holds _ _ (rest-hold _ _ h3) in
+    let h4 = rest-hold _ _ h3 in
+    let b = head-holds _ _ h4 in
     let b1 = rest-hold _ _ b in
     record {
       limits = head-holds _ _ h;
@@ -49,6 +51,7 @@ node-of t k h =
       client = λ e.
           ⊎-elim (λ d. absurd (true-false d e)) (λ d. eqb-true (minus (balance t k)) 0 d)
           (or-cases (isClass (treeOf t) k) (eqb (minus (balance t k)) 0) (head-holds _ _ (rest-hold _ _ b1)));
+      rate = head-holds _ _ (rest-hold _ _ h4);
     }
 
 of-node : (t : List ℤ) (k : ℕ) → Node t k → nodeInOrder t k ≡ true
@@ -65,7 +68,7 @@ of-node t k f =
     (by-test (isClass (treeOf t) k) (or-true-left (isClass (treeOf t) k) (eqb (minus (balance t k)) 0))
     (λ e. or-true-right (isClass (treeOf t) k) (eqb (minus (balance t k)) 0) (eq-eqb _ _ (f .client e))))
     none-left)))
-    none-left))))
+    (holds-with _ _ (f .rate) none-left)))))
 
 pub node-at : (t : List ℤ) → recordsInOrder t ≡ true → (k : ℕ) → k < nodes → there (treeOf t) k ≡ true → Node t k
 unfolding recordsInOrder recordInOrder

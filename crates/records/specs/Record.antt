@@ -1,14 +1,14 @@
--- A record by itself and with its parent's: the first stage of the in-order test. It makes the sums under the classes safe
--- to compute.
+-- A record by itself and with its parent's: the first stage of the in-order test. It makes the sums under the classes and
+-- the test of rates safe to compute.
 use Prim.Native.Nat.{ℕ, _*_}
 use mathlib.Core.Bool.{Bool, cond, _||_}
 use mathlib.Core.List.{List, [], _∷_}
 use lib.Dec.{eqb, leb}
 use lib.IntN.{ℤ}
-use Rattle.numbers.specs.Whole.{plus, minus}
+use Rattle.numbers.specs.Whole.{plus, minus, withinℤ}
 use Rattle.numbers.specs.Tests.{every}
 use Rattle.numbers.specs.Below.{allBelow}
-use Rattle.table.specs.Limits.{nodes, recordLength, lastClassLevel, lastLevel}
+use Rattle.table.specs.Limits.{nodes, recordLength, rateAt, lastClassLevel, lastLevel, greatestRate}
 use Rattle.table.specs.Places.{place, balance, waiting, depthGrains}
 use Rattle.table.specs.Tree.{treeOf, there, isClass, testIf}
 use Rattle.table.specs.Order.{isZero, limitsKept, spareInOrder, parentInOrder}
@@ -27,7 +27,8 @@ balanceWithin t k =
     ∷ (isClass (treeOf t) k || eqb (minus (balance t k)) 0)
     ∷ [])
 
--- A node that is there, as far as its record and its parent's tell.
+-- A node that is there, as far as its record and its parent's tell. Its rate is 0 to 1,000,000,000, as every rate of a table in
+-- order is (treelaws, Rounding); that keeps the products of the test of rates small.
 unfoldable pub nodeInOrder : List ℤ → ℕ → Bool
 nodeInOrder t k =
     every
@@ -36,6 +37,7 @@ nodeInOrder t k =
     ∷ parentInOrder (treeOf t) k
     ∷ testIf (isClass (treeOf t) k) (classPlaced t) k
     ∷ balanceWithin t k
+    ∷ withinℤ 0 greatestRate (place t k rateAt)
     ∷ [])
 
 -- An unused record is zero throughout.

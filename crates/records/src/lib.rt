@@ -70,7 +70,8 @@ fn node_in_order(table: &[i64], k: usize) -> bool
     let parent = parent_in_order(table, k);
     let class = class_placed(table, k);
     let balance = balance_within(table, k);
-    spare & parent & class & balance
+    let rate = places::place_within(table, k, Table::RATE, 0, Table::GREATEST_RATE);
+    spare & parent & class & balance & rate
 }
 
 // Whether record k is in order, used or not.

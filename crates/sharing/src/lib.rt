@@ -87,8 +87,10 @@ pub fn change_share(table: &mut [i64], node: i64, kind: i64, share: i64) -> Answ
     if number != 0 {
         return table::answered(number, 0);
     }
-    write_share(table, numbers::natural(node) as usize, kind, share);
-    rating::rates::renew(table);
+    let k = numbers::natural(node) as usize;
+    let parent = Table::natural(table, k, Table::PARENT) as usize;
+    write_share(table, k, kind, share);
+    rating::renewal::renew_below(table, parent);
     Answer::Accepted(0)
 }
 
@@ -116,6 +118,6 @@ pub fn change_rate(table: &mut [i64], rate: i64) -> Answer
         return table::answered(cause, 0);
     }
     Table::put(table, 0, Table::RATE, rate);
-    rating::rates::renew(table);
+    rating::renewal::renew_below(table, 0);
     Answer::Accepted(0)
 }

@@ -2,6 +2,7 @@ pub mod Limits
 pub mod Places
 pub mod Tree
 pub mod Rates
+pub mod Renewal
 pub mod Cost
 pub mod Order
 pub mod Refusals

@@ -21,8 +21,8 @@ use Rattle.table.proofs.Places.{place-put-same, place-put-node}
 use Rattle.treelaws.proofs.Children.{ChildOf}
 use Rattle.treelaws.proofs.Children.{under-falls, under-more}
 use Rattle.treelaws.proofs.Floors.{Room, Floor}
+use Rattle.treelaws.proofs.Way.{Ways, At, above, way-first, way-once, way-other, way-top, way-cases}
 use Rattle.ticklaws.proofs.Frame.{OnlyBalances, only-put, only-trans, only-frame, frame-tree}
-use Rattle.ticklaws.proofs.Way.{Ways, At, above, way-first, way-once, way-other, way-top, way-cases}
 
 pub lower-only : (t : List ℤ) (a k : ℕ) → OnlyBalances t (lower t a k)
 unfolding lower

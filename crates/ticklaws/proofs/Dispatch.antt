@@ -20,10 +20,10 @@ use Rattle.table.specs.Tree.{Tree, treeOf, there, atOrAbove}
 use Rattle.table.specs.Tick.{State, grains, charge, takenOut, dispatched}
 use Rattle.table.proofs.Facts.{InOrder}
 use Rattle.treelaws.proofs.Floors.{Room, Floor, Under}
+use Rattle.treelaws.proofs.Way.{Ways, ways-of, At, above-there}
 use Rattle.ticklaws.proofs.Frame.{Frame, frame-trans, frame-tree, OnlyBalances, only-frame}
 use Rattle.ticklaws.proofs.Queues.{Shifted, only-shifted, shifted-trans, queues-shifted}
 use Rattle.ticklaws.proofs.Reached.{Reached, reached-long}
-use Rattle.ticklaws.proofs.Way.{Ways, ways-of, At, above-there}
 use Rattle.ticklaws.proofs.Charge.{charge-only, charge-on, charge-off, charge-floor}
 use Rattle.ticklaws.proofs.TakenOut.{taken-frame, taken-balance, taken-own, taken-other}
 

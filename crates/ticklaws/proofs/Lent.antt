@@ -21,10 +21,10 @@ use Rattle.table.specs.Tick.{nobody, State, grains, enough, dispatched, supplie
 use Rattle.table.specs.Choice.{HasSupplier}
 use Rattle.table.proofs.Facts.{InOrder}
 use Rattle.table.proofs.Choice.{has-supplier, next-found, none-next}
-use Rattle.treelaws.proofs.Floors.{children-under, Levels, Room, Under}
+use Rattle.treelaws.proofs.Floors.{children-under, Levels, Room, Under, levels, grounds}
+use Rattle.treelaws.proofs.Way.{ways-of, At, above-there}
 use Rattle.ticklaws.proofs.Frame.{frame-tree}
 use Rattle.ticklaws.proofs.Reached.{Reached}
-use Rattle.ticklaws.proofs.Way.{ways-of, At, above-there}
 use Rattle.ticklaws.proofs.Supplier.{supplier-way}
 use Rattle.ticklaws.proofs.Dispatch.{Dispatch, dispatch, dispatch-reached, dispatch-under}
 use Rattle.ticklaws.proofs.Served.{client-at}
@@ -84,7 +84,7 @@ module _ (t : List ℤ) (f : InOrder t) (st : State) (r : Settled t (st .table))
       record {
         reached =
             dispatch-reached t f st (r .reached) k hk (s .waits) (supplier u k) supplier-at
-            (supplier-room (treeOf t) (ways-of t f .levels) (balance u) (r .under) (grains (size u k 0)) (supplier u k) (supplier-at .low) (s .enough));
+            (supplier-room (treeOf t) (levels t (grounds t f)) (balance u) (r .under) (grains (size u k 0)) (supplier u k) (supplier-at .low) (s .enough));
         under = dispatch-under (treeOf t) u v k (supplier u k) lent-dispatch (r .under);
       }
 

@@ -1,7 +1,6 @@
 pub mod Frame
 pub mod Queues
 pub mod Reached
-pub mod Way
 pub mod Charge
 pub mod TakenOut
 pub mod Sweep

@@ -22,9 +22,9 @@ use Rattle.table.specs.Tick.{State, grains, enough, dispatched, ready, served, 
 use Rattle.table.proofs.Facts.{InOrder}
 use Rattle.treelaws.proofs.Floors.{Room}
 use Rattle.treelaws.proofs.Sorts.{client-there, client-class}
+use Rattle.treelaws.proofs.Way.{At}
 use Rattle.ticklaws.proofs.Queues.{Shifted, shifted-size, waiting-client}
 use Rattle.ticklaws.proofs.Reached.{Reached}
-use Rattle.ticklaws.proofs.Way.{At}
 use Rattle.ticklaws.proofs.Dispatch.{Dispatch, dispatch, dispatch-reached, dispatch-falls}
 
 pub served-again : (n k : ℕ) (st : State) → ready (st .table) k ≡ true → served (suc n) k st ≡ served n k (dispatched st k k)

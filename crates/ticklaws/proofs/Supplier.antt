@@ -11,7 +11,7 @@ use Rattle.table.specs.Places.{waiting, size}
 use Rattle.table.specs.Tree.{treeOf, onWay, atOrAbove}
 use Rattle.table.specs.Tick.{grains, enough, supplierFrom, supply, isFound, supplier, stepsAbove, supplied}
 use Rattle.table.specs.Choice.{HasSupplier}
-use Rattle.ticklaws.proofs.Way.{way-top, way-cases, way-above}
+use Rattle.treelaws.proofs.Way.{way-top, way-cases, way-above}
 
 pub supplier-way : (t : List ℤ) (k : ℕ) → HasSupplier t k → atOrAbove (treeOf t) k (supplier t k) ≡ true
 unfolding atOrAbove

@@ -2,8 +2,10 @@ pub mod Renewed
 pub mod Sorts
 pub mod Children
 pub mod Floors
+pub mod Way
 pub mod Rounding
 pub mod Lost
 pub mod Panel
 pub mod Joined
 pub mod Joining
+pub mod Below

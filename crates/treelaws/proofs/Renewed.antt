@@ -1,14 +1,15 @@
 -- What renewing does to the places of a table: the nodes that are there get the rates of the rates section, every other
--- place stays. The idea: after n steps of writing, the nodes below n have their rates, and nothing else has changed.
+-- place stays. The idea: after n steps of writing, the chosen nodes below n have their rates, and nothing else has changed.
 use Prim.Native.Nat.{ℕ, suc, _≤_, _<_}
 use mathlib.Core.Path.{_≡_, refl, sym, ap, _∙_, fun-ext}
-use mathlib.Core.Bool.{true, false, cond}
+use mathlib.Core.Bool.{Bool, true, false, cond}
 use mathlib.Core.List.{List}
 use native.Mathlib.Omega.{arith}
 use native.Mathlib.Decide.{decLt, ℕ-discrete}
 use lib.ListN.{length, List·getD-eq-default}
 use lib.IntN.{ℤ, pos}
 use Rattle.numbers.specs.Whole.{plus}
+use Rattle.numbers.specs.Below.{forBelow}
 use Rattle.numbers.proofs.Tests.{by-test, true-false, cond-true, cond-false}
 use Rattle.numbers.proofs.Parts.{plus-pos}
 use Rattle.numbers.proofs.All.{below-cases}
@@ -19,61 +20,61 @@ use Rattle.table.specs.Tree.{Tree, treeOf, there}
 use Rattle.table.specs.Rates.{rateAtLevel, rateIn, writeRates, renewed}
 use Rattle.table.proofs.Places.{length-put, header-put, place-put-same, place-put-node, place-put-place, same-places}
 
--- The table u is t with the rate r k written for each node k below n that is there.
-pub record Written (tree : Tree) (r : ℕ → ℕ) (t : List ℤ) (n : ℕ) (u : List ℤ) : Type 0 where
+-- The table u is t with the rate r k written for each node k below n that is chosen.
+pub record Written (chosen : ℕ → Bool) (r : ℕ → ℕ) (t : List ℤ) (n : ℕ) (u : List ℤ) : Type 0 where
   pub long : length u ≡ length t
   pub heading : (p : ℕ) → p < headerLength → header u p ≡ header t p
   pub others : (k p : ℕ) → p < recordLength → (p ≡ rateAt → ⊥) → place u k p ≡ place t k p
-  pub rates : length t ≡ tableLength → (k : ℕ) → k < nodes → k < n → there tree k ≡ true → place u k rateAt ≡ pos (r k)
-  pub unused : (k : ℕ) → there tree k ≡ false → place u k rateAt ≡ place t k rateAt
+  pub rates : length t ≡ tableLength → (k : ℕ) → k < nodes → k < n → chosen k ≡ true → place u k rateAt ≡ pos (r k)
+  pub passed : (k : ℕ) → chosen k ≡ false → place u k rateAt ≡ place t k rateAt
 
--- One step, at a node that is there and at one that is not.
-written-there : (tree : Tree) (r : ℕ → ℕ) (t : List ℤ) (n : ℕ) (u : List ℤ) → there tree n ≡ true → Written tree r t n u → Written tree r t (suc n) (put u n rateAt (pos (r n)))
-written-there tree r t n u e w =
-    record {
-      long = length-put u n rateAt (pos (r n)) ∙ w .long;
-      heading = λ p hp. header-put u n rateAt (pos (r n)) p hp ∙ w .heading p hp;
-      others = λ k p hp ne. place-put-place u n rateAt (pos (r n)) k p (omega arith) hp ne ∙ w .others k p hp ne;
-      rates = λ nt k hk h here.
-          below-cases n k h
-          (λ l. place-put-node u n rateAt (pos (r n)) k rateAt (omega arith) (omega arith) (λ same. omega arith) ∙ w .rates nt k hk l here)
-          (λ same. rw same (place-put-same u n rateAt (pos (r n)) (w .long ∙ nt) (omega arith) (omega arith)));
-      unused = λ k not-there.
-          place-put-node u n rateAt (pos (r n)) k rateAt (omega arith) (omega arith) (λ same. true-false e (rw same at not-there))
-          ∙ w .unused k not-there;
-    }
+-- One step, at a node that is chosen and at one that is not.
+module _ (chosen : ℕ → Bool) (r : ℕ → ℕ) (t : List ℤ) (n : ℕ) (u : List ℤ) where
+  written-here : chosen n ≡ true → Written chosen r t n u → Written chosen r t (suc n) (put u n rateAt (pos (r n)))
+  written-here e w =
+      record {
+        long = length-put u n rateAt (pos (r n)) ∙ w .long;
+        heading = λ p hp. header-put u n rateAt (pos (r n)) p hp ∙ w .heading p hp;
+        others = λ k p hp ne. place-put-place u n rateAt (pos (r n)) k p (omega arith) hp ne ∙ w .others k p hp ne;
+        rates = λ nt k hk h here.
+            below-cases n k h
+            (λ l. place-put-node u n rateAt (pos (r n)) k rateAt (omega arith) (omega arith) (λ same. omega arith) ∙ w .rates nt k hk l here)
+            (λ same. rw same (place-put-same u n rateAt (pos (r n)) (w .long ∙ nt) (omega arith) (omega arith)));
+        passed = λ k other.
+            place-put-node u n rateAt (pos (r n)) k rateAt (omega arith) (omega arith) (λ same. true-false e (rw same at other))
+            ∙ w .passed k other;
+      }
 
-written-unused : (tree : Tree) (r : ℕ → ℕ) (t : List ℤ) (n : ℕ) (u : List ℤ) → there tree n ≡ false → Written tree r t n u → Written tree r t (suc n) u
-written-unused tree r t n u e w =
-    record {
-      long = w .long;
-      heading = w .heading;
-      others = w .others;
-      rates = λ nt k hk h here. below-cases n k h (λ l. w .rates nt k hk l here) (λ same. absurd (true-false (rw same at here) e));
-      unused = w .unused;
-    }
+  written-past : chosen n ≡ false → Written chosen r t n u → Written chosen r t (suc n) u
+  written-past e w =
+      record {
+        long = w .long;
+        heading = w .heading;
+        others = w .others;
+        rates = λ nt k hk h here. below-cases n k h (λ l. w .rates nt k hk l here) (λ same. absurd (true-false (rw same at here) e));
+        passed = w .passed;
+      }
 
-pub written : (tree : Tree) (r : ℕ → ℕ) (t : List ℤ) → Written tree r t nodes (writeRates tree r t)
-unfolding writeRates
-written tree r t =
-    for-reaches (Written tree r t) nodes (λ k u. cond (there tree k) (put u k rateAt (pos (r k))) u)
+pub written : (chosen : ℕ → Bool) (r : ℕ → ℕ) (t : List ℤ) → Written chosen r t nodes (forBelow nodes (λ k u. cond (chosen k) (put u k rateAt (pos (r k))) u) t)
+written chosen r t =
+    for-reaches (Written chosen r t) nodes (λ k u. cond (chosen k) (put u k rateAt (pos (r k))) u)
     (λ k u hk w.
-    by-test (there tree k)
-    (λ e. rw (cond-true (there tree k) (put u k rateAt (pos (r k))) u e) (written-there tree r t k u e w))
-    (λ e. rw (cond-false (there tree k) (put u k rateAt (pos (r k))) u e) (written-unused tree r t k u e w)))
+    by-test (chosen k)
+    (λ e. rw (cond-true (chosen k) (put u k rateAt (pos (r k))) u e) (written-here chosen r t k u e w))
+    (λ e. rw (cond-false (chosen k) (put u k rateAt (pos (r k))) u e) (written-past chosen r t k u e w)))
     t
     (record {
       long = refl;
       heading = λ p hp. refl;
       others = λ k p hp ne. refl;
       rates = λ nt k hk h here. absurd (omega arith);
-      unused = λ k not-there. refl;
+      passed = λ k other. refl;
     })
 
 -- Renewing is one such writing.
-renewing : (t : List ℤ) → Written (treeOf t) (rateIn (treeOf t) (rate t root)) t nodes (renewed t)
-unfolding renewed
-renewing t = written (treeOf t) (rateIn (treeOf t) (rate t root)) t
+renewing : (t : List ℤ) → Written (there (treeOf t)) (rateIn (treeOf t) (rate t root)) t nodes (renewed t)
+unfolding renewed writeRates
+renewing t = written (there (treeOf t)) (rateIn (treeOf t) (rate t root)) t
 
 pub renewed-length : (t : List ℤ) → length (renewed t) ≡ length t
 renewed-length t = renewing t .long
@@ -88,7 +89,7 @@ pub renewed-rate : (t : List ℤ) → length t ≡ tableLength → (k : ℕ) →
 renewed-rate t nt k hk e = renewing t .rates nt k hk hk e
 
 pub renewed-unused : (t : List ℤ) (k : ℕ) → there (treeOf t) k ≡ false → place (renewed t) k rateAt ≡ place t k rateAt
-renewed-unused t = renewing t .unused
+renewed-unused t = renewing t .passed
 
 -- Tables that agree in places 0 to 5 show the same tree.
 pub same-tree : (t u : List ℤ) → ((k p : ℕ) → p < rateAt → place t k p ≡ place u k p) → treeOf t ≡ treeOf u

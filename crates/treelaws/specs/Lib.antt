@@ -1,3 +1,4 @@
 pub mod Shares
 pub mod Lost
 pub mod Joins
+pub mod Renewal

@@ -1,6 +1,7 @@
 //! The second engine beside the archive of the crate cabinet: the boundary, and the tables that several programs use.
 
 pub mod cabinet;
+mod renewals;
 pub mod scenes;
 pub mod trees;
 

@@ -1,7 +1,7 @@
 //! Lists of steps with known numbers: the edges of document 01 with the costs of document 02's request (a), every end of
 //! the ranges of cost, the grains nobody gets before and after every change, what step 4 picks, every call at wrong
-//! lengths and at every limit, a plan cut short, lengthened and changed byte by byte, and a table damaged in every
-//! clause of "in order". Each begins with two zeroed tables.
+//! lengths and at every limit, a plan cut short, lengthened and changed byte by byte, a table damaged in every clause
+//! of "in order", and the scenes of `renewals`. Each begins with two zeroed tables.
 
 use hds_engine::cost::{cost, largest_size, RANGE_ENDS};
 use hds_engine::damage;
@@ -12,7 +12,7 @@ use hds_engine::steps::{Call, Reply, Step, World};
 use hds_engine::table::*;
 use hds_engine::{Engine, NewNode};
 
-use crate::trees;
+use crate::{renewals, trees};
 
 /// A name and its steps.
 pub type Scene = (String, Vec<Step>);
@@ -31,18 +31,25 @@ pub fn all() -> Vec<Scene> {
     scenes.extend(limits());
     scenes.extend(plans());
     scenes.extend(damaged());
+    scenes.extend(changes());
+    scenes.extend(renewals::wrong_rates());
     scenes
+}
+
+/// The scenes of changes of the tree under every class of a deep one.
+pub fn changes() -> Vec<Scene> {
+    renewals::changes()
 }
 
 fn open(rate: i64, depth: i64) -> Step {
     Step::Call(Call::Open { rate, depth })
 }
 
-fn join(node: i64, parent: i64, sort: i64, kind: i64, share: i64, depth: i64) -> Step {
+pub(crate) fn join(node: i64, parent: i64, sort: i64, kind: i64, share: i64, depth: i64) -> Step {
     Step::Call(Call::Join(NewNode { node, parent, sort, kind, share, depth }))
 }
 
-fn client(node: i64, parent: i64, kind: i64, share: i64, depth: i64) -> Step {
+pub(crate) fn client(node: i64, parent: i64, kind: i64, share: i64, depth: i64) -> Step {
     join(node, parent, CLIENT, kind, share, depth)
 }
 
@@ -50,31 +57,31 @@ fn class(node: i64, parent: i64, kind: i64, share: i64, depth: i64) -> Step {
     join(node, parent, CLASS, kind, share, depth)
 }
 
-fn request(client: i64, tag: i64, size: i64) -> Step {
+pub(crate) fn request(client: i64, tag: i64, size: i64) -> Step {
     Step::Call(Call::Request { client, tag, size })
 }
 
-fn tick(list_len: usize) -> Step {
+pub(crate) fn tick(list_len: usize) -> Step {
     Step::Call(Call::Tick { list_len })
 }
 
-fn look(node: i64) -> Step {
+pub(crate) fn look(node: i64) -> Step {
     Step::Call(Call::Look { node })
 }
 
-fn leave(node: i64) -> Step {
+pub(crate) fn leave(node: i64) -> Step {
     Step::Call(Call::Leave { node })
 }
 
-fn change_share(node: i64, kind: i64, share: i64) -> Step {
+pub(crate) fn change_share(node: i64, kind: i64, share: i64) -> Step {
     Step::Call(Call::ChangeShare { node, kind, share })
 }
 
-fn change_rate(rate: i64) -> Step {
+pub(crate) fn change_rate(rate: i64) -> Step {
     Step::Call(Call::ChangeRate { rate })
 }
 
-fn same(swapped: bool) -> Step {
+pub(crate) fn same(swapped: bool) -> Step {
     Step::Call(Call::Same { swapped })
 }
 
@@ -82,15 +89,15 @@ fn plan_check(plan: &[u8]) -> Step {
     Step::Call(Call::PlanCheck { plan: plan.to_vec() })
 }
 
-fn plan_read(plan: &[u8]) -> Step {
+pub(crate) fn plan_read(plan: &[u8]) -> Step {
     Step::Call(Call::PlanRead { plan: plan.to_vec() })
 }
 
-fn plan_write(buffer_len: usize) -> Step {
+pub(crate) fn plan_write(buffer_len: usize) -> Step {
     Step::Call(Call::PlanWrite { buffer_len })
 }
 
-fn poke(node: usize, place: usize, value: i64) -> Step {
+pub(crate) fn poke(node: usize, place: usize, value: i64) -> Step {
     Step::Poke { place: at(node, place), value }
 }
 
@@ -984,6 +991,6 @@ fn damaged() -> Vec<Scene> {
 }
 
 /// Calls on a table that was written from outside, which is put back afterwards.
-fn episode(damage: &[Step], calls: &[Step]) -> Vec<Step> {
+pub(crate) fn episode(damage: &[Step], calls: &[Step]) -> Vec<Step> {
     [&[Step::Keep], damage, calls, &[Step::Restore]].concat()
 }

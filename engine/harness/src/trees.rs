@@ -1,7 +1,8 @@
 //! Tables of a known shape, made by any controller.
 
 use hds_engine::table::{
-    at, waiting_count, ACCEPTED, CLASS, CLIENT, FIXED, QUEUE, QUEUE_STEP, TABLE_LEN, WEIGHTED,
+    at, get, waiting_count, ACCEPTED, CLASS, CLIENT, FIXED, LEVEL, MAX_CLASS_LEVEL, PARENT, QUEUE,
+    QUEUE_STEP, TABLE_LEN, WEIGHTED,
 };
 use hds_engine::{Controller, Engine, NewNode};
 
@@ -50,6 +51,94 @@ pub fn large(rate: i64) -> Vec<i64> {
     table
 }
 
+/// Nodes on all levels with children of both kinds, several classes on each of the levels 1 to 3, and numbers that do not
+/// rise with the level. Weights beside fixed shares of 10,000 are under class 14 and under class 21. Nodes 61 to 63 are
+/// free.
+pub fn deep(rate: i64) -> Vec<i64> {
+    let mut table = opened(rate, 1_000_000);
+    for (node, parent, kind, share, depth) in [
+        (60, 0, FIXED, 3000, 400_000),
+        (2, 0, WEIGHTED, 3, 300_000),
+        (10, 60, WEIGHTED, 5, 150_000),
+        (11, 60, FIXED, 2500, 150_000),
+        (14, 2, FIXED, 6000, 100_000),
+        (5, 2, WEIGHTED, 1, 100_000),
+        (20, 10, FIXED, 3333, 40_000),
+        (21, 10, WEIGHTED, 10_000, 40_000),
+        (50, 11, WEIGHTED, 2, 40_000),
+        (25, 14, FIXED, 10_000, 40_000),
+    ] {
+        join(&mut table, node, parent, CLASS, kind, share, depth);
+    }
+    for (node, parent, kind, share) in [
+        (3, 0, FIXED, 1500),
+        (4, 0, WEIGHTED, 2),
+        (12, 60, WEIGHTED, 7),
+        (13, 60, FIXED, 333),
+        (15, 2, WEIGHTED, 1),
+        (16, 2, WEIGHTED, 1),
+        (22, 10, WEIGHTED, 1),
+        (23, 11, FIXED, 7777),
+        (24, 11, WEIGHTED, 3),
+        (26, 14, WEIGHTED, 1),
+        (27, 5, FIXED, 1),
+        (30, 20, FIXED, 5000),
+        (31, 20, WEIGHTED, 1),
+        (32, 20, WEIGHTED, 2),
+        (33, 21, FIXED, 3333),
+        (34, 21, FIXED, 3333),
+        (35, 21, FIXED, 3334),
+        (36, 21, WEIGHTED, 9),
+        (6, 50, WEIGHTED, 1),
+        (7, 50, WEIGHTED, 1),
+        (8, 50, WEIGHTED, 1),
+        (37, 25, FIXED, 1),
+        (38, 25, WEIGHTED, 10_000),
+        (39, 25, WEIGHTED, 1),
+    ] {
+        join(&mut table, node, parent, CLIENT, kind, share, 100);
+    }
+    table
+}
+
+/// So many clients, each of weight 10,000, under the root where they are 63, else under class 63, which has all of the
+/// root's rate.
+pub fn heavy(rate: i64, clients: i64) -> Vec<i64> {
+    let mut table = opened(rate, 1_000_000);
+    let parent = if clients == 63 { 0 } else { 63 };
+    if parent == 63 {
+        join(&mut table, 63, 0, CLASS, FIXED, 10_000, 1_000_000);
+    }
+    for node in 1..=clients {
+        join(&mut table, node, parent, CLIENT, WEIGHTED, 10_000, 100);
+    }
+    table
+}
+
+/// Fixed shares of 10,000 in all, on every level beside weights, which get nothing.
+pub fn whole(rate: i64) -> Vec<i64> {
+    let mut table = opened(rate, 1_000_000);
+    for (node, parent, sort, kind, share, depth) in [
+        (1, 0, CLIENT, FIXED, 3333, 100),
+        (2, 0, CLASS, FIXED, 3333, 100_000),
+        (3, 0, CLIENT, FIXED, 3334, 100),
+        (4, 0, CLIENT, WEIGHTED, 1, 100),
+        (5, 0, CLASS, WEIGHTED, 9, 1000),
+        (6, 2, CLASS, FIXED, 10_000, 10_000),
+        (7, 2, CLIENT, WEIGHTED, 10_000, 100),
+        (8, 6, CLIENT, FIXED, 9999, 100),
+        (9, 6, CLIENT, FIXED, 1, 100),
+        (10, 6, CLASS, WEIGHTED, 5, 1000),
+        (11, 5, CLIENT, FIXED, 5000, 100),
+        (12, 5, CLIENT, WEIGHTED, 1, 100),
+        (13, 10, CLIENT, FIXED, 10_000, 100),
+        (14, 10, CLIENT, WEIGHTED, 1, 100),
+    ] {
+        join(&mut table, node, parent, sort, kind, share, depth);
+    }
+    table
+}
+
 /// The clients of a table, in rising number.
 pub fn clients(table: &[i64]) -> Vec<i64> {
     hds_engine::table::clients(table).map(|node| node as i64).collect()
@@ -79,6 +168,18 @@ pub fn renumber(table: &mut [i64], number: fn(i64) -> i64) {
 /// The class of the highest number, the root where it is the only one.
 pub fn last_class(table: &[i64]) -> i64 {
     hds_engine::table::classes(table).last().unwrap_or(0) as i64
+}
+
+/// The client of the highest number under a class.
+pub fn last_client_of(table: &[i64], class: i64) -> i64 {
+    let of_class = |node: &i64| get(table, *node as usize, PARENT) == class;
+    clients(table).into_iter().rfind(of_class).expect("a client under the class")
+}
+
+/// A class on the lowest level that classes have, if the table has one.
+pub fn lowest_class(table: &[i64]) -> Option<i64> {
+    let lowest = |class: &usize| get(table, *class, LEVEL) == MAX_CLASS_LEVEL;
+    hds_engine::table::classes(table).find(lowest).map(|class| class as i64)
 }
 
 /// The client of the highest number.

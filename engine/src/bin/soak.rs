@@ -1,5 +1,4 @@
-//! Runs the engine against itself on wild runs, and under the judge on clean
-//! ones and on those of families: `soak [first seed] [runs] [steps in a run]`.
+//! Runs the engine against itself on wild runs, and under the judge on all others: `soak [first seed] [runs] [steps in a run]`.
 
 use std::process::ExitCode;
 
@@ -18,7 +17,7 @@ fn main() -> ExitCode {
             println!("{difference}");
             return ExitCode::FAILURE;
         }
-        for profile in [Profile::Clean, Profile::Family] {
+        for profile in [Profile::Clean, Profile::Family, Profile::Tree] {
             let steps = random::run(seed, length, profile);
             if let Some(violation) = judge::watch(&mut Engine, &steps).first() {
                 println!("seed {seed}, {profile:?}: {violation}");

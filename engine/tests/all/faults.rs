@@ -251,9 +251,12 @@ fn is_found(fault: Fault, profile: Profile, seeds: u64) -> bool {
 #[test]
 fn without_a_fault_there_is_no_difference() {
     let faultless = &mut Faulty::new(Fault::None);
-    for (profile, seeds) in
-        [(Profile::Clean, 0..40), (Profile::Family, 0..20), (Profile::Wild, 0..20)]
-    {
+    for (profile, seeds) in [
+        (Profile::Clean, 0..40),
+        (Profile::Family, 0..20),
+        (Profile::Tree, 0..20),
+        (Profile::Wild, 0..20),
+    ] {
         if let Err(difference) = differential_runs(&mut Engine, faultless, seeds, 400, profile) {
             panic!("{difference}");
         }

@@ -371,7 +371,9 @@ fn counting_sizes_misses_a_broken_promise() {
 
 #[test]
 fn the_judge_is_quiet_on_the_engine() {
-    for (seeds, profile) in [(0..120, Profile::Clean), (0..60, Profile::Family)] {
+    for (seeds, profile) in
+        [(0..120, Profile::Clean), (0..60, Profile::Family), (0..60, Profile::Tree)]
+    {
         for seed in seeds {
             let steps = run(seed, 400, profile);
             assert_eq!(watch(&mut Engine, &steps), [], "{profile:?}, seed {seed}");

@@ -12,6 +12,7 @@ mod observer;
 mod ordering;
 mod plan_files;
 mod refusals;
+mod renewal;
 mod runs;
 mod stuck;
 mod support;

@@ -27,9 +27,12 @@ fn two_hundred_thousand_calls_against_itself() {
 fn refusals_leave_all_and_accepted_calls_leave_order() {
     // A panic of the watched engine is a difference too.
     let watched = &mut Watched(Engine);
-    for (seeds, profile) in
-        [(500..540, Profile::Wild), (540..580, Profile::Clean), (580..600, Profile::Family)]
-    {
+    for (seeds, profile) in [
+        (500..540, Profile::Wild),
+        (540..580, Profile::Clean),
+        (580..600, Profile::Family),
+        (600..620, Profile::Tree),
+    ] {
         if let Err(difference) = differential_runs(watched, &mut Engine, seeds, 500, profile) {
             panic!("{difference}");
         }
@@ -38,7 +41,7 @@ fn refusals_leave_all_and_accepted_calls_leave_order() {
 
 #[test]
 fn runs_are_made_by_the_seed_alone() {
-    for profile in [Profile::Clean, Profile::Family, Profile::Wild] {
+    for profile in [Profile::Clean, Profile::Family, Profile::Tree, Profile::Wild] {
         assert_eq!(run(7, 300, profile), run(7, 300, profile));
         assert_ne!(run(7, 300, profile), run(8, 300, profile));
     }

@@ -1,21 +1,24 @@
--- `joining::join` meets its contract: refused, nothing is written; accepted, the writes are made and
--- every rate is renewed, from a table whose rates can be reckoned since the renewed one is in order.
+-- `joining::join` meets its contract: refused, nothing is written; accepted, the writes are made and the rates below the
+-- parent are renewed, which renews everything.
 use Prim.Native.Nat.{ℕ}
-use mathlib.Core.Path.{_≡_, sym, ap, _∙_, subst}
+use mathlib.Core.Path.{_≡_, sym, ap, ap₂, _∙_, subst}
 use mathlib.Core.Bool.{true}
 use mathlib.Core.List.{List}
 use borrow.Author.Needs.{needs}
 use lib.IntN.{ℤ}
 use mir.Syntax.{w64}
 use mir.ValLaws.{toZ-ofZ}
+use Rattle.numbers.specs.Whole.{plus}
 use Rattle.table.specs.Answers.{told}
 use Rattle.table.specs.Refusals.{outcome}
 use Rattle.table.specs.Order.{inOrder}
 use Rattle.table.specs.Rates.{renewed}
+use Rattle.table.specs.Renewal.{renewedBelow}
 use Rattle.table.specs.Calls.{done, joinTable, joinAnswer}
-use Rattle.table.proofs.Refusals.{kept-new, kept-old, outcome-accepted}
+use Rattle.table.proofs.Refusals.{kept-new, kept-old, outcome-accepted, natural-of}
 use Rattle.treelaws.specs.Joins.{Join, refusalOf, joinedBy}
-use Rattle.calllaws.proofs.Join.{join-keeps}
+use Rattle.treelaws.specs.Renewal.{RenewsAll}
+use Rattle.calllaws.proofs.Join.{join-keeps, join-renews-below}
 use Rattle.rating.proofs.Rated.{rated-before}
 use Rattle.joining.specs.NewNodes.{asked, Natural}
 use Rattle.joining.proofs.Limits.{as-asked, accepted-limits, writable}
@@ -54,6 +57,14 @@ in-order : (c : tie.Else1) → let s = start c in inOrder (renewed (joinedBy (s 
 unfolding refusalOf joinedBy joinTable
 in-order c = subst (λ (u : List ℤ). inOrder u ≡ true) (kept-new _ _ _ (accepted c)) (join-keeps _ _ _ _ _ _ _ (accepted c))
 
+-- Renewing below the parent renews everything.
+parent : (c : tie.After-natural) → c .natural .result ≡ plus (start (accepts (c .before .before .before .before)) .args .parent)
+parent c = natural-of (c .natural .ensures) (start (accepts (c .before .before .before .before)) .fits .parent)
+
+renews : (c : tie.Else1) → let s = start c in RenewsAll (joinedBy (s .args .table .now) (join s)) (plus (s .args .parent))
+unfolding refusalOf joinedBy
+renews c = join-renews-below _ _ _ _ _ _ _ (accepted c)
+
 returns : tie.Need-returns
 unfolding refusalOf joinAnswer joinTable
 returns c = (
@@ -64,20 +75,21 @@ returns c = (
 write-node-requires : tie.Need-write-node-requires
 write-node-requires c κs = writable _ _ _ (natural c) (accepted (accepts c))
 
-renew-requires : tie.Need-renew-requires
-renew-requires c κs =
-    let w = c .before .before in
+renew-below-requires : tie.Need-renew-below-requires
+renew-below-requires c κs =
+    let w = c .before .before .before in
     let acceptance = accepts (w .before) in
-    let table = writable _ _ _ (natural (w .before)) (accepted acceptance) in
-    rated-before _ (w .write-node .kept .0 ∙ table .long) (rw (written w) (in-order acceptance))
+    rw (written w, parent c) (rated-before _ _ (in-order acceptance) (renews acceptance))
 
 returns-2 : tie.Need-returns-2
 unfolding told refusalOf joinedBy joinAnswer joinTable
 returns-2 c =
     let renewal = c .before in
-    let w = renewal .before .before .before in
-    let zero = accepted (accepts (w .before)) in
-    (sym (outcome-accepted _ _ zero), renewal .renew .ensures ∙ ap renewed (written w) ∙ sym (kept-new _ _ _ zero))
+    let known = renewal .before in
+    let w = known .before .before .before in
+    let acceptance = accepts (w .before) in
+    let zero = accepted acceptance in
+    (sym (outcome-accepted _ _ zero), renewal .renew-below .ensures ∙ ap₂ renewedBelow (written w) (parent known) ∙ renews acceptance .all ∙ sym (kept-new _ _ _ zero))
 
 pub join-spec : {M : Type 1} → statement M
 join-spec =
@@ -89,6 +101,7 @@ join-spec =
     returns
     (λ c κs. tt)
     write-node-requires
-    renew-requires
+    (λ c κs. tt)
+    renew-below-requires
     (λ c. search needs)
     returns-2)

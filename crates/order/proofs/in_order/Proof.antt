@@ -10,9 +10,11 @@ use Rattle.numbers.proofs.Tests.{same-truth, and-true, and-left, and-right}
 use Rattle.table.specs.Limits.{tableLength}
 use Rattle.table.specs.Tree.{treeOf, eachClass}
 use Rattle.table.specs.Order.{headerInOrder, rootInOrder, inOrder}
+use Rattle.rating.proofs.Under.{class-sums}
 use Rattle.records.specs.Record.{recordsInOrder}
 use Rattle.order.specs.Cover.{classCovers}
-use Rattle.order.proofs.Verdict.{stages, from-stages, out-of-order, can-be-rated, waiting-small, depth-small}
+use Rattle.order.proofs.Small.{totals-start, totals-sums}
+use Rattle.order.proofs.Verdict.{stages, from-stages, out-of-order, testable, waiting-small, depth-small}
 use borrow.Author.Needs.{needs}
 use Rattle.order.proofs.in_order.Statement.{statement}
 use Rattle.order.proofs.in_order.Tie as tie
@@ -40,7 +42,17 @@ root c = sym (c .before .before .root-in-order .ensures) ∙ and-right (c .befor
 records : (c : tie.Else2) → recordsInOrder (table (c .before)) ≡ true
 records c = sym (c .before .records-in-order .ensures) ∙ and-right (c .before .before .before .header-in-order .result && c .before .before .root-in-order .result) _ (shaped c)
 
-covered : (c : tie.Else3) → let t = table (c .before .before .before) in eachClass (treeOf t) (classCovers t) ≡ true
+-- From the sums back to the records, and from past the test of the classes to the sums.
+abbrev shaped-at : tie.After-totals → tie.Else2
+shaped-at c = c .before .before .before .before .before .before
+
+abbrev summed : tie.After-debts2 → tie.After-totals
+summed c = c .before .before .before .before
+
+abbrev past : tie.Else3 → tie.Else2
+past c = shaped-at (summed (c .before .before))
+
+covered : (c : tie.Else3) → let t = table (past c .before) in eachClass (treeOf t) (classCovers t) ≡ true
 covered c = sym (c .before .classes-cover .ensures) ∙ not-false _ (c .if3 .left)
 
 returns : tie.Need-returns
@@ -66,25 +78,34 @@ returns-2 c =
     (λ s. and-true (header .result && root .result) (each .result) (and-true (header .result) (root .result) (header .ensures ∙ s .header) (root .ensures ∙ s .root)) (each .ensures ∙ s .records))
     (not-true _ (c .if2 .taken))
 
+totals-requires : tie.Need-totals-requires
+totals-requires c κs = let shaped = c .before .before .before .before .before in (long shaped, records shaped, totals-start _)
+
 classes-cover-requires : tie.Need-classes-cover-requires
-classes-cover-requires c κs = (long c, records c)
+classes-cover-requires c κs =
+    let sums = summed c in
+    (long (shaped-at sums), records (shaped-at sums), totals-sums _ _ _ _ _ _ (sums .totals .ensures))
 
 returns-3 : tie.Need-returns-3
 returns-3 c = out-of-order _ (c .before .classes-cover .result) (λ s. c .before .classes-cover .ensures ∙ s .classes) (not-true _ (c .if3 .taken))
 
 rates-in-order-requires : tie.Need-rates-in-order-requires
-rates-in-order-requires c κs = can-be-rated _ (long (c .before .before)) (root (c .before .before)) (records (c .before .before)) (covered c)
+rates-in-order-requires c κs =
+    let covers = c .before .before in
+    let shaped = past covers in
+    let sums = summed (covers .before .before) .totals .ensures in
+    (testable _ (long shaped) (root shaped) (records shaped) (covered covers), class-sums _ _ _ (sums .fixed) (sums .weights))
 
 queues-in-order-requires : tie.Need-queues-in-order-requires
 queues-in-order-requires c κs =
-    let past = c .before .before .before in
-    (long past, waiting-small _ (records past), depth-small _ (records past))
+    let shaped = past (c .before .before .before) in
+    (long shaped, waiting-small _ (records shaped), depth-small _ (records shaped))
 
 -- The last two tests, in whichever order the code joins them.
 returns-4 : tie.Need-returns-4
 returns-4 c =
-    let past = c .before .before in
-    let shaped = past .before .before in
+    let covers = c .before .before .before .before in
+    let shaped = past covers in
     let rates = c .before .rates-in-order in
     let queues = c .queues-in-order in
     same-truth _ (inOrder (table (shaped .before)))
@@ -97,7 +118,7 @@ returns-4 c =
       header = header shaped;
       root = root shaped;
       records = records shaped;
-      classes = covered past;
+      classes = covered covers;
       rates = sym (rates .ensures) ∙ are-rates;
       queues = sym (queues .ensures) ∙ are-queues;
     }))
@@ -116,6 +137,7 @@ in-order-spec =
     root-in-order-requires
     records-in-order-requires
     returns-2
+    totals-requires
     classes-cover-requires
     returns-3
     rates-in-order-requires

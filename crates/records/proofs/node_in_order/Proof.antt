@@ -39,15 +39,20 @@ class-placed-requires c κs = search needs
 balance-within-requires : tie.Need-balance-within-requires
 balance-within-requires c κs = omega (arith, bounds _ _ (kept (past c)))
 
+place-within-requires : tie.Need-place-within-requires
+place-within-requires c κs = search needs
+
 returns-2 : tie.Need-returns-2
 unfolding nodeInOrder
 returns-2 c =
+    let tested = c .before in
     joined-as
-    (same-tests (c .before .before .before .spare-in-order .ensures)
-    (same-tests (c .before .before .parent-in-order .ensures)
-    (same-tests (c .before .class-placed .ensures)
-    (last-test (c .balance-within .ensures)))))
-    ∙ sym (every-past _ _ (kept (past (c .before))))
+    (same-tests (tested .before .before .before .spare-in-order .ensures)
+    (same-tests (tested .before .before .parent-in-order .ensures)
+    (same-tests (tested .before .class-placed .ensures)
+    (same-tests (tested .balance-within .ensures)
+    (last-test (c .place-within .ensures))))))
+    ∙ sym (every-past _ _ (kept (past (tested .before))))
 
 pub node-in-order-spec : {M : Type 1} → statement M
 node-in-order-spec =
@@ -59,4 +64,5 @@ node-in-order-spec =
     parent-in-order-requires
     class-placed-requires
     balance-within-requires
+    place-within-requires
     returns-2)

@@ -1,5 +1,5 @@
--- `sharing::change_rate` meets its contract: refused, nothing is written; accepted, the writes are made and
--- every rate is renewed, from a table whose rates can be reckoned since the renewed one is in order.
+-- `sharing::change_rate` meets its contract: refused, nothing is written; accepted, the disk's rate is written and the rates
+-- below the root are renewed, which renews everything.
 use Prim.Native.Nat.{ℕ}
 use mathlib.Core.Path.{_≡_, sym, ap, _∙_, subst}
 use mathlib.Core.Bool.{true}
@@ -15,10 +15,11 @@ use Rattle.table.specs.Answers.{told}
 use Rattle.table.specs.Refusals.{outcome}
 use Rattle.table.specs.Order.{inOrder}
 use Rattle.table.specs.Rates.{renewed}
+use Rattle.table.specs.Renewal.{renewedBelow}
 use Rattle.table.specs.Calls.{done, changeRateRefusal, changeRateTable, changeRateAnswer}
 use Rattle.table.proofs.Refusals.{kept-new, kept-old, outcome-accepted}
 use Rattle.table.proofs.Passed.{change-rate-passed, long}
-use Rattle.calllaws.proofs.ChangeRate.{change-rate-keeps}
+use Rattle.calllaws.proofs.ChangeRate.{change-rate-keeps, change-rate-renews-below}
 use Rattle.rating.proofs.Rated.{rated-before}
 use Rattle.sharing.proofs.change_rate.Statement.{statement}
 use Rattle.sharing.proofs.change_rate.Tie as tie
@@ -51,11 +52,10 @@ returns c = (
 put-requires : tie.Need-put-requires
 put-requires c κs = (long _ (change-rate-passed _ _ (accepted (c .before)) .order), omega arith, omega arith)
 
-renew-requires : tie.Need-renew-requires
-renew-requires c κs =
+renew-below-requires : tie.Need-renew-below-requires
+renew-below-requires c κs =
     let w = c .before .before in
-    let zero = accepted (accepts w) in
-    rated-before _ (w .put .kept .0 ∙ long _ (change-rate-passed _ _ zero .order)) (rw (written w) (in-order (accepts w)))
+    rw (written w) (rated-before _ _ (in-order (accepts w)) (change-rate-renews-below _ _ (accepted (accepts w))))
 
 returns-2 : tie.Need-returns-2
 unfolding told changeRateAnswer changeRateTable
@@ -63,7 +63,7 @@ returns-2 c =
     let renewal = c .before in
     let w = renewal .before .before .before in
     let zero = accepted (accepts w) in
-    (sym (outcome-accepted _ _ zero), renewal .renew .ensures ∙ ap renewed (written w) ∙ sym (kept-new _ _ _ zero))
+    (sym (outcome-accepted _ _ zero), renewal .renew-below .ensures ∙ ap (λ (u : List ℤ). renewedBelow u root) (written w) ∙ change-rate-renews-below _ _ zero .all ∙ sym (kept-new _ _ _ zero))
 
 pub change-rate-spec : {M : Type 1} → statement M
 change-rate-spec =
@@ -74,6 +74,6 @@ change-rate-spec =
     (λ c. search needs)
     returns
     put-requires
-    renew-requires
+    renew-below-requires
     (λ c. search needs)
     returns-2)

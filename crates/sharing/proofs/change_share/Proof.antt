@@ -1,7 +1,7 @@
--- `sharing::change_share` meets its contract: refused, nothing is written; accepted, the writes are made and
--- every rate is renewed, from a table whose rates can be reckoned since the renewed one is in order.
+-- `sharing::change_share` meets its contract: refused, nothing is written; accepted, the writes are made and the rates below
+-- the parent are renewed, which renews everything.
 use Prim.Native.Nat.{ℕ}
-use mathlib.Core.Path.{_≡_, sym, ap, _∙_, subst}
+use mathlib.Core.Path.{_≡_, sym, ap, ap₂, _∙_, subst}
 use mathlib.Core.Bool.{true}
 use mathlib.Core.List.{List}
 use native.Mathlib.Omega.{arith}
@@ -13,11 +13,14 @@ use Rattle.numbers.specs.Whole.{plus}
 use Rattle.table.specs.Answers.{told}
 use Rattle.table.specs.Refusals.{outcome}
 use Rattle.table.specs.Order.{inOrder}
+use Rattle.table.specs.Tree.{treeOf}
 use Rattle.table.specs.Rates.{renewed}
+use Rattle.table.specs.Renewal.{renewedBelow}
 use Rattle.table.specs.Calls.{done, changeShareRefusal, changeShareTable, changeShareAnswer, reshared}
 use Rattle.table.proofs.Refusals.{kept-new, kept-old, outcome-accepted, natural-of}
 use Rattle.table.proofs.Passed.{change-share-passed, long}
-use Rattle.calllaws.proofs.ChangeShare.{change-share-keeps}
+use Rattle.treelaws.specs.Renewal.{RenewsAll}
+use Rattle.calllaws.proofs.ChangeShare.{change-share-keeps, change-share-renews-below}
 use Rattle.rating.proofs.Rated.{rated-before}
 use Rattle.sharing.proofs.change_share.Statement.{statement}
 use Rattle.sharing.proofs.change_share.Tie as tie
@@ -30,7 +33,7 @@ accepted : (c : tie.Else1) → let s = c .before .before .before in changeShareR
 accepted c = sym (number (c .before)) ∙ c .if1 .left
 
 abbrev accepts : tie.After-natural → tie.Else1
-accepts c = c .before .before
+accepts c = c .before
 
 abbrev start : tie.Else1 → tie.Start
 start c = c .before .before .before
@@ -38,15 +41,28 @@ start c = c .before .before .before
 node : (c : tie.After-natural) → c .natural .result ≡ plus (start (accepts c) .args .node)
 node c = natural-of (c .natural .ensures) (start (accepts c) .fits .node)
 
+-- From where the parent is read back to the node.
+abbrev node-of : tie.After-natural2 → tie.After-natural
+node-of c = c .before .before
+
+parent : (c : tie.After-natural2) → let s = start (accepts (node-of c)) in c .natural2 .result ≡ treeOf (s .args .table .now) .parent (plus (s .args .node))
+unfolding treeOf
+parent c = rw (node (node-of c)) at (c .natural2 .ensures)
+
 -- What is written.
-written : (c : tie.After-write-share) → let s = start (accepts (c .before)) in c .write-share .last .0 ≡ reshared (s .args .table .now) (plus (s .args .node)) (s .args .kind) (s .args .share)
+written : (c : tie.After-write-share) → let s = start (accepts (node-of (c .before .before))) in c .write-share .last .0 ≡ reshared (s .args .table .now) (plus (s .args .node)) (s .args .kind) (s .args .share)
 written c =
-    let s = start (accepts (c .before)) in
-    rw (node (c .before), toZ-ofZ w64 (s .args .kind) (s .fits .kind), toZ-ofZ w64 (s .args .share) (s .fits .share)) at (c .write-share .ensures)
+    let known = node-of (c .before .before) in
+    let s = start (accepts known) in
+    rw (node known, toZ-ofZ w64 (s .args .kind) (s .fits .kind), toZ-ofZ w64 (s .args .share) (s .fits .share)) at (c .write-share .ensures)
 
 in-order : (c : tie.Else1) → let s = start c in inOrder (renewed (reshared (s .args .table .now) (plus (s .args .node)) (s .args .kind) (s .args .share))) ≡ true
 unfolding changeShareTable
 in-order c = subst (λ (u : List ℤ). inOrder u ≡ true) (kept-new _ _ _ (accepted c)) (change-share-keeps _ _ _ _ (accepted c))
+
+-- Renewing below the parent renews everything.
+renews : (c : tie.Else1) → let s = start c in RenewsAll (reshared (s .args .table .now) (plus (s .args .node)) (s .args .kind) (s .args .share)) (treeOf (s .args .table .now) .parent (plus (s .args .node)))
+renews c = change-share-renews-below _ _ _ _ (accepted c)
 
 returns : tie.Need-returns
 unfolding changeShareAnswer changeShareTable
@@ -55,22 +71,26 @@ returns c = (
   sym (kept-old _ _ _ (λ e. c .before .if1 .taken (number (c .before .before) ∙ e))),
 )
 
-write-share-requires : tie.Need-write-share-requires
-write-share-requires c κs = let p = change-share-passed _ _ _ _ (accepted (accepts c)) in (long _ (p .order), omega (arith, node c, p .node))
+natural-requires-2 : tie.Need-natural-requires-2
+natural-requires-2 c κs = let p = change-share-passed _ _ _ _ (accepted (accepts (c .before))) in (long _ (p .order), omega (arith, node (c .before), p .node), omega arith)
 
-renew-requires : tie.Need-renew-requires
-renew-requires c κs =
+write-share-requires : tie.Need-write-share-requires
+write-share-requires c κs = let p = change-share-passed _ _ _ _ (accepted (accepts (node-of (c .before)))) in (long _ (p .order), omega (arith, node (node-of (c .before)), p .node))
+
+renew-below-requires : tie.Need-renew-below-requires
+renew-below-requires c κs =
     let w = c .before .before in
-    let zero = accepted (accepts (w .before)) in
-    rated-before _ (w .write-share .kept .0 ∙ long _ (change-share-passed _ _ _ _ zero .order)) (rw (written w) (in-order (accepts (w .before))))
+    let acceptance = accepts (node-of (w .before .before)) in
+    rw (parent (w .before .before), written w) (rated-before _ _ (in-order acceptance) (renews acceptance))
 
 returns-2 : tie.Need-returns-2
 unfolding told changeShareAnswer changeShareTable
 returns-2 c =
     let renewal = c .before in
     let w = renewal .before .before .before in
-    let zero = accepted (accepts (w .before)) in
-    (sym (outcome-accepted _ _ zero), renewal .renew .ensures ∙ ap renewed (written w) ∙ sym (kept-new _ _ _ zero))
+    let acceptance = accepts (node-of (w .before .before)) in
+    let zero = accepted acceptance in
+    (sym (outcome-accepted _ _ zero), renewal .renew-below .ensures ∙ ap₂ renewedBelow (written w) (parent (w .before .before)) ∙ renews acceptance .all ∙ sym (kept-new _ _ _ zero))
 
 pub change-share-spec : {M : Type 1} → statement M
 change-share-spec =
@@ -81,7 +101,8 @@ change-share-spec =
     (λ c. search needs)
     returns
     (λ c κs. tt)
+    natural-requires-2
     write-share-requires
-    renew-requires
+    renew-below-requires
     (λ c. search needs)
     returns-2)

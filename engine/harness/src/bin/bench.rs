@@ -67,7 +67,15 @@ fn cases() -> Vec<Case> {
         cases.push((name("look at a client"), table.clone(), look_at(client)));
         cases.push((name("look at a class"), table.clone(), look_at(class)));
         cases.push((name("request"), table.clone(), Box::new(request)));
-        cases.push((name("join and leave"), table.clone(), Box::new(join_and_leave)));
+        let lowest =
+            trees::lowest_class(&table).map(|class| ("a class of the lowest level", class));
+        assert!(lowest.is_some() || nodes == "three nodes", "no class of the lowest level");
+        for (place, class) in [("the root", 0)].into_iter().chain(lowest) {
+            let join = join_and_leave(class);
+            cases.push((name(&format!("join and leave under {place}")), table.clone(), join));
+            let change = change_share(trees::last_client_of(&table, class));
+            cases.push((name(&format!("change share under {place}")), table.clone(), change));
+        }
         cases.push((name("tick, idle"), table.clone(), Box::new(tick)));
         for (waiting, each, most) in [("8 waiting", 8, 8), ("every queue full", 8, usize::MAX)] {
             for (what, size, balances) in [
@@ -135,10 +143,18 @@ fn request(controller: &mut dyn Controller, table: &mut [i64], _: &mut [i64]) {
     assert!(controller.request(table, client, 7, 1).is_ok());
 }
 
-fn join_and_leave(controller: &mut dyn Controller, table: &mut [i64], _: &mut [i64]) {
-    let new = NewNode { node: 63, parent: 0, sort: CLIENT, kind: WEIGHTED, share: 5, depth: 1 };
-    assert!(controller.join(table, &new).is_ok());
-    assert!(controller.leave(table, 63).is_ok());
+fn join_and_leave(parent: i64) -> Call {
+    let new = NewNode { node: 63, parent, sort: CLIENT, kind: WEIGHTED, share: 5, depth: 1 };
+    Box::new(move |controller, table, _| {
+        assert!(controller.join(table, &new).is_ok());
+        assert!(controller.leave(table, 63).is_ok());
+    })
+}
+
+fn change_share(node: i64) -> Call {
+    Box::new(move |controller, table, _| {
+        assert!(controller.change_share(table, node, WEIGHTED, 7).is_ok());
+    })
 }
 
 fn tick(controller: &mut dyn Controller, table: &mut [i64], list: &mut [i64]) {

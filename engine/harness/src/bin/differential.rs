@@ -1,12 +1,13 @@
 //! The second engine and the archive, call by call: after each call the answers, all lent buffers and the guards around
-//! them are compared. `differential [random calls] [first seed]`. Clean runs of the archive and those of families stand
-//! before demand 3's judge too, and each faulty engine must be told from the archive. The last line counts scenes, runs,
-//! judged runs and faulty engines.
+//! them are compared. `differential [random calls] [first seed]`. All runs of the archive but the wild ones stand before
+//! demand 3's judge too, and each faulty engine must be told from the archive, wrong renewals of rates by the scenes of
+//! changes too. The last line counts scenes, runs, judged runs and faulty engines.
 
 use std::process::ExitCode;
 use std::time::Instant;
 
-use harness::{scenes, Cabinet};
+use harness::scenes::{self, Scene};
+use harness::Cabinet;
 use hds_engine::differential::{differential, first_difference, Difference};
 use hds_engine::faulty::{Fault, Faulty, FAULTS};
 use hds_engine::judge;
@@ -56,7 +57,7 @@ fn compare(most: usize, first: u64) -> Result<Counts, String> {
     let mut seed = first;
     let mut random = 0;
     while random < most {
-        for profile in [Profile::Wild, Profile::Clean, Profile::Family] {
+        for profile in [Profile::Wild, Profile::Clean, Profile::Family, Profile::Tree] {
             let steps = run(seed, LENGTH, profile);
             compared(seed, &steps).map_err(|difference| format!("{profile:?}, {difference}"))?;
             if profile != Profile::Wild {
@@ -71,13 +72,21 @@ fn compare(most: usize, first: u64) -> Result<Counts, String> {
         seed += 1;
     }
     counts.calls += random;
+    let changes = scenes::changes();
     for fault in FAULTS.into_iter().filter(|&fault| fault != Fault::None) {
-        if !told_apart(fault) {
+        let is_renewal = matches!(fault, Fault::WrongRenewal(_));
+        if !told_apart(fault) || is_renewal && !told_by(fault, &changes) {
             return Err(format!("{fault:?} was not told from the archive"));
         }
         counts.faults += 1;
     }
     Ok(counts)
+}
+
+/// Whether some scene shows a difference between a faulty engine and the archive.
+fn told_by(fault: Fault, scenes: &[Scene]) -> bool {
+    let mut faulty = Faulty::new(fault);
+    scenes.iter().any(|(_, steps)| first_difference(&mut faulty, &mut Cabinet, steps).is_some())
 }
 
 /// Whether some run shows a difference between a faulty engine and the archive.

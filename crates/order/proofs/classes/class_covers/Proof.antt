@@ -13,7 +13,7 @@ use Rattle.treelaws.proofs.Children.{class-there}
 use Rattle.order.specs.Cover.{classCovers}
 use Rattle.records.proofs.Joined.{test-here, test-past}
 use Rattle.records.proofs.Nodes.{Node, node-at}
-use Rattle.order.proofs.Totals.{small}
+use Rattle.order.proofs.Small.{small}
 use borrow.Author.Needs.{needs}
 use Rattle.order.proofs.classes.class_covers.Statement.{statement}
 use Rattle.order.proofs.classes.class_covers.Tie as tie

@@ -5,8 +5,8 @@ use native.Mathlib.Omega.{arith}
 use borrow.Author.Needs.{needs}
 use Rattle.table.specs.Limits.{nodes}
 use Rattle.table.specs.Tree.{treeOf}
-use Rattle.rating.specs.Sums.{term}
-use Rattle.rating.proofs.Under.{underBelow, under-start, under-next, under-end, under-small, child-small}
+use Rattle.rating.specs.Sums.{term, underBelow}
+use Rattle.rating.proofs.Under.{under-start, under-next, under-end, under-small, child-small}
 use Rattle.rating.proofs.sums.sum_under.Statement.{statement}
 use Rattle.rating.proofs.sums.sum_under.Tie as tie
 

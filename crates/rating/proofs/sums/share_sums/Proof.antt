@@ -1,0 +1,54 @@
+-- `rating::sums::share_sums` meets its contract. The invariant: the sums of the nodes so far.
+use Prim.Native.Nat.{_<_, _≤_, _-_}
+use mathlib.Core.Path.{_≡_}
+use native.Mathlib.Omega.{arith}
+use Rattle.table.specs.Limits.{nodes}
+use Rattle.rating.specs.declared.sums.Summand.the-variants.{FixedShares, Weights}
+use Rattle.rating.specs.Sums.{SumsBelow}
+use Rattle.rating.proofs.sums.share_sums.Statement.{statement}
+use Rattle.rating.proofs.sums.share_sums.Tie as tie
+
+abbrev Inv-loop : tie.InvT-loop
+Inv-loop table fixed₀ weights₀ k₀ fixed weights k = (0 < k) × (k ≤ nodes) × SumsBelow FixedShares table k fixed × SumsBelow Weights table k weights
+
+abbrev μ-loop : tie.MeasureT-loop
+μ-loop table fixed₀ weights₀ k₀ fixed weights k = nodes - k
+
+loop-holds : tie.Need-loop-holds Inv-loop μ-loop
+loop-holds c = (omega arith, omega arith, c .pre .3, c .pre .4)
+
+add-node-requires : tie.Need-add-node-requires Inv-loop μ-loop
+add-node-requires c κs = let at = c .before .before in let pre = at .before .pre in (pre .0, pre .1, at .loop .inv .0, omega arith, at .loop .inv .2)
+
+add-node-requires-2 : tie.Need-add-node-requires-2 Inv-loop μ-loop
+add-node-requires-2 c κs =
+    let at = c .before .before .before .before in let pre = at .before .pre in (pre .0, pre .2, at .loop .inv .0, omega arith, at .loop .inv .3)
+
+add-k : tie.Need-add-k Inv-loop μ-loop
+add-k c = omega arith
+
+loop-less : tie.Need-loop-less Inv-loop μ-loop
+loop-less c = omega arith
+
+loop-again : tie.Need-loop-again Inv-loop μ-loop
+loop-again c = (omega arith, omega arith, c .before .before .add-node .ensures, c .add-node2 .ensures)
+
+returns : tie.Need-returns Inv-loop μ-loop
+returns c =
+    let end : c .before .loop .k ≡ nodes = omega arith in
+    let inv = c .before .loop .inv in
+    (rw end at (inv .2), rw end at (inv .3))
+
+pub share-sums-spec : {M : Type 1} → statement M
+share-sums-spec =
+    tie.close
+    (tie.spec
+    Inv-loop
+    μ-loop
+    loop-holds
+    add-node-requires
+    add-node-requires-2
+    add-k
+    loop-less
+    loop-again
+    returns)
