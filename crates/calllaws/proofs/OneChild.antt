@@ -1,6 +1,6 @@
 -- A table in order of which one child of class c was edited: its sums differ under c alone, so every node that does not stand
 -- below c has the rate that it had, and renewing below c renews everything.
-use Prim.Native.Nat.{ℕ, zero, suc, _≤_, _<_}
+use Prim.Native.Nat.{ℕ, zero, suc, _<_}
 use mathlib.Core.Path.{_≡_, refl, sym, ap, _∙_, subst}
 use mathlib.Core.Bool.{true, false}
 use mathlib.Core.List.{List}
@@ -10,11 +10,11 @@ use lib.Dec.{eqb}
 use lib.IntN.{ℤ, pos}
 use Rattle.numbers.specs.Whole.{plus}
 use Rattle.numbers.proofs.Tests.{true-false, or-true-left, or-false-left, or-false-right}
-use Rattle.table.specs.Limits.{nodes, rateAt, root, greatestRate}
+use Rattle.table.specs.Limits.{nodes, rateAt, root}
 use Rattle.table.specs.Places.{place, rate}
 use Rattle.table.specs.Tree.{Tree, treeOf, there, isFixed, childOf}
 use Rattle.table.specs.Rates.{fixedShare, weight, fixedSum, weightSum, childRate, rateIn, renewed}
-use Rattle.table.specs.Renewal.{below, renewedBelow}
+use Rattle.table.specs.Renewal.{below}
 use Rattle.table.specs.Order.{inOrder}
 use Rattle.table.proofs.Facts.{InOrder, facts}
 use Rattle.table.proofs.Edits.{Edited, SameNode, edited-others}

@@ -2,7 +2,7 @@
 -- those of document 01 are such.
 use Prim.Native.Nat.{ℕ, zero, suc, _+_, _*_, _/_, _≤_, _<_}
 use mathlib.Core.Path.{_≡_, refl, sym, ap, _∙_}
-use mathlib.Core.Bool.{Bool, true, _&&_}
+use mathlib.Core.Bool.{true, _&&_}
 use mathlib.Core.Logic.{⊎-elim}
 use mathlib.Core.List.{List}
 use native.Mathlib.Omega.{arith}
@@ -15,20 +15,18 @@ use Rattle.numbers.specs.Whole.{plus}
 use Rattle.numbers.specs.Below.{allBelow}
 use Rattle.numbers.proofs.Tests.{by-test, same-truth, and-true, and-left, and-right, or-cases, or-true-left, or-true-right}
 use Rattle.numbers.proofs.All.{all-intro}
-use Rattle.numbers.proofs.Sums.{sum-bound}
 use Rattle.numbers.proofs.Parts.{plus-pos, within-parts, pos-of-within, same-eq, eq-same}
-use Rattle.table.specs.Limits.{nodes, root, rateAt, wholeShare, greatestRate}
+use Rattle.table.specs.Limits.{nodes, root, rateAt, greatestRate}
 use Rattle.table.specs.Places.{place, rate}
-use Rattle.table.specs.Tree.{treeOf, there, childOf, countIf, sumUnder, testIf, eachNode}
-use Rattle.table.specs.Rates.{weight, weightSum, childRate, rateIn}
+use Rattle.table.specs.Tree.{treeOf, there, testIf, eachNode}
+use Rattle.table.specs.Rates.{childRate, rateIn}
 use Rattle.table.specs.Order.{rateInOrder}
 use Rattle.table.proofs.Facts.{each-at, at-each, at-test}
-use Rattle.treelaws.proofs.Children.{class-there, child-facts, counted, uncounted}
+use Rattle.treelaws.proofs.Children.{class-there}
 use Rattle.treelaws.proofs.Renewed.{rate-at-root}
 use Rattle.treelaws.proofs.Rounding.{rate-of-child}
 use Rattle.treelaws.proofs.Way.{At, above}
-use Rattle.rating.specs.Rated.{Rated}
-use Rattle.rating.proofs.Rated.{rated-ways, weight-le}
+use Rattle.rating.proofs.Rated.{rated-ways}
 use Rattle.order.specs.Following.{rateFollows, Testable}
 
 -- A quotient by multiplication: r is n / d rounded down just where r x d is at most n and n less than d more.
@@ -56,18 +54,6 @@ module _ (r n d : ℕ) (some : 0 < d) where
       let same = eqb-true r (n / d) h in
       and-true _ _ (le-leb (r * d) n (least (omega arith)))
       (lt-ltb n (r * d + d) (elim (decLt n (r * d + d)) [ yes less ↦ less | no more ↦ absurd (omega (arith, at-next (omega arith))) ])))
-
--- The weights under a class sum to at most 64 x 10,000.
-pub weights-small : (t : List ℤ) → Rated t root → (c : ℕ) → weightSum (treeOf t) c ≤ nodes * wholeShare
-unfolding weightSum sumUnder
-weights-small t f c =
-    sum-bound nodes wholeShare (λ k. countIf (childOf (treeOf t) c k) (weight (treeOf t)) k)
-    (λ k hk.
-    by-test (childOf (treeOf t) c k)
-    (λ e.
-    let child = child-facts (treeOf t) c k e in
-    omega (arith, counted (childOf (treeOf t) c k) (weight (treeOf t)) k e, weight-le (treeOf t) k, f .node k hk (child .there) (child .below) .most))
-    (λ e. omega (arith, uncounted (childOf (treeOf t) c k) (weight (treeOf t)) k e)))
 
 -- The root has no class, so nothing is asked of it.
 pub root-follows : (t : List ℤ) → allBelow 1 (λ k. testIf (there (treeOf t) k) (rateFollows t) k) ≡ true

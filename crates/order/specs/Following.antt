@@ -1,6 +1,6 @@
 -- The test of rates: each against its class's as it stands in the table. That a table whose rates all pass has the rates of
 -- document 01 is a law (order/proofs/Following.antt).
-use Prim.Native.Nat.{ℕ, _≤_, _<_}
+use Prim.Native.Nat.{ℕ, _<_}
 use mathlib.Core.Path.{_≡_}
 use mathlib.Core.Bool.{Bool, true, _||_}
 use mathlib.Core.List.{List}

@@ -1,42 +1,25 @@
 // Whether the rates are right: each against its class's as it stands, by multiplication. No rate is worked out.
 use rating::rates;
+use rating::rates::Division;
 use rating::tree;
 use table::Table;
 ghost use mathlib.Core.Path.{_≡_};
-ghost use mathlib.Core.Bool.{true};
 ghost use Prim.Native.Nat.{_*_, _/_, _<_, _≤_};
-ghost use lib.ListN.{length};
 ghost use lib.Dec.{eqb};
-ghost use Rattle.table.specs.Limits.{tableLength, nodes, wholeShare, greatestRate};
-ghost use Rattle.table.specs.Places.{rate};
+ghost use Rattle.table.specs.Limits.{nodes, wholeShare, greatestRate};
 ghost use Rattle.table.specs.Tree.{treeOf, there, testIf, eachNode};
-ghost use Rattle.table.specs.Rates.{fixedSum, weightSum, childRate};
 ghost use Rattle.table.specs.Order.{rateInOrder};
-ghost use Rattle.rating.specs.Rated.{Placed, ClassSums};
+ghost use Rattle.rating.specs.Rated.{ClassSums};
 ghost use Rattle.order.specs.Following.{rateFollows, Testable};
 
-// Whether `rate` is `whole` x `share` / `parts`, rounded down.
-fn is_part(rate: u64, whole: u64, share: u64, parts: u64) -> bool
-    requires { ⌜ (rate ≤ greatestRate) × (whole ≤ greatestRate) × (share ≤ wholeShare) × (0 < parts) × (parts ≤ nodes * wholeShare) ⌝ }
-    ensures { λ r. ⌜ r ≡ eqb rate (whole * share / parts) ⌝ }
+// Whether a rate is that of a child with this share, by the division: its quotient rounded down.
+fn is_part(rate: u64, share: u64, by: Division) -> bool
+    requires { ⌜ (rate ≤ greatestRate) × (share ≤ wholeShare) × (by .whole ≤ greatestRate) × (0 < by .parts) × (by .parts ≤ nodes * wholeShare) ⌝ }
+    ensures { λ r. ⌜ r ≡ eqb rate (by .whole * share / by .parts) ⌝ }
 {
-    let product = whole * share;
-    let least = rate * parts;
-    (least <= product) & (product < least + parts)
-}
-
-// Whether the rate of node k, not the root, is that of a child where its class has the rate `whole`; `fixed` and `weights` are
-// the sums under the class.
-fn is_child_rate(table: &[i64], k: usize, whole: u64, fixed: u64, weights: u64) -> bool
-    requires { ⌜ (length (now table) ≡ tableLength) × (0 < k) × (k < nodes) × (there (treeOf (now table)) k ≡ true) × Placed (treeOf (now table)) k × (rate (now table) k ≤ greatestRate) × (whole ≤ greatestRate) × (fixed ≡ fixedSum (treeOf (now table)) (treeOf (now table) .parent k)) × (weights ≡ weightSum (treeOf (now table)) (treeOf (now table) .parent k)) × (weights ≤ nodes * wholeShare) ⌝ }
-    ensures { λ r. ⌜ r ≡ eqb (rate (now (table .entry)) k) (childRate (treeOf (now (table .entry))) whole k) ⌝ }
-{
-    let rate = Table::natural(table, k, Table::RATE);
-    let share = Table::natural(table, k, Table::SHARE);
-    if tree::is_fixed(table, k) {
-        return is_part(rate, whole, share, Table::WHOLE_SHARE);
-    }
-    is_part(rate, rates::left_rate(whole, fixed), share, weights)
+    let product = by.whole * share;
+    let least = rate * by.parts;
+    (least <= product) & (product < least + by.parts)
 }
 
 // Whether the rate of node k, where it is there, is the one that its class's rate, as it stands, gives it.
@@ -53,8 +36,13 @@ fn rate_follows(
         return true;
     }
     let parent = Table::natural(table, k, Table::PARENT) as usize;
-    let whole = Table::natural(table, parent, Table::RATE);
-    is_child_rate(table, k, whole, fixed[parent], weights[parent])
+    let class_rate = Table::natural(table, parent, Table::RATE);
+    let by = rates::division_of(table, k, class_rate, fixed[parent], weights[parent]);
+    is_part(
+        Table::natural(table, k, Table::RATE),
+        Table::natural(table, k, Table::SHARE),
+        by,
+    )
 }
 
 // Whether every rate is that of document 01, "Rates", by the sums.

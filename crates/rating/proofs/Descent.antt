@@ -15,7 +15,7 @@ use Rattle.numbers.proofs.Tests.{by-test, true-false}
 use Rattle.numbers.proofs.Every.{head-holds, rest-hold, holds-with, none-left}
 use Rattle.numbers.proofs.Parts.{plus-pos}
 use Rattle.table.specs.Limits.{tableLength, recordLength, nodes, rateAt, lastLevel, root, greatestRate}
-use Rattle.table.specs.Places.{place, put, header, rate}
+use Rattle.table.specs.Places.{place, put, rate}
 use Rattle.table.specs.Tree.{Tree, treeOf, there}
 use Rattle.table.specs.Rates.{childRate}
 use Rattle.table.specs.Renewal.{below, rateBelow, renewedBelow}

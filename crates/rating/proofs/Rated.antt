@@ -13,14 +13,15 @@ use lib.IntN.{ℤ}
 use Rattle.numbers.specs.Whole.{plus}
 use Rattle.numbers.proofs.Tests.{by-test}
 use Rattle.numbers.proofs.Parts.{plus-pos, zarith}
+use Rattle.numbers.proofs.Sums.{sum-bound}
 use Rattle.table.specs.Limits.{tableLength, nodes, root, lastLevel, wholeShare, greatestRate}
 use Rattle.table.specs.Places.{rate}
-use Rattle.table.specs.Tree.{Tree, treeOf, there, isClass, isFixed, childOf}
+use Rattle.table.specs.Tree.{Tree, treeOf, there, isClass, isFixed, childOf, countIf, sumUnder}
 use Rattle.table.specs.Rates.{fixedShare, weight, fixedSum, weightSum, renewed}
 use Rattle.table.specs.Renewal.{below, rateBelow}
 use Rattle.table.specs.Order.{inOrder}
 use Rattle.table.proofs.Facts.{Limits, Root, Child, facts, root-there}
-use Rattle.treelaws.proofs.Children.{child-of}
+use Rattle.treelaws.proofs.Children.{child-of, child-facts, counted, uncounted}
 use Rattle.treelaws.proofs.Renewed.{renewed-tree, renewed-length}
 use Rattle.treelaws.proofs.Rounding.{child-rate-le, weight-le-sum, rate-small}
 use Rattle.treelaws.proofs.Way.{Ways, At, above}
@@ -73,6 +74,18 @@ module _ (t : List ℤ) (c : ℕ) (f : Rated t c) where
   pub weight-summable : Summable Weights t
   unfolding term
   weight-summable = share-summable Weights (λ k. weight-le (treeOf t) k)
+
+  -- The weights under a class sum to at most 64 x 10,000.
+  pub weights-small : (class : ℕ) → weightSum (treeOf t) class ≤ nodes * wholeShare
+  unfolding weightSum sumUnder
+  weights-small class =
+      sum-bound nodes wholeShare (λ k. countIf (childOf (treeOf t) class k) (weight (treeOf t)) k)
+      (λ k hk.
+      by-test (childOf (treeOf t) class k)
+      (λ e.
+      let child = child-facts (treeOf t) class k e in
+      omega (arith, counted (childOf (treeOf t) class k) (weight (treeOf t)) k e, weight-le (treeOf t) k, f .node k hk (child .there) (child .below) .most))
+      (λ e. omega (arith, uncounted (childOf (treeOf t) class k) (weight (treeOf t)) k e)))
 
   -- No node stands lower than level 4.
   pub level-le : (k : ℕ) → k < nodes → there (treeOf t) k ≡ true → treeOf t .level k ≤ lastLevel

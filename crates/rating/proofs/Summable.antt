@@ -1,7 +1,7 @@
 -- Which tables have sums that fit: those whose nodes keep their limits and have small balances, as in a table in order.
 use Prim.Native.Nat.{ℕ, _≤_, _<_, _^_}
-use mathlib.Core.Path.{_≡_, refl}
-use mathlib.Core.Bool.{Bool, true, false}
+use mathlib.Core.Path.{_≡_}
+use mathlib.Core.Bool.{true}
 use mathlib.Core.List.{List}
 use native.Mathlib.Omega.{arith}
 use lib.IntN.{ℤ}
@@ -19,32 +19,23 @@ use Rattle.rating.specs.declared.sums.Summand.the-variants.{FixedShares,
 use Rattle.rating.specs.Sums.{term, Summable}
 use Rattle.rating.proofs.Rated.{fixed-share-le, weight-le}
 
--- Whether the rates are summed.
-abbrev pub ofRates : Summand → Bool
-ofRates FixedShares = false
-ofRates Weights = false
-ofRates Depths = false
-ofRates Rates = true
-ofRates Credits = false
-ofRates Debts = false
-
--- The bounds of one node's numbers that stand in no limit: its balance, and its rate where the rates are summed.
-pub record SmallNumbers (which : Summand) (t : List ℤ) (k : ℕ) : Type 0 where
-  pub rate : ofRates which ≡ true → rate t k ≤ 2 ^ 57
+-- The bounds of one node's numbers that stand in no limit: its rate and its balance.
+pub record SmallNumbers (t : List ℤ) (k : ℕ) : Type 0 where
+  pub rate : rate t k ≤ 2 ^ 57
   pub credit : plus (balance t k) ≤ 2 ^ 57
   pub debt : minus (balance t k) ≤ 2 ^ 57
 
 -- A summand is small where every kind of it is.
-term-le : (which : Summand) (t : List ℤ) (k : ℕ) → fixedShare (treeOf t) k ≤ 2 ^ 57 → weight (treeOf t) k ≤ 2 ^ 57 → treeOf t .depth k ≤ 2 ^ 57 → SmallNumbers which t k → term which t k ≤ 2 ^ 57
+term-le : (which : Summand) (t : List ℤ) (k : ℕ) → fixedShare (treeOf t) k ≤ 2 ^ 57 → weight (treeOf t) k ≤ 2 ^ 57 → treeOf t .depth k ≤ 2 ^ 57 → SmallNumbers t k → term which t k ≤ 2 ^ 57
 unfolding term
 term-le FixedShares t k fixed weighted depth small = fixed
 term-le Weights t k fixed weighted depth small = weighted
 term-le Depths t k fixed weighted depth small = depth
-term-le Rates t k fixed weighted depth small = small .rate refl
+term-le Rates t k fixed weighted depth small = small .rate
 term-le Credits t k fixed weighted depth small = small .credit
 term-le Debts t k fixed weighted depth small = small .debt
 
-pub summable-of : (which : Summand) (t : List ℤ) → ((k : ℕ) → k < nodes → there (treeOf t) k ≡ true → Limits t k) → ((k : ℕ) → k < nodes → there (treeOf t) k ≡ true → SmallNumbers which t k) → Summable which t
+pub summable-of : (which : Summand) (t : List ℤ) → ((k : ℕ) → k < nodes → there (treeOf t) k ≡ true → Limits t k) → ((k : ℕ) → k < nodes → there (treeOf t) k ≡ true → SmallNumbers t k) → Summable which t
 unfolding treeOf
 summable-of which t limits numbers =
     record {
@@ -62,7 +53,7 @@ in-order-summable which t f =
     let l = f .limits k hk e in
     let b = f .balances k hk e .most in
     record {
-      rate = λ _. omega (arith, rate-small t f k hk);
+      rate = omega (arith, rate-small t f k hk);
       credit = omega (arith, zarith, one-is-zero (balance t k), plus-pos (depthGrains t k), minus-pos (depthGrains t k));
       debt = omega (arith, zarith, node-floor t (grounds t f) k hk e);
     })

@@ -1,3 +1,4 @@
 pub mod Sums
 pub mod Rated
+pub mod Divisions
 pub mod Renewal

@@ -3,12 +3,12 @@
 -- every other rate is right already.
 use Prim.Native.Nat.{ℕ, zero, suc, _-_, _≤_, _<_}
 use mathlib.Core.Path.{_≡_, refl, sym, ap, _∙_}
-use mathlib.Core.Bool.{Bool, true, false, not, _||_}
+use mathlib.Core.Bool.{true, false, not, _||_}
 use mathlib.Core.Logic.{⊎-elim}
 use mathlib.Core.List.{List}
 use native.Mathlib.Omega.{arith}
 use native.Mathlib.Decide.{ℕ-discrete}
-use borrow.Author.Tests.{eqb-true, eqb-false, eq-eqb, ne-eqb, not-true}
+use borrow.Author.Tests.{eqb-true, eqb-false, ne-eqb, not-true}
 use lib.ListN.{length}
 use lib.Dec.{eqb}
 use lib.IntN.{ℤ, pos}
@@ -23,7 +23,7 @@ use Rattle.table.specs.Rates.{childRate, rateAtLevel, rateIn, renewed}
 use Rattle.table.specs.Renewal.{below, rateBelow, renewedBelow}
 use Rattle.table.proofs.Places.{same-places}
 use Rattle.treelaws.specs.Renewal.{RenewedBelow}
-use Rattle.treelaws.proofs.Renewed.{Written, written, same-tree, renewed-length, renewed-header, renewed-place, renewed-rate, renewed-unused, rate-at-root}
+use Rattle.treelaws.proofs.Renewed.{Written, written, renewed-length, renewed-header, renewed-place, renewed-rate, renewed-unused, rate-at-root}
 use Rattle.treelaws.proofs.Rounding.{rate-of-child}
 use Rattle.treelaws.proofs.Way.{Ways, At, above, way-first, way-up, way-top, way-cases, way-level, above-root}
 

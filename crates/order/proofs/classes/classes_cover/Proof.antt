@@ -56,7 +56,7 @@ class-covers-requires c κs =
     let k = inside .before .loop .c in
     let below : k < nodes = inside .loop-test .taken in
     let sums = pre .2 k below in
-    (pre .0, below, pre .1, sums, omega (arith, sums .credits, sum-small Credits t refl (pre .1) k), omega (arith, sums .debts, sum-small Debts t refl (pre .1) k))
+    (pre .0, below, pre .1, sums, omega (arith, sums .credits, sum-small Credits t (pre .1) k), omega (arith, sums .debts, sum-small Debts t (pre .1) k))
 
 add-c : tie.Need-add-c Inv-loop μ-loop
 add-c c = omega arith

@@ -8,20 +8,22 @@ use Rattle.order.proofs.Following.{quotient-by-product}
 use Rattle.order.proofs.rates.is_part.Statement.{statement}
 use Rattle.order.proofs.rates.is_part.Tie as tie
 
-small : (c : tie.Start) → c .args .rate * c .args .parts ≤ greatestRate * (nodes * wholeShare)
+small : (c : tie.Start) → c .args .rate * c .args .by .parts ≤ greatestRate * (nodes * wholeShare)
 small c = mul-le-mul (c .pre .0) (c .pre .4)
 
 mul-product : tie.Need-mul-product
-mul-product c = omega (arith, product-small (c .args .whole) (c .args .share) (c .pre .1) (c .pre .2))
+mul-product c = let s = c .before in omega (arith, product-small (s .args .by .whole) (s .args .share) (s .pre .2) (s .pre .1))
 
 mul-least : tie.Need-mul-least
-mul-least c = omega (arith, small c)
+mul-least c = omega (arith, small (c .before .before))
 
 add-result : tie.Need-add-result
-add-result c = omega (arith, small c)
+add-result c = omega (arith, small (c .before .before .before))
 
 returns : tie.Need-returns
-returns c = quotient-by-product (c .args .rate) (c .args .whole * c .args .share) (c .args .parts) (c .pre .3)
+returns c =
+    let s = c .before .before .before in
+    quotient-by-product (s .args .rate) (s .args .by .whole * s .args .share) (s .args .by .parts) (s .pre .3)
 
 pub is-part-spec : {M : Type 1} → statement M
 is-part-spec = tie.close (tie.spec mul-product mul-least add-result returns)

@@ -1,6 +1,6 @@
 -- `rating::renewal::renew_below` meets its contract. The invariant: the nodes below the class that stand above this level have
 -- their rates, and renewing the table gives what it gave at the start.
-use Prim.Native.Nat.{suc, _+_, _*_, _-_, _<_}
+use Prim.Native.Nat.{suc, _*_, _-_, _<_}
 use mathlib.Core.Path.{_≡_, sym, _∙_}
 use native.Mathlib.Omega.{arith}
 use Rattle.table.specs.Limits.{nodes, lastLevel}

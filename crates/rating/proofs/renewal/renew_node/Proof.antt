@@ -14,6 +14,7 @@ use Rattle.table.specs.Tree.{treeOf}
 use Rattle.table.specs.Rates.{childRate}
 use Rattle.table.specs.Renewal.{below, rateBelow}
 use Rattle.rating.specs.Rated.{atLevel}
+use Rattle.rating.proofs.Rated.{weights-small}
 use Rattle.rating.proofs.Descent.{passed-level, passed-class, renewed-next, level-at, placed, below-root, here-there, marks-tell, parent-le, child-renewed, renewed-small}
 use Rattle.rating.proofs.renewal.renew_node.Statement.{statement}
 use Rattle.rating.proofs.renewal.renew_node.Tie as tie
@@ -108,16 +109,19 @@ child-rate-requires c κs =
     let inside = read .before .before in
     let known = inside .before .before in
     let pre = known .before .before .before .before .before .pre in
-    let p = placed _ _ _ _ _ (pre .0) (pre .2) (pre .3) (at (known .before .before)) in (
-      pre .0 .rated .long,
-      below-root _ _ _ _ _ (pre .0) (pre .2) (pre .3) (at (known .before .before)),
-      pre .3,
-      here-there _ _ _ _ _ (pre .0) (pre .2) (pre .3) (at (known .before .before)),
-      p,
-      omega (arith, from-parent read, parent-le _ _ _ _ _ (pre .0) (pre .2) (pre .3) (at (known .before .before)) (stands inside)),
-      rw (parent known) (pre .1 .fixed _ (p .parent)),
-      rw (parent known) (pre .1 .weights _ (p .parent)),
-    )
+    let here = at (known .before .before) in
+    let p = placed _ _ _ _ _ (pre .0) (pre .2) (pre .3) here in
+    record {
+      long = pre .0 .rated .long;
+      below = below-root _ _ _ _ _ (pre .0) (pre .2) (pre .3) here;
+      low = pre .3;
+      here = here-there _ _ _ _ _ (pre .0) (pre .2) (pre .3) here;
+      placed = p;
+      class = omega (arith, from-parent read, parent-le _ _ _ _ _ (pre .0) (pre .2) (pre .3) here (stands inside));
+      fixed = rw (parent known) (pre .1 .fixed _ (p .parent));
+      weights = rw (parent known) (pre .1 .weights _ (p .parent));
+      few = rw (parent known) (omega (arith, pre .1 .weights _ (p .parent), weights-small _ _ (pre .0 .rated) (treeOf (entered inside .args .table .now) .parent (entered inside .args .k))));
+    }
 
 put-natural-requires : tie.Need-put-natural-requires
 put-natural-requires c κs =

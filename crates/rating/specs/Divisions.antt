@@ -1,0 +1,31 @@
+-- The division that gives a child its rate.
+use Prim.Native.Nat.{ℕ, _*_, _/_, _≤_, _<_}
+use mathlib.Core.Path.{_≡_}
+use mathlib.Core.Bool.{true}
+use mathlib.Core.List.{List}
+use lib.ListN.{length}
+use lib.IntN.{ℤ}
+use Rattle.table.specs.Limits.{tableLength, nodes, wholeShare, greatestRate}
+use Rattle.table.specs.Tree.{Tree, treeOf, there}
+use Rattle.table.specs.Rates.{fixedSum, weightSum, childRate}
+use Rattle.rating.specs.declared.rates.Division.{Division}
+use Rattle.rating.specs.Rated.{Placed}
+
+-- Node k of a table is a child of a class that has the rate r, with sums f of fixed shares and w of weights under it.
+pub record Divided (t : List ℤ) (k r f w : ℕ) : Type 0 where
+  pub long : length t ≡ tableLength
+  pub below : 0 < k
+  pub low : k < nodes
+  pub here : there (treeOf t) k ≡ true
+  pub placed : Placed (treeOf t) k
+  pub class : r ≤ greatestRate
+  pub fixed : f ≡ fixedSum (treeOf t) (treeOf t .parent k)
+  pub weights : w ≡ weightSum (treeOf t) (treeOf t .parent k)
+  pub few : w ≤ nodes * wholeShare
+
+-- A division gives child k its rate, where its class has the rate r.
+pub record Divides (tree : Tree) (r k : ℕ) (by : Division) : Type 0 where
+  pub rate : childRate tree r k ≡ by .whole * tree .share k / by .parts
+  pub small : by .whole ≤ greatestRate
+  pub some : 0 < by .parts
+  pub few : by .parts ≤ nodes * wholeShare
