@@ -256,9 +256,10 @@ int64_t hds_open(int64_t *table, size_t table_length, int64_t rate, int64_t dept
 
 /*
  * Joins a node, 1 to 63, under a class, with balance 0: an hds_sort, an hds_kind, share 1 to 10,000 (ten-thousandths
- * of the class's rate where fixed, else a weight), depth 1 to 1,000,000. Renews the rates below that class. Answers 0.
- * A client's depth is at least the cost of its largest request: with less than HDS_LEAST_COST it joins and can never
- * ask. With hds_join_class and hds_join_client, below, a compiler tells sort, kind and share apart. Refused:
+ * of the class's rate where fixed, else a weight), depth 1 to 1,000,000. Renews the rates of all nodes below that class,
+ * at every level; all others stay, the class's own too. Answers 0. A client's depth is at least the cost of its largest
+ * request: with less than HDS_LEAST_COST it joins and can never ask. With hds_join_class and hds_join_client, below, a
+ * compiler tells sort, kind and share apart. Refused:
  *   HDS_NOT_IN_ORDER      the table
  *   HDS_OUTSIDE_LIMITS    node, parent, sort, kind, share or depth
  *   HDS_NOT_THERE         no node has the parent's number
@@ -272,7 +273,7 @@ int64_t hds_join(int64_t *table, size_t table_length, int64_t node, int64_t pare
                  int64_t share, int64_t depth);
 
 /*
- * Takes a node out and renews the rates below the class that it stood under. Answers 0. Refused:
+ * Takes a node out and renews the rates of all nodes below the parent that it had; all others stay. Answers 0. Refused:
  *   HDS_NOT_IN_ORDER      the table
  *   HDS_OUTSIDE_LIMITS    node not 0 to 63
  *   HDS_NOT_THERE         no node has this number
@@ -283,8 +284,8 @@ int64_t hds_join(int64_t *table, size_t table_length, int64_t node, int64_t pare
 int64_t hds_leave(int64_t *table, size_t table_length, int64_t node);
 
 /*
- * Gives a node a kind and a share and renews the rates below its parent. Answers 0. hds_set_share, below, takes both
- * as one. Refused:
+ * Gives a node a kind and a share and renews the rates of all nodes below its parent, its own among them; all others
+ * stay. Answers 0. hds_set_share, below, takes both as one. Refused:
  *   HDS_NOT_IN_ORDER      the table
  *   HDS_OUTSIDE_LIMITS    node not 0 to 63, kind or share
  *   HDS_NOT_THERE         no node has this number

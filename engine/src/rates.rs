@@ -63,10 +63,9 @@ impl Sums {
 /// Renews the rates below a class: of its children, of their children, and so on.
 ///
 /// The table is in order save for its rates, each of which may be right or wrong,
-/// and the class's own rate is 0 to 1,000,000,000. Every node below the class gets
-/// the rate that the section on rates derives from the class's own rate as it
-/// stands in the table. Nothing else in the table changes, and neither does the
-/// class's own rate.
+/// and the class's own rate is 0 to 1,000,000,000. From the class's own the others
+/// follow by the section on rates; the class's own stays, as does all else in the
+/// table.
 pub fn renew_below(table: &mut [i64], class: usize) {
     let sums = Sums::of(table);
     // The class and those below it that have their rates.

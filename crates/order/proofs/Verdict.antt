@@ -1,5 +1,6 @@
--- The stages together are the definition: a table in order passes each, and a table that passes all is in order. Only the
--- floor of the stage of records is no clause of the definition; it follows from the others (treelaws, Floors).
+-- The stages together are the definition: a table in order passes each, and a table that passes all is in order. Two tests of
+-- the stage of records are no clauses of the definition; they follow from the others: the floor of a balance (treelaws,
+-- Floors) and the limit of a rate (treelaws, Rounding).
 use Prim.Native.Nat.{ℕ, _+_, _≤_, _<_}
 use mathlib.Core.Path.{_≡_, sym, ap, _∙_}
 use mathlib.Core.Bool.{Bool, true, false, not}
@@ -20,8 +21,7 @@ use Rattle.table.specs.Tree.{treeOf, there, isClass, isClient, sumUnder, eachNo
 use Rattle.table.specs.Rates.{fixedSum}
 use Rattle.table.specs.Order.{isZero, headerInOrder, unusedInOrder, limitsKept, spareInOrder, rootInOrder, parentInOrder, classInOrder, rateInOrder, balanceInOrder, requestInOrder, queueInOrder, arrivalsDiffer, inOrder}
 use Rattle.table.proofs.Facts.{InOrder, facts, each-at, at-each, at-zero, zero-at as zero-of, limits-of, root-of, root-there, child-of, of-balance}
-use Rattle.treelaws.proofs.Children.{balances-parts}
-use Rattle.treelaws.proofs.Children.{class-there}
+use Rattle.treelaws.proofs.Children.{balances-parts, class-there}
 use Rattle.treelaws.proofs.Rounding.{rate-small, rate-natural}
 use Rattle.treelaws.proofs.Floors.{grounds, balance-room, node-floor}
 use Rattle.rating.proofs.Rated.{rated-of}

@@ -25,7 +25,6 @@ use Rattle.treelaws.proofs.Children.{child-of, child-facts, counted, uncounted}
 use Rattle.treelaws.proofs.Renewed.{renewed-tree, renewed-length}
 use Rattle.treelaws.proofs.Rounding.{child-rate-le, weight-le-sum, rate-small}
 use Rattle.treelaws.proofs.Way.{Ways, At, above}
-use Rattle.treelaws.specs.Renewal.{RenewsAll}
 use Rattle.treelaws.proofs.Below.{below-facts, below-level, by-parent, own-rate, rate-below-child}
 use Rattle.rating.specs.declared.sums.Summand.{Summand}
 use Rattle.rating.specs.declared.sums.Summand.the-variants.{FixedShares, Weights}
@@ -144,8 +143,8 @@ rated-of t c long root limits child shares low here own =
     }
 
 -- A table that is in order once its rates are renewed is rated: what rates are worked out from is the same before and after.
-pub rated-before : (u : List ℤ) (c : ℕ) → inOrder (renewed u) ≡ true → RenewsAll u c → Rated u c
-rated-before u c h below =
+pub rated-before : (u : List ℤ) (c : ℕ) → inOrder (renewed u) ≡ true → c < nodes → there (treeOf u) c ≡ true → rate u c ≤ greatestRate → Rated u c
+rated-before u c h low here own =
     let f = facts (renewed u) h in
     let r = rated-of (renewed u) root (f .long) (f .root) (f .limits) (f .child) (λ c hc e. f .class c hc e .shares) (omega arith) (root-there (renewed u) (f .root)) (rate-small (renewed u) f root (omega arith)) in
     let same = renewed-tree u in
@@ -153,7 +152,7 @@ rated-before u c h below =
       long = sym (renewed-length u) ∙ f .long;
       top = rw same at (r .top);
       node = subst (λ (tree : Tree). (k : ℕ) → k < nodes → there tree k ≡ true → (k ≡ 0 → ⊥) → Placed tree k) same (r .node);
-      low = below .low;
-      here = below .there;
-      own = below .small;
+      low = low;
+      here = here;
+      own = own;
     }

@@ -34,11 +34,11 @@ module _ (tree : Tree) (c : ℕ) (f : ℕ → ℕ) where
   under-end = refl
 
   -- A node that is not a child adds nothing.
-  pub under-skip : (n : ℕ) → (childOf tree c n ≡ true → ⊥) → underBelow (n + 1) tree c f ≡ underBelow n tree c f
+  under-skip : (n : ℕ) → (childOf tree c n ≡ true → ⊥) → underBelow (n + 1) tree c f ≡ underBelow n tree c f
   under-skip n nobody = by-test (childOf tree c n) (λ e. absurd (nobody e)) (λ e. omega (arith, under-next n, uncounted (childOf tree c n) f n e))
 
   -- The root is nobody's child.
-  pub under-root : underBelow 1 tree c f ≡ 0
+  under-root : underBelow 1 tree c f ≡ 0
   under-root = under-skip 0 (λ e. child-facts tree c 0 e .below refl) ∙ under-start
 
 -- A term adds at most 2^57.

@@ -11,14 +11,15 @@ use Rattle.table.specs.Rates.{fixedSum, weightSum, childRate}
 use Rattle.rating.specs.declared.rates.Division.{Division}
 use Rattle.rating.specs.Rated.{Placed}
 
--- Node k of a table is a child of a class that has the rate r, with sums f of fixed shares and w of weights under it.
+-- Node k of a table is a child of a class that has the rate r, with sums f of fixed shares and w of weights under it, the
+-- latter at most 64 x 10,000.
 pub record Divided (t : List ℤ) (k r f w : ℕ) : Type 0 where
   pub long : length t ≡ tableLength
-  pub below : 0 < k
+  pub not-root : 0 < k
   pub low : k < nodes
   pub here : there (treeOf t) k ≡ true
   pub placed : Placed (treeOf t) k
-  pub class : r ≤ greatestRate
+  pub small : r ≤ greatestRate
   pub fixed : f ≡ fixedSum (treeOf t) (treeOf t .parent k)
   pub weights : w ≡ weightSum (treeOf t) (treeOf t .parent k)
   pub few : w ≤ nodes * wholeShare

@@ -15,7 +15,7 @@ pub struct Division {
 }
 
 // What the fixed shares leave of a class's rate, rounded down.
-pub fn left_rate(rate: u64, fixed: u64) -> u64
+fn left_rate(rate: u64, fixed: u64) -> u64
     requires { ⌜ (rate ≤ greatestRate) × (fixed ≤ wholeShare) ⌝ }
     ensures { λ r. ⌜ r ≡ leftRate rate fixed ⌝ }
 {

@@ -43,7 +43,7 @@ below-facts tree c k h =
       above = head-holds _ _ (rest-hold _ _ h1);
     }
 
-pub below-of : (tree : Tree) (c k : ℕ) → Below tree c k → below tree c k ≡ true
+below-of : (tree : Tree) (c k : ℕ) → Below tree c k → below tree c k ≡ true
 unfolding below atOrAbove
 below-of tree c k f =
     holds-with _ _ (f .there) (holds-with _ _ (ap not (ne-eqb k c (f .other))) (holds-with _ _ (f .above) none-left))

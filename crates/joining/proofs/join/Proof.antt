@@ -57,10 +57,11 @@ in-order : (c : tie.Else1) → let s = start c in inOrder (renewed (joinedBy (s 
 unfolding refusalOf joinedBy joinTable
 in-order c = subst (λ (u : List ℤ). inOrder u ≡ true) (kept-new _ _ _ (accepted c)) (join-keeps _ _ _ _ _ _ _ (accepted c))
 
--- Renewing below the parent renews everything.
+-- The parent's number.
 parent : (c : tie.After-natural) → c .natural .result ≡ plus (start (accepts (c .before .before .before .before)) .args .parent)
 parent c = natural-of (c .natural .ensures) (start (accepts (c .before .before .before .before)) .fits .parent)
 
+-- Renewing below it renews everything.
 renews : (c : tie.Else1) → let s = start c in RenewsAll (joinedBy (s .args .table .now) (join s)) (plus (s .args .parent))
 unfolding refusalOf joinedBy
 renews c = join-renews-below _ _ _ _ _ _ _ (accepted c)
@@ -79,7 +80,7 @@ renew-below-requires : tie.Need-renew-below-requires
 renew-below-requires c κs =
     let w = c .before .before .before in
     let acceptance = accepts (w .before) in
-    rw (written w, parent c) (rated-before _ _ (in-order acceptance) (renews acceptance))
+    rw (written w, parent c) (let r = renews acceptance in rated-before _ _ (in-order acceptance) (r .low) (r .there) (r .small))
 
 returns-2 : tie.Need-returns-2
 unfolding told refusalOf joinedBy joinAnswer joinTable

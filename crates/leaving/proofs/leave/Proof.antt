@@ -78,7 +78,7 @@ renew-below-requires : tie.Need-renew-below-requires
 renew-below-requires c κs =
     let w = c .before .before in
     let acceptance = accepts (node-of (w .before .before)) in
-    rw (parent (w .before .before), written w) (rated-before _ _ (in-order acceptance) (renews acceptance))
+    rw (parent (w .before .before), written w) (let r = renews acceptance in rated-before _ _ (in-order acceptance) (r .low) (r .there) (r .small))
 
 returns-2 : tie.Need-returns-2
 unfolding told leaveAnswer leaveTable

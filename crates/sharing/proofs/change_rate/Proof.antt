@@ -55,7 +55,8 @@ put-requires c κs = (long _ (change-rate-passed _ _ (accepted (c .before)) .ord
 renew-below-requires : tie.Need-renew-below-requires
 renew-below-requires c κs =
     let w = c .before .before in
-    rw (written w) (rated-before _ _ (in-order (accepts w)) (change-rate-renews-below _ _ (accepted (accepts w))))
+    let r = change-rate-renews-below _ _ (accepted (accepts w)) in
+    rw (written w) (rated-before _ _ (in-order (accepts w)) (r .low) (r .there) (r .small))
 
 returns-2 : tie.Need-returns-2
 unfolding told changeRateAnswer changeRateTable

@@ -1,6 +1,6 @@
 -- `sharing::change_share` meets its contract: refused, nothing is written; accepted, the writes are made and the rates below
 -- the parent are renewed, which renews everything.
-use Prim.Native.Nat.{ℕ}
+use Prim.Native.Nat.{ℕ, _<_}
 use mathlib.Core.Path.{_≡_, sym, ap, ap₂, _∙_, subst}
 use mathlib.Core.Bool.{true}
 use mathlib.Core.List.{List}
@@ -13,14 +13,22 @@ use Rattle.numbers.specs.Whole.{plus}
 use Rattle.table.specs.Answers.{told}
 use Rattle.table.specs.Refusals.{outcome}
 use Rattle.table.specs.Order.{inOrder}
-use Rattle.table.specs.Tree.{treeOf}
+use Rattle.table.specs.Limits.{nodes, sortAt, rateAt}
+use Rattle.table.specs.Places.{rate}
+use Rattle.table.specs.Tree.{treeOf, there, isClass}
 use Rattle.table.specs.Rates.{renewed}
 use Rattle.table.specs.Renewal.{renewedBelow}
 use Rattle.table.specs.Calls.{done, changeShareRefusal, changeShareTable, changeShareAnswer, reshared}
 use Rattle.table.proofs.Refusals.{kept-new, kept-old, outcome-accepted, natural-of}
+use Rattle.table.proofs.Facts.{facts}
+use Rattle.table.proofs.Edits.{reshared-rest}
 use Rattle.table.proofs.Passed.{change-share-passed, long}
 use Rattle.treelaws.specs.Renewal.{RenewsAll}
+use Rattle.treelaws.proofs.Children.{class-there}
+use Rattle.treelaws.proofs.Rounding.{rate-small}
+use Rattle.treelaws.proofs.Joined.{same-there}
 use Rattle.calllaws.proofs.ChangeShare.{change-share-keeps, change-share-renews-below}
+use Rattle.rating.specs.Rated.{Rated}
 use Rattle.rating.proofs.Rated.{rated-before}
 use Rattle.sharing.proofs.change_share.Statement.{statement}
 use Rattle.sharing.proofs.change_share.Tie as tie
@@ -77,11 +85,34 @@ natural-requires-2 c κs = let p = change-share-passed _ _ _ _ (accepted (accept
 write-share-requires : tie.Need-write-share-requires
 write-share-requires c κs = let p = change-share-passed _ _ _ _ (accepted (accepts (node-of (c .before)))) in (long _ (p .order), omega (arith, node (node-of (c .before)), p .node))
 
+-- Any node that is there can be renewed below, the parent and the node itself.
+rated-at : (c : tie.After-write-share) (x : ℕ) → x < nodes → there (treeOf (start (accepts (node-of (c .before .before))) .args .table .now)) x ≡ true → Rated (c .write-share .last .0) x
+unfolding rate
+rated-at c x low here =
+    let acceptance = accepts (node-of (c .before .before)) in
+    let s = start acceptance in
+    let passed = change-share-passed _ _ _ _ (accepted acceptance) in
+    let f = facts _ (passed .order) in
+    let rest = reshared-rest (s .args .table .now) (plus (s .args .node)) (s .args .kind) (s .args .share) (f .long) (passed .node) x in
+    rw (written c)
+    (rated-before _ x (in-order acceptance) low
+    (same-there _ _ x (rest sortAt (omega arith) (omega arith) (omega arith)) ∙ here)
+    (omega (arith, rate-small _ f x low, ap plus (rest rateAt (omega arith) (omega arith) (omega arith)))))
+
 renew-below-requires : tie.Need-renew-below-requires
 renew-below-requires c κs =
     let w = c .before .before in
-    let acceptance = accepts (node-of (w .before .before)) in
-    rw (parent (w .before .before), written w) (rated-before _ _ (in-order acceptance) (renews acceptance))
+    let read = w .before .before in
+    let known = node-of read in
+    let t = start (accepts known) .args .table .now in
+    let passed = change-share-passed _ _ _ _ (accepted (accepts known)) in
+    let f = facts _ (passed .order) in
+    let k : known .natural .result < nodes = omega (arith, node known, passed .node) in
+    let k-there : there (treeOf t) (known .natural .result) ≡ true = subst (λ (x : ℕ). there (treeOf t) x ≡ true) (sym (node known)) (passed .there) in
+    let class : isClass (treeOf t) (treeOf t .parent (plus (start (accepts known) .args .node))) ≡ true = f .child _ (passed .node) (passed .there) (passed .below) .class in
+    let p : read .natural2 .result < nodes = omega (arith, parent read, renews (accepts known) .low) in
+    let p-there : there (treeOf t) (read .natural2 .result) ≡ true = subst (λ (x : ℕ). there (treeOf t) x ≡ true) (sym (parent read)) (class-there _ _ class) in
+    rated-at w _ (omega (arith, k, p)) (search (k-there, p-there))
 
 returns-2 : tie.Need-returns-2
 unfolding told changeShareAnswer changeShareTable

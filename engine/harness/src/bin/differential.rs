@@ -29,7 +29,7 @@ struct Counts {
 
 fn main() -> ExitCode {
     let numbers: Vec<u64> = std::env::args().skip(1).filter_map(|text| text.parse().ok()).collect();
-    let most = numbers.first().copied().unwrap_or(1_500_000) as usize;
+    let most = numbers.first().copied().unwrap_or(2_000_000) as usize;
     let first = numbers.get(1).copied().unwrap_or(1);
     let began = Instant::now();
     match compare(most, first) {

@@ -80,11 +80,11 @@ division-of-requires c κs =
     let p = placed (known .before) in
     record {
       long = f .0 .rated .long;
-      below = f .2;
+      not-root = f .2;
       low = f .3;
       here = here (known .before);
       placed = p;
-      class = omega (arith, class-rate (c .before .before), rate-le _ (f .0) _ (p .parent) (class-there _ _ (p .class)));
+      small = omega (arith, class-rate (c .before .before), rate-le _ (f .0) _ (p .parent) (class-there _ _ (p .class)));
       fixed = rw (class known) (f .1 .fixed _ (p .parent));
       weights = rw (class known) (f .1 .weights _ (p .parent));
       few = rw (class known) (omega (arith, f .1 .weights _ (p .parent), weights-small _ _ (f .0 .rated) (treeOf (known .before .before .before .args .table .now) .parent (known .before .before .before .args .k))));

@@ -25,7 +25,7 @@ returns c =
     let tree = treeOf (start .args .table .now) in
     record {
       rate = fixed-child tree (start .args .rate) (start .args .k) (sym (c .before .is-fixed .ensures) ∙ c .if1 .taken);
-      small = start .pre .class;
+      small = start .pre .small;
       some = omega arith;
       few = omega arith;
     }
@@ -43,7 +43,7 @@ returns-2 c =
     let left = c .left-rate .ensures in
     record {
       rate = weighted-child tree (tree .parent (start .args .k)) (start .args .rate) (start .args .k) refl weighted ∙ sym (same-weighted (tree .share (start .args .k)) (left ∙ ap (leftRate (start .args .rate)) (pre .fixed)) (pre .weights));
-      small = omega (arith, left, left-le (start .args .rate) (start .args .fixed), pre .class);
+      small = omega (arith, left, left-le (start .args .rate) (start .args .fixed), pre .small);
       some = omega (arith, pre .weights, weights-there tree (start .args .k) (pre .low) (pre .here) (λ e. omega arith) (pre .placed) weighted);
       few = pre .few;
     }

@@ -113,11 +113,11 @@ child-rate-requires c κs =
     let p = placed _ _ _ _ _ (pre .0) (pre .2) (pre .3) here in
     record {
       long = pre .0 .rated .long;
-      below = below-root _ _ _ _ _ (pre .0) (pre .2) (pre .3) here;
+      not-root = below-root _ _ _ _ _ (pre .0) (pre .2) (pre .3) here;
       low = pre .3;
       here = here-there _ _ _ _ _ (pre .0) (pre .2) (pre .3) here;
       placed = p;
-      class = omega (arith, from-parent read, parent-le _ _ _ _ _ (pre .0) (pre .2) (pre .3) here (stands inside));
+      small = omega (arith, from-parent read, parent-le _ _ _ _ _ (pre .0) (pre .2) (pre .3) here (stands inside));
       fixed = rw (parent known) (pre .1 .fixed _ (p .parent));
       weights = rw (parent known) (pre .1 .weights _ (p .parent));
       few = rw (parent known) (omega (arith, pre .1 .weights _ (p .parent), weights-small _ _ (pre .0 .rated) (treeOf (entered inside .args .table .now) .parent (entered inside .args .k))));
