@@ -2,11 +2,11 @@
 use table::Table;
 ghost use mathlib.Core.Path.{_≡_};
 ghost use mathlib.Core.Bool.{_&&_};
-ghost use Prim.Native.Nat.{_+_, _<_, _≤_, _^_};
+ghost use Prim.Native.Nat.{_+_, _-_, _<_, _≤_, _^_};
 ghost use lib.ListN.{length};
 ghost use lib.IntN.{pos};
 ghost use Rattle.numbers.specs.Whole.{minus, sameℤ, withinℤ};
-ghost use Rattle.table.specs.Limits.{tableLength, recordLength, nodes, mostWaiting};
+ghost use Rattle.table.specs.Limits.{tableLength, recordLength, nodes, queueLength, mostWaiting};
 ghost use Rattle.table.specs.Places.{place, waiting};
 ghost use Rattle.table.specs.Order.{isZero, headerInOrder, rootInOrder, limitsKept, spareInOrder};
 ghost use Rattle.places.specs.Zeros.{zeros};
@@ -95,6 +95,18 @@ pub fn limits_kept(table: &[i64], k: usize) -> bool
     sort & parent & level & kind & share & depth & waiting
 }
 
+// Whether the numbers of a queue behind the first so many are zero. Most queues are empty, and a test of a fixed length takes
+// less time.
+fn queue_zeros(table: &[i64], queue: usize, held: usize) -> bool
+    requires { ⌜ (queue + queueLength ≤ length (now table)) × (held ≤ queueLength) ⌝ }
+    ensures { λ r. ⌜ r ≡ zeros (now (table .entry)) (queue + held) (queueLength - held) ⌝ }
+{
+    if held == 0 {
+        return zeros(table, queue, Table::QUEUE_LENGTH);
+    }
+    zeros(table, queue + held, Table::QUEUE_LENGTH - held)
+}
+
 // Whether the places of node k that hold nothing are zero.
 pub fn spare_in_order(table: &[i64], k: usize) -> bool
     requires { ⌜ (length (now table) ≡ tableLength) × (k < nodes) × (waiting (now table) k ≤ mostWaiting) ⌝ }
@@ -103,10 +115,6 @@ pub fn spare_in_order(table: &[i64], k: usize) -> bool
     let first = Table::HEADER + Table::RECORD * k;
     let held = Table::REQUEST * Table::natural(table, k, Table::WAITING) as usize;
     let spare = zeros(table, first + Table::SPARE, Table::SPARE_LENGTH);
-    let queue = zeros(
-        table,
-        first + Table::QUEUE + held,
-        Table::QUEUE_LENGTH - held,
-    );
+    let queue = queue_zeros(table, first + Table::QUEUE, held);
     spare & queue
 }

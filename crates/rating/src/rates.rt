@@ -28,6 +28,7 @@ pub fn division_of(table: &[i64], k: usize, rate: u64, fixed: u64, weights: u64)
     requires { ⌜ Divided (now table) k rate fixed weights ⌝ }
     ensures { λ r. ⌜ Divides (treeOf (now (table .entry))) rate k r ⌝ }
 {
+    let left = left_rate(rate, fixed);
     if tree::is_fixed(table, k) {
         return Division {
             whole: rate,
@@ -35,7 +36,7 @@ pub fn division_of(table: &[i64], k: usize, rate: u64, fixed: u64, weights: u64)
         };
     }
     Division {
-        whole: left_rate(rate, fixed),
+        whole: left,
         parts: weights,
     }
 }

@@ -26,8 +26,9 @@ pub fn fixed_share(table: &[i64], k: usize) -> u64
     requires { ⌜ (length (now table) ≡ tableLength) × (k < nodes) ⌝ }
     ensures { λ r. ⌜ r ≡ fixedShare (treeOf (now (table .entry))) k ⌝ }
 {
+    let share = Table::natural(table, k, Table::SHARE);
     if tree::is_fixed(table, k) {
-        return Table::natural(table, k, Table::SHARE);
+        return share;
     }
     0
 }
@@ -37,10 +38,11 @@ pub fn weight(table: &[i64], k: usize) -> u64
     requires { ⌜ (length (now table) ≡ tableLength) × (k < nodes) ⌝ }
     ensures { λ r. ⌜ r ≡ weight (treeOf (now (table .entry))) k ⌝ }
 {
+    let share = Table::natural(table, k, Table::SHARE);
     if tree::is_fixed(table, k) {
         return 0;
     }
-    Table::natural(table, k, Table::SHARE)
+    share
 }
 
 // The summand of node k.

@@ -32,20 +32,12 @@ add-zeros c = search needs
 zeros-requires : tie.Need-zeros-requires
 zeros-requires c κs = search needs
 
-add-zeros-2 : tie.Need-add-zeros-2
-add-zeros-2 c = search needs
+add-queue-zeros : tie.Need-add-queue-zeros
+add-queue-zeros c = search needs
 
-add-zeros-3 : tie.Need-add-zeros-3
+queue-zeros-requires : tie.Need-queue-zeros-requires
 unfolding waiting
-add-zeros-3 c = omega arith
-
-sub-zeros : tie.Need-sub-zeros
-unfolding waiting
-sub-zeros c = omega arith
-
-zeros-requires-2 : tie.Need-zeros-requires-2
-unfolding waiting
-zeros-requires-2 c κs = omega arith
+queue-zeros-requires c κs = omega arith
 
 returns : tie.Need-returns
 unfolding spareInOrder waiting
@@ -55,7 +47,7 @@ returns c =
     let held = ap (λ (n : ℕ). zeros t (headerLength + recordLength * k + queueAt + requestLength * n) (queueLength - requestLength * n)) (c .before .before .natural .ensures) in
     joined-as
     (same-tests (c .before .zeros .ensures ∙ spare-zeros t k)
-    (last-test (c .zeros2 .ensures ∙ held ∙ queue-zeros t k (requestLength * plus (place t k waitingAt)) (omega arith))))
+    (last-test (c .queue-zeros .ensures ∙ held ∙ queue-zeros t k (requestLength * plus (place t k waitingAt)) (omega arith))))
 
 pub spare-in-order-spec : {M : Type 1} → statement M
 spare-in-order-spec =
@@ -67,8 +59,6 @@ spare-in-order-spec =
     mul-held
     add-zeros
     zeros-requires
-    add-zeros-2
-    add-zeros-3
-    sub-zeros
-    zeros-requires-2
+    add-queue-zeros
+    queue-zeros-requires
     returns)

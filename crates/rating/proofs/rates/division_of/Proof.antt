@@ -15,13 +15,16 @@ same-weighted : {l l' w w' : ℕ} (s : ℕ) → l ≡ l' → w ≡ w' → l * s 
 unfolding weightedRate
 same-weighted s left weights = cc
 
+left-rate-requires : tie.Need-left-rate-requires
+left-rate-requires c κs = search needs
+
 is-fixed-requires : tie.Need-is-fixed-requires
 is-fixed-requires c κs = search needs
 
 returns : tie.Need-returns
 unfolding fixedRate
 returns c =
-    let start = c .before .before in
+    let start = c .before .before .before in
     let tree = treeOf (start .args .table .now) in
     record {
       rate = fixed-child tree (start .args .rate) (start .args .k) (sym (c .before .is-fixed .ensures) ∙ c .if1 .taken);
@@ -30,17 +33,14 @@ returns c =
       few = omega arith;
     }
 
-left-rate-requires : tie.Need-left-rate-requires
-left-rate-requires c κs = search needs
-
 returns-2 : tie.Need-returns-2
 returns-2 c =
     let known = c .before .before in
     let start = known .before in
     let pre = start .pre in
     let tree = treeOf (start .args .table .now) in
-    let weighted = sym (known .is-fixed .ensures) ∙ c .before .if1 .left in
-    let left = c .left-rate .ensures in
+    let weighted = sym (c .before .is-fixed .ensures) ∙ c .if1 .left in
+    let left = known .left-rate .ensures in
     record {
       rate = weighted-child tree (tree .parent (start .args .k)) (start .args .rate) (start .args .k) refl weighted ∙ sym (same-weighted (tree .share (start .args .k)) (left ∙ ap (leftRate (start .args .rate)) (pre .fixed)) (pre .weights));
       small = omega (arith, left, left-le (start .args .rate) (start .args .fixed), pre .small);
@@ -49,4 +49,4 @@ returns-2 c =
     }
 
 pub division-of-spec : {M : Type 1} → statement M
-division-of-spec = tie.close (tie.spec is-fixed-requires returns left-rate-requires returns-2)
+division-of-spec = tie.close (tie.spec left-rate-requires is-fixed-requires returns returns-2)

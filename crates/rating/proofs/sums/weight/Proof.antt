@@ -7,6 +7,9 @@ use borrow.Author.Needs.{needs}
 use Rattle.rating.proofs.sums.weight.Statement.{statement}
 use Rattle.rating.proofs.sums.weight.Tie as tie
 
+natural-requires : tie.Need-natural-requires
+natural-requires c κs = search needs
+
 is-fixed-requires : tie.Need-is-fixed-requires
 is-fixed-requires c κs = search needs
 
@@ -14,12 +17,9 @@ returns : tie.Need-returns
 unfolding weight
 returns c = sym (cond-true _ _ _ (sym (c .before .is-fixed .ensures) ∙ c .if1 .taken))
 
-natural-requires : tie.Need-natural-requires
-natural-requires c κs = search needs
-
 returns-2 : tie.Need-returns-2
 unfolding treeOf weight
-returns-2 c = c .natural .ensures ∙ sym (cond-false _ _ _ (sym (c .before .before .is-fixed .ensures) ∙ c .before .if1 .left))
+returns-2 c = c .before .before .natural .ensures ∙ sym (cond-false _ _ _ (sym (c .before .is-fixed .ensures) ∙ c .if1 .left))
 
 pub weight-spec : {M : Type 1} → statement M
-weight-spec = tie.close (tie.spec is-fixed-requires returns natural-requires returns-2)
+weight-spec = tie.close (tie.spec natural-requires is-fixed-requires returns returns-2)
