@@ -38,9 +38,9 @@
  *                copy and then point to the copy; the manual has the steps.
  *
  * LINKING. libcabinet.a has all calls but hds_plan_check, which is in libplan.a; `rt staticlib cabinet` and
- * `rt staticlib plan` write them to target/staticlib/. They need memcpy and memset and nothing else, have no data that is
- * written, use no heap, no recursion, no floating point, no red zone and no registers beyond SSE2, and can stand at
- * any address.
+ * `rt staticlib plan` write them to target/staticlib/. They need memcpy and memset, libplan.a memset alone, and nothing
+ * else, have no data that is written, use no heap, no recursion, no floating point, no red zone and no registers beyond
+ * SSE2, and can stand at any address.
  */
 #ifndef HDS_H
 #define HDS_H
