@@ -1,4 +1,5 @@
--- Which tables have sums that fit: those whose nodes keep their limits and have small balances, as in a table in order.
+-- Which tables have sums that fit: those whose nodes keep their limits and have small rates and balances, as in a table in
+-- order.
 use Prim.Native.Nat.{ℕ, _≤_, _<_, _^_}
 use mathlib.Core.Path.{_≡_}
 use mathlib.Core.Bool.{true}
