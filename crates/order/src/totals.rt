@@ -23,11 +23,16 @@ fn add_node(
     requires { ⌜ (length (now table) ≡ tableLength) × (recordsInOrder (now table) ≡ true) × (0 < k) × (k < nodes) × Totals (now table) k (now fixed) (now weights) (now depths) (now credits) (now debts) ⌝ }
     ensures { λ _. ⌜ Totals (now (table .entry)) (k + 1) (now (fixed .exit)) (now (weights .exit)) (now (depths .exit)) (now (credits .exit)) (now (debts .exit)) ⌝ }
 {
-    sums::add_node(table, Summand::FixedShares, fixed, k);
-    sums::add_node(table, Summand::Weights, weights, k);
+    sums::add_one_of(
+        table,
+        Summand::FixedShares,
+        fixed,
+        Summand::Weights,
+        weights,
+        k,
+    );
     sums::add_node(table, Summand::Depths, depths, k);
-    sums::add_node(table, Summand::Credits, credits, k);
-    sums::add_node(table, Summand::Debts, debts, k);
+    sums::add_one_of(table, Summand::Credits, credits, Summand::Debts, debts, k);
 }
 
 // All sums, from sums of 0. The root is nobody's child.

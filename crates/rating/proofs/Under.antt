@@ -1,7 +1,7 @@
 -- The sum under a class of the nodes below a bound, node by node.
-use Prim.Native.Nat.{ℕ, _+_, _*_, _≤_, _<_, _^_}
+use Prim.Native.Nat.{ℕ, _+_, _*_, _≤_, _<_, _^_, min}
 use mathlib.Core.Path.{_≡_, refl, sym, ap, _∙_}
-use mathlib.Core.Bool.{true, false}
+use mathlib.Core.Bool.{true}
 use mathlib.Core.List.{List}
 use native.Mathlib.Omega.{arith}
 use native.Mathlib.Decide.{ℕ-discrete}
@@ -9,14 +9,16 @@ use lib.ListN.{getD, set, length-set, replicate, length-replicate, getD-replicat
 use lib.Seq.{getD-set-same, getD-set-other}
 use lib.IntN.{ℤ}
 use Rattle.numbers.specs.Below.{sumBelow}
-use Rattle.numbers.proofs.Tests.{by-test, true-false}
+use Rattle.numbers.proofs.Tests.{by-test}
+use Rattle.numbers.proofs.Parts.{one-is-zero}
 use Rattle.numbers.proofs.Sums.{sum-next, sum-bound}
 use Rattle.table.specs.Limits.{nodes}
-use Rattle.table.specs.Tree.{Tree, treeOf, there, childOf, countIf, sumUnder}
-use Rattle.table.specs.Rates.{fixedSum, weightSum}
+use Rattle.table.specs.Places.{balance}
+use Rattle.table.specs.Tree.{Tree, treeOf, there, isFixed, childOf, countIf, sumUnder}
+use Rattle.table.specs.Rates.{fixedShare, weight, fixedSum, weightSum}
 use Rattle.treelaws.proofs.Children.{child-facts, child-of, counted, uncounted}
 use Rattle.rating.specs.declared.sums.Summand.{Summand}
-use Rattle.rating.specs.declared.sums.Summand.the-variants.{FixedShares, Weights}
+use Rattle.rating.specs.declared.sums.Summand.the-variants.{FixedShares, Weights, Credits, Debts}
 use Rattle.rating.specs.Rated.{ClassSums}
 use Rattle.rating.specs.Sums.{term, Summable, underBelow, SumsBelow}
 
@@ -33,13 +35,14 @@ module _ (tree : Tree) (c : ℕ) (f : ℕ → ℕ) where
   unfolding underBelow sumUnder
   under-end = refl
 
-  -- A node that is not a child adds nothing.
-  under-skip : (n : ℕ) → (childOf tree c n ≡ true → ⊥) → underBelow (n + 1) tree c f ≡ underBelow n tree c f
-  under-skip n nobody = by-test (childOf tree c n) (λ e. absurd (nobody e)) (λ e. omega (arith, under-next n, uncounted (childOf tree c n) f n e))
+  -- A node that is not a child, or has 0 to add, adds nothing.
+  under-skip : (n : ℕ) → (childOf tree c n ≡ true → f n ≡ 0) → underBelow (n + 1) tree c f ≡ underBelow n tree c f
+  under-skip n nothing =
+      by-test (childOf tree c n) (λ e. omega (arith, under-next n, counted (childOf tree c n) f n e, nothing e)) (λ e. omega (arith, under-next n, uncounted (childOf tree c n) f n e))
 
   -- The root is nobody's child.
   under-root : underBelow 1 tree c f ≡ 0
-  under-root = under-skip 0 (λ e. child-facts tree c 0 e .below refl) ∙ under-start
+  under-root = under-skip 0 (λ e. absurd (child-facts tree c 0 e .below refl)) ∙ under-start
 
 -- A term adds at most 2^57.
 pub child-small : (which : Summand) (t : List ℤ) → Summable which t → (c k : ℕ) → k < nodes → countIf (childOf (treeOf t) c k) (term which t) k ≤ 2 ^ 57
@@ -65,32 +68,39 @@ module _ (which : Summand) (t : List ℤ) where
   pub sums-small : Summable which t → (n : ℕ) → n ≤ nodes → (sums : List ℕ) → SumsBelow which t n sums → (c : ℕ) → c < nodes → getD sums c 0 ≤ n * 2 ^ 57
   sums-small s n hn sums f c hc = omega (arith, f .at c hc, under-small which t s n c hn)
 
-  pub sums-past : (sums : List ℕ) (k : ℕ) → there (treeOf t) k ≡ false → SumsBelow which t k sums → SumsBelow which t (k + 1) sums
-  sums-past sums k gone f =
-      record {
-        long = f .long;
-        at = λ c hc. f .at c hc ∙ sym (under-skip (treeOf t) c (term which t) k (λ e. true-false (child-facts (treeOf t) c k e .there) gone));
-      }
+  -- A node that is not there, or has 0 to add, leaves all sums.
+  pub sums-same : (sums : List ℕ) (k : ℕ) → (there (treeOf t) k ≡ true → term which t k ≡ 0) → SumsBelow which t k sums → SumsBelow which t (k + 1) sums
+  sums-same sums k nothing f =
+      record { long = f .long; at = λ c hc. f .at c hc ∙ sym (under-skip (treeOf t) c (term which t) k (λ e. nothing (child-facts (treeOf t) c k e .there))) }
 
-  pub sums-next : (sums : List ℕ) (k p : ℕ) → there (treeOf t) k ≡ true → (k ≡ 0 → ⊥) → treeOf t .parent k ≡ p → p < nodes → SumsBelow which t k sums → SumsBelow which t (k + 1) (set sums p (getD sums p 0 + term which t k))
-  sums-next sums k p here below parent hp f =
+  pub sums-next : (sums : List ℕ) (k p n : ℕ) → there (treeOf t) k ≡ true → (k ≡ 0 → ⊥) → treeOf t .parent k ≡ p → p < nodes → n ≡ term which t k → SumsBelow which t k sums → SumsBelow which t (k + 1) (set sums p (getD sums p 0 + n))
+  sums-next sums k p n here below parent hp amount f =
       record {
-        long = length-set sums p (getD sums p 0 + term which t k) ∙ f .long;
+        long = length-set sums p (getD sums p 0 + n) ∙ f .long;
         at = λ c hc. elim (ℕ-discrete c p) [ yes e ↦ same c hc e | no ne ↦ other c hc ne ];
       }
     where
-      same : (c : ℕ) → c < nodes → c ≡ p → getD (set sums p (getD sums p 0 + term which t k)) c 0 ≡ underBelow (k + 1) (treeOf t) c (term which t)
+      same : (c : ℕ) → c < nodes → c ≡ p → getD (set sums p (getD sums p 0 + n)) c 0 ≡ underBelow (k + 1) (treeOf t) c (term which t)
       same c hc e =
           let child = child-of (treeOf t) c k (record { there = here; below = below; parent = parent ∙ sym e }) in
-          ap (λ (j : ℕ). getD (set sums p (getD sums p 0 + term which t k)) j 0) e
-          ∙ getD-set-same sums p (getD sums p 0 + term which t k) 0 (omega (arith, f .long))
-          ∙ omega (arith, f .at c hc, ap (λ (j : ℕ). getD sums j 0) e, under-next (treeOf t) c (term which t) k, counted (childOf (treeOf t) c k) (term which t) k child)
+          ap (λ (j : ℕ). getD (set sums p (getD sums p 0 + n)) j 0) e
+          ∙ getD-set-same sums p (getD sums p 0 + n) 0 (omega (arith, f .long))
+          ∙ omega (arith, amount, f .at c hc, ap (λ (j : ℕ). getD sums j 0) e, under-next (treeOf t) c (term which t) k, counted (childOf (treeOf t) c k) (term which t) k child)
 
-      other : (c : ℕ) → c < nodes → (c ≡ p → ⊥) → getD (set sums p (getD sums p 0 + term which t k)) c 0 ≡ underBelow (k + 1) (treeOf t) c (term which t)
+      other : (c : ℕ) → c < nodes → (c ≡ p → ⊥) → getD (set sums p (getD sums p 0 + n)) c 0 ≡ underBelow (k + 1) (treeOf t) c (term which t)
       other c hc ne =
-          getD-set-other sums p c (getD sums p 0 + term which t k) 0 ne
+          getD-set-other sums p c (getD sums p 0 + n) 0 ne
           ∙ f .at c hc
-          ∙ sym (under-skip (treeOf t) c (term which t) k (λ e. ne (sym (child-facts (treeOf t) c k e .parent) ∙ parent)))
+          ∙ sym (under-skip (treeOf t) c (term which t) k (λ e. absurd (ne (sym (child-facts (treeOf t) c k e .parent) ∙ parent))))
+
+-- A share is fixed or a weight, and a balance is not on both sides of 0.
+pub one-share : (t : List ℤ) (k : ℕ) → min (term FixedShares t k) (term Weights t k) ≡ 0
+unfolding term fixedShare weight
+one-share t k = by-test (isFixed (treeOf t) k) (λ e. rw e (omega arith)) (λ e. rw e (omega arith))
+
+pub one-side : (t : List ℤ) (k : ℕ) → min (term Credits t k) (term Debts t k) ≡ 0
+unfolding term
+one-side t k = one-is-zero (balance t k)
 
 -- Both sums of shares.
 pub class-sums : (t : List ℤ) (fs ws : List ℕ) → SumsBelow FixedShares t nodes fs → SumsBelow Weights t nodes ws → ClassSums t fs ws

@@ -1,8 +1,8 @@
 // Sums over the children of a class.
 ghost use mathlib.Core.Path.{_≡_};
 ghost use mathlib.Core.Bool.{cond};
-ghost use Prim.Native.Nat.{_+_, _-_, _≤_, _<_};
-ghost use lib.ListN.{length};
+ghost use Prim.Native.Nat.{_+_, _-_, _^_, _≤_, _<_, min};
+ghost use lib.ListN.{length, getD, set};
 ghost use lib.Dec.{eqb, ltb};
 ghost use Rattle.table.specs.Limits.{tableLength, nodes, wholeShare};
 ghost use Rattle.table.specs.Tree.{treeOf, childOf, countIf, sumUnder};
@@ -97,6 +97,14 @@ pub fn shares_above(table: &[i64], c: usize, old: u64, kind: u64, share: u64) ->
     Table::WHOLE_SHARE < sum - old
 }
 
+// Adds an amount to the sum of class c.
+fn add_to(sums: &mut [u64; Table::NODES], c: usize, amount: u64)
+    requires { ⌜ (c < nodes) × (getD (now sums) c 0 + amount < 2 ^ 64) ⌝ }
+    ensures { λ _. ⌜ now (sums .exit) ≡ set (now (sums .entry)) c (getD (now (sums .entry)) c 0 + amount) ⌝ }
+{
+    sums[c] = sums[c] + amount;
+}
+
 // Adds the summand of node k, where it is there, to the sum of its class.
 pub fn add_node(table: &[i64], which: Summand, sums: &mut [u64; Table::NODES], k: usize)
     requires { ⌜ (length (now table) ≡ tableLength) × Summable which (now table) × (0 < k) × (k < nodes) × SumsBelow which (now table) k (now sums) ⌝ }
@@ -106,7 +114,32 @@ pub fn add_node(table: &[i64], which: Summand, sums: &mut [u64; Table::NODES], k
         return;
     }
     let c = Table::natural(table, k, Table::PARENT) as usize;
-    sums[c] = sums[c] + term(table, which, k);
+    add_to(sums, c, term(table, which, k));
+}
+
+// Adds two summands of node k, where it is there, to their sums of its class. One of the two is 0, so one sum alone is written.
+pub fn add_one_of(
+    table: &[i64],
+    first: Summand,
+    firsts: &mut [u64; Table::NODES],
+    second: Summand,
+    seconds: &mut [u64; Table::NODES],
+    k: usize,
+)
+    requires { ⌜ (length (now table) ≡ tableLength) × Summable first (now table) × Summable second (now table) × (0 < k) × (k < nodes) × (min (term first (now table) k) (term second (now table) k) ≡ 0) × SumsBelow first (now table) k (now firsts) × SumsBelow second (now table) k (now seconds) ⌝ }
+    ensures { λ _. ⌜ SumsBelow first (now (table .entry)) (k + 1) (now (firsts .exit)) × SumsBelow second (now (table .entry)) (k + 1) (now (seconds .exit)) ⌝ }
+{
+    if !tree::there(table, k) {
+        return;
+    }
+    let c = Table::natural(table, k, Table::PARENT) as usize;
+    let one = term(table, first, k);
+    let amount = one + term(table, second, k);
+    if 0 < one {
+        add_to(firsts, c, amount);
+    } else {
+        add_to(seconds, c, amount);
+    }
 }
 
 // The sums of fixed shares and of weights under all classes, in one pass from sums of 0. The root is nobody's child.
@@ -116,8 +149,14 @@ pub fn share_sums(table: &[i64], fixed: &mut [u64; Table::NODES], weights: &mut 
 {
     let mut k: usize = 1;
     while k < Table::NODES {
-        add_node(table, Summand::FixedShares, fixed, k);
-        add_node(table, Summand::Weights, weights, k);
+        add_one_of(
+            table,
+            Summand::FixedShares,
+            fixed,
+            Summand::Weights,
+            weights,
+            k,
+        );
         k += 1;
     }
 }

@@ -5,6 +5,7 @@ use native.Mathlib.Omega.{arith}
 use Rattle.table.specs.Limits.{nodes}
 use Rattle.rating.specs.declared.sums.Summand.the-variants.{FixedShares, Weights}
 use Rattle.rating.specs.Sums.{SumsBelow}
+use Rattle.rating.proofs.Under.{one-share}
 use Rattle.rating.proofs.sums.share_sums.Statement.{statement}
 use Rattle.rating.proofs.sums.share_sums.Tie as tie
 
@@ -17,12 +18,11 @@ abbrev μ-loop : tie.MeasureT-loop
 loop-holds : tie.Need-loop-holds Inv-loop μ-loop
 loop-holds c = (omega arith, omega arith, c .pre .3, c .pre .4)
 
-add-node-requires : tie.Need-add-node-requires Inv-loop μ-loop
-add-node-requires c κs = let at = c .before .before in let pre = at .before .pre in (pre .0, pre .1, at .loop .inv .0, omega arith, at .loop .inv .2)
-
-add-node-requires-2 : tie.Need-add-node-requires-2 Inv-loop μ-loop
-add-node-requires-2 c κs =
-    let at = c .before .before .before .before in let pre = at .before .pre in (pre .0, pre .2, at .loop .inv .0, omega arith, at .loop .inv .3)
+add-one-of-requires : tie.Need-add-one-of-requires Inv-loop μ-loop
+add-one-of-requires c κs =
+    let at = c .before .before .before in
+    let pre = at .before .pre in
+    (pre .0, pre .1, pre .2, at .loop .inv .0, omega arith, one-share _ _, at .loop .inv .2, at .loop .inv .3)
 
 add-k : tie.Need-add-k Inv-loop μ-loop
 add-k c = omega arith
@@ -31,7 +31,7 @@ loop-less : tie.Need-loop-less Inv-loop μ-loop
 loop-less c = omega arith
 
 loop-again : tie.Need-loop-again Inv-loop μ-loop
-loop-again c = (omega arith, omega arith, c .before .before .add-node .ensures, c .add-node2 .ensures)
+loop-again c = (omega arith, omega arith, c .add-one-of .ensures .0, c .add-one-of .ensures .1)
 
 returns : tie.Need-returns Inv-loop μ-loop
 returns c =
@@ -42,13 +42,4 @@ returns c =
 pub share-sums-spec : {M : Type 1} → statement M
 share-sums-spec =
     tie.close
-    (tie.spec
-    Inv-loop
-    μ-loop
-    loop-holds
-    add-node-requires
-    add-node-requires-2
-    add-k
-    loop-less
-    loop-again
-    returns)
+    (tie.spec Inv-loop μ-loop loop-holds add-one-of-requires add-k loop-less loop-again returns)
