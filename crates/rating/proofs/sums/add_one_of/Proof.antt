@@ -1,14 +1,18 @@
 -- `rating::sums::add_one_of` meets its contract: the node's terms are added to the sums of its parent; the one that is 0
 -- leaves its sums.
-use Prim.Native.Nat.{_+_, _^_, _≤_, _<_}
+use Prim.Native.Nat.{ℕ, _+_, _^_, _<_}
 use mathlib.Core.Path.{_≡_, sym, _∙_}
 use mathlib.Core.Bool.{true}
+use mathlib.Core.List.{List}
 use native.Mathlib.Omega.{arith}
+use lib.ListN.{getD, set}
 use borrow.Author.Needs.{needs}
 use borrow.Author.Tests.{not-true, not-false}
 use Rattle.numbers.proofs.Tests.{true-false}
 use Rattle.table.specs.Limits.{nodes}
 use Rattle.table.specs.Tree.{treeOf, there}
+use Rattle.rating.specs.declared.sums.Summand.{Summand}
+use Rattle.rating.specs.Sums.{term, Summable, SumsBelow}
 use Rattle.rating.proofs.Under.{sums-small, sums-same, sums-next}
 use Rattle.rating.proofs.sums.add_one_of.Statement.{statement}
 use Rattle.rating.proofs.sums.add_one_of.Tie as tie
@@ -24,19 +28,39 @@ parent : (c : tie.After-natural) → c .natural .result < nodes
 unfolding treeOf
 parent c = let pre = start (c .before) .pre in omega (arith, pre .1 .parent _ (pre .4) (here (c .before)) (λ e. omega arith))
 
--- Both terms, of which one is 0.
-terms : (c : tie.After-term2) → c .before .term .result + c .term2 .result ≤ 2 ^ 57
-terms c =
-    let at = c .before .before .before in
-    let pre = start at .pre in
-    omega (
-      arith,
-      pre .5,
-      c .before .term .ensures,
-      c .term2 .ensures,
-      pre .1 .small _ (pre .4) (here at) (λ e. omega arith),
-      pre .2 .small _ (pre .4) (here at) (λ e. omega arith),
+-- What is known once both terms are: the table and the node of the call, the class, and what is added.
+abbrev at : tie.After-term2 → tie.Start
+at c = start (c .before .before .before)
+
+abbrev class : tie.After-term2 → ℕ
+class c = c .before .before .natural .result
+
+abbrev amount : tie.After-term2 → ℕ
+amount c = c .before .term .result + c .term2 .result
+
+-- A sum has room for the amount.
+room : (c : tie.After-term2) (which : Summand) (sums : List ℕ) → Summable which (at c .args .table .now) → SumsBelow which (at c .args .table .now) (at c .args .k) sums → (class c < nodes) × (getD sums (class c) 0 + amount c < 2 ^ 64)
+room c which sums s f =
+    let pre = at c .pre in
+    let here = here (c .before .before .before) in (
+      parent (c .before .before),
+      omega (
+        arith,
+        pre .5,
+        c .before .term .ensures,
+        c .term2 .ensures,
+        pre .1 .small _ (pre .4) here (λ e. omega arith),
+        pre .2 .small _ (pre .4) here (λ e. omega arith),
+        sums-small _ _ s (at c .args .k) (omega arith) sums f (class c) (parent (c .before .before)),
+      ),
     )
+
+-- A sum to which the amount is added has one node more, where the amount is its term.
+added : (c : tie.After-term2) (which : Summand) (sums : List ℕ) → amount c ≡ term which (at c .args .table .now) (at c .args .k) → SumsBelow which (at c .args .table .now) (at c .args .k) sums → SumsBelow which (at c .args .table .now) (at c .args .k + 1) (set sums (class c) (getD sums (class c) 0 + amount c))
+unfolding treeOf
+added c which sums e f =
+    let pre = at c .pre in
+    sums-next _ _ _ _ _ _ (here (c .before .before .before)) (λ z. omega arith) (sym (c .before .before .natural .ensures)) (parent (c .before .before)) e f
 
 there-requires : tie.Need-there-requires
 there-requires c κs = search needs
@@ -60,46 +84,22 @@ add-amount : tie.Need-add-amount
 add-amount c = search needs
 
 add-to-requires : tie.Need-add-to-requires
-add-to-requires c κs =
-    let known = c .before .before .before .before in
-    let pre = start (known .before) .pre in (
-      parent known,
-      omega (
-        arith,
-        terms (c .before .before),
-        sums-small _ _ (pre .1) (start (known .before) .args .k) (omega arith) _ (pre .6) (known .natural .result) (parent known),
-      ),
-    )
+add-to-requires c κs = let known = c .before .before in let pre = at known .pre in room known _ _ (pre .1) (pre .6)
 
 add-to-requires-2 : tie.Need-add-to-requires-2
-add-to-requires-2 c κs =
-    let known = c .before .before .before .before in
-    let pre = start (known .before) .pre in (
-      parent known,
-      omega (
-        arith,
-        terms (c .before .before),
-        sums-small _ _ (pre .2) (start (known .before) .args .k) (omega arith) _ (pre .7) (known .natural .result) (parent known),
-      ),
-    )
+add-to-requires-2 c κs = let known = c .before .before in let pre = at known .pre in room known _ _ (pre .2) (pre .7)
 
 returns-2 : tie.Need-returns-2
-unfolding treeOf
 returns-2 c =
-    let known = c .before .before .before .before .before in
-    let pre = start (known .before) .pre in
-    let first = c .before .before .before .before .term in
-    let second = c .before .before .before .term2 in
-    (rw (c .add-to .ensures) (sums-next _ _ _ _ (known .natural .result) _ (here (known .before)) (λ e. omega arith) (sym (known .natural .ensures)) (parent known) (omega (arith, pre .5, first .ensures, second .ensures)) (pre .6)), sums-same _ _ _ _ (λ e. omega (arith, pre .5, first .ensures, second .ensures)) (pre .7))
+    let known = c .before .before .before in
+    let pre = at known .pre in
+    (rw (c .add-to .ensures) (added known _ _ (omega (arith, pre .5, known .before .term .ensures, known .term2 .ensures)) (pre .6)), sums-same _ _ _ _ (λ e. omega (arith, pre .5, known .before .term .ensures, known .term2 .ensures)) (pre .7))
 
 returns-3 : tie.Need-returns-3
-unfolding treeOf
 returns-3 c =
-    let known = c .before .before .before .before .before in
-    let pre = start (known .before) .pre in
-    let first = c .before .before .before .before .term in
-    let second = c .before .before .before .term2 in
-    (sums-same _ _ _ _ (λ e. omega (arith, pre .5, first .ensures, second .ensures)) (pre .6), rw (c .add-to2 .ensures) (sums-next _ _ _ _ (known .natural .result) _ (here (known .before)) (λ e. omega arith) (sym (known .natural .ensures)) (parent known) (omega (arith, pre .5, first .ensures, second .ensures)) (pre .7)))
+    let known = c .before .before .before in
+    let pre = at known .pre in
+    (sums-same _ _ _ _ (λ e. omega (arith, pre .5, known .before .term .ensures, known .term2 .ensures)) (pre .6), rw (c .add-to2 .ensures) (added known _ _ (omega (arith, pre .5, known .before .term .ensures, known .term2 .ensures)) (pre .7)))
 
 pub add-one-of-spec : {M : Type 1} → statement M
 add-one-of-spec =
