@@ -1,7 +1,8 @@
 /*
  * A cabinet's firmware in small: it checks plans, then runs one editing suite
- * with two streams and a backup beside it. It prints every answer and every
- * dispatch; firmware.out is worked out from documents 01 and 02 by hand.
+ * with two streams and a backup beside it; at the end a playout desk joins. It
+ * prints every answer and every dispatch; firmware.out is worked out from
+ * documents 01 and 02 by hand.
  */
 #include <inttypes.h>
 #include <stdio.h>
@@ -58,16 +59,32 @@ static void plans(void)
     uint8_t buffer[HDS_LONGEST_PLAN];
 
     memcpy(bad, good, sizeof good);
-    bad[13] = 4; /* no kind */
+    bad[13] = 4; /* no kind of the first edition */
     printf("check good: %" PRIu32 "\n", hds_plan_check(good, sizeof good));
     printf("check bad: %" PRIu32 "\n", hds_plan_check(bad, sizeof bad));
     answer("read bad", hds_plan_read(TABLE, bad, sizeof bad));
-    answer("read good", hds_plan_read(TABLE, good, sizeof good));
+    int64_t edition = hds_plan_read(TABLE, good, sizeof good);
+
+    answer("read good", edition);
     look(0);
     look(5);
-    answer("write, short buffer", hds_plan_write(TABLE, buffer, sizeof good - 1));
-    answer("write", hds_plan_write(TABLE, buffer, sizeof buffer));
+    answer("write, short buffer", hds_plan_write(TABLE, edition, buffer, sizeof good - 1));
+    answer("write", hds_plan_write(TABLE, edition, buffer, sizeof buffer));
     printf("%s\n", memcmp(buffer, good, sizeof good) == 0 ? "the same bytes" : "other bytes");
+}
+
+/* Writes the plan of a tree with a stated node, and reads it into another table. */
+static void save(void)
+{
+    static int64_t other[HDS_TABLE_LENGTH];
+    uint8_t buffer[HDS_LONGEST_PLAN];
+
+    answer("write, first edition", hds_plan_write(TABLE, HDS_FIRST_EDITION, buffer, sizeof buffer));
+    int64_t length = hds_plan_write(TABLE, HDS_SECOND_EDITION, buffer, sizeof buffer);
+
+    answer("write, second edition", length);
+    answer("read", hds_plan_read(other, HDS_TABLE_LENGTH, buffer, (size_t)length));
+    answer("same", hds_same(TABLE, other, HDS_TABLE_LENGTH));
 }
 
 int main(void)
@@ -119,6 +136,21 @@ int main(void)
     answer("change share of 4", hds_set_share(TABLE, 4, hds_weighted(1)));
     answer("change rate", hds_change_rate(TABLE, 8000));
     answer("same", hds_same(before, HDS_TABLE_LENGTH, TABLE));
+
+    /*
+     * Playout desk 5 gets 2000 grains a tick, whatever the disk's rate becomes. Suite and backup divide the other 6000, then
+     * 3001, of which one grain is lost. The disk cannot get less than 2000, nor stream 2 a stated share: it is in a suite.
+     */
+    answer("join desk 5, too much", hds_join_client(TABLE, 5, 0, hds_stated(8001), 8));
+    answer("join desk 5", hds_join_client(TABLE, 5, 0, hds_stated(2000), 8));
+    look(1);
+    look(5);
+    answer("change rate", hds_change_rate(TABLE, 5001));
+    for (int64_t node = 0; node <= 5; node++)
+        look(node);
+    answer("change rate", hds_change_rate(TABLE, 1999));
+    answer("change share of 2", hds_set_share(TABLE, 2, hds_stated(900)));
+    save();
     answer("leave suite 1", hds_leave(TABLE, 1));
     answer("leave backup 4", hds_leave(TABLE, 4));
     return 0;

@@ -9,7 +9,7 @@
  *
  *     !! hds_plan_check alone answers the number itself: 0 for a good plan, HDS_PLAN_WRONG and not -HDS_PLAN_WRONG
  *     !! for a wrong one, as a uint32_t. Testing it for "below 0", or negating it without a cast, accepts every plan.
- *     !! hds_plan_judge, below, answers as all other calls do.
+ *     !! hds_plan_judge, below, answers 0 or the negated number.
  *
  * A refused call leaves every buffer as it came. Tables, lists and plans of any length and contents and arguments of
  * any size are safe. These are the caller's to see to: a pointer is not null, also where the length is 0; it is
@@ -66,12 +66,17 @@ extern "C" {
  * From 3 to 4: of the requests that borrow, hds_tick takes the one whose supplier is the fewest levels above its client,
  * of several the one that arrived first; before, the one that arrived first. Nothing else changed: link the new
  * archives, and work out again the lists that your tests expect.
+ * From 4 to 5: hds_plan_read answers the edition of the plan, 1 or 2, where it answered 0: test it for below 0, not for
+ * 0. hds_plan_write takes the edition before the buffer. HDS_STATED is a third kind of share: a kind that is not
+ * HDS_FIXED need not be HDS_WEIGHTED. 16 is a further refusal. HDS_LONGEST_PLAN is 832 and was 702; HDS_PLAN_LENGTH is
+ * for the first edition. Compile everything that includes this header again. Plans of version 4 and tables of versions
+ * 2 to 4 can be used; a plan of the second edition, or a table with a stated node, cannot be used by version 4.
  *
  * A stored table is one of this version where it was stored by version HDS_OLDEST_TABLE_VERSION to HDS_VERSION_MAJOR.
  */
-#define HDS_VERSION_MAJOR 4
+#define HDS_VERSION_MAJOR 5
 #define HDS_VERSION_MINOR 0
-#define HDS_VERSION "4.0"
+#define HDS_VERSION "5.0"
 #define HDS_OLDEST_TABLE_VERSION 2
 
 /* The table: a header, then a record for each node. */
@@ -89,7 +94,10 @@ extern "C" {
 #define HDS_LAST_CLASS_LEVEL 3
 #define HDS_LAST_LEVEL 4
 
-/* The greatest of each. The least share, depth, size and disk rate is 1; another node's rate can be 0. */
+/*
+ * The greatest of each: HDS_WHOLE_SHARE of a fixed or weighted share, HDS_GREATEST_RATE of a stated one. The least
+ * share, depth, size and disk rate is 1; another node's rate can be 0.
+ */
 #define HDS_WHOLE_SHARE 10000
 #define HDS_GREATEST_DEPTH 1000000
 #define HDS_GREATEST_RATE 1000000000
@@ -157,12 +165,26 @@ extern "C" {
 #define HDS_SEEN_WAITING 2
 #define HDS_SEEN_LOST 3
 
-/* Bytes of a plan's head, of an entry and of a body; of the plan of n nodes below the root, and of the longest. */
+/*
+ * Editions of a plan: hds_plan_read answers the one that it met, hds_plan_write is told one. A plan of the second begins
+ * with HDS_PLAN_MARK bytes FF (hexadecimal), and can have stated shares.
+ */
+enum hds_edition { HDS_FIRST_EDITION = 1, HDS_SECOND_EDITION = 2 };
+
+/*
+ * Lengths in bytes. In both editions: HDS_PLAN_HEAD, HDS_PLAN_ENTRY. In the first: HDS_PLAN_BODY, and
+ * HDS_PLAN_LENGTH(n) of a plan of n nodes below the root. In the second: HDS_PLAN_MARK, which stands before the head,
+ * HDS_SECOND_PLAN_BODY and HDS_SECOND_PLAN_LENGTH(n). HDS_LONGEST_PLAN is enough for every plan of either.
+ */
 #define HDS_PLAN_HEAD 9
 #define HDS_PLAN_ENTRY 4
 #define HDS_PLAN_BODY 7
 #define HDS_PLAN_LENGTH(n) ((size_t)(HDS_PLAN_HEAD + (HDS_PLAN_ENTRY + HDS_PLAN_BODY) * (n)))
-#define HDS_LONGEST_PLAN 702
+#define HDS_PLAN_MARK 4
+#define HDS_SECOND_PLAN_BODY 9
+#define HDS_SECOND_PLAN_LENGTH(n) \
+    ((size_t)(HDS_PLAN_MARK + HDS_PLAN_HEAD + (HDS_PLAN_ENTRY + HDS_SECOND_PLAN_BODY) * (n)))
+#define HDS_LONGEST_PLAN 832
 
 /*
  * The stack that a call needs at most, in bytes, return address included, whatever the arguments. The tests hold
@@ -184,9 +206,10 @@ extern "C" {
 #define HDS_STACK_PLAN_CHECK 32768
 #define HDS_STACK_MOST 32768
 
-/* Sorts of node; 0 in a table is a record that is not used. Kinds of share. */
+/* Sorts of node; 0 in a table is a record that is not used. Kinds of share, and how many there are. */
 enum hds_sort { HDS_UNUSED = 0, HDS_CLASS = 1, HDS_CLIENT = 2 };
-enum hds_kind { HDS_FIXED = 0, HDS_WEIGHTED = 1 };
+enum hds_kind { HDS_FIXED = 0, HDS_WEIGHTED = 1, HDS_STATED = 2 };
+#define HDS_KINDS 3
 
 /* The causes of refusal: name, number, what it means. */
 #define HDS_REFUSALS(X)                                                                                                  \
@@ -204,13 +227,14 @@ enum hds_kind { HDS_FIXED = 0, HDS_WEIGHTED = 1 };
     X(HDS_COUNT_AT_END, 12, "the count of accepted requests is at its end")                                              \
     X(HDS_BUFFER_SHORT, 13, "the list is shorter than 4 numbers for each waiting request, or the buffer than the plan")  \
     X(HDS_PLAN_WRONG, 14, "the plan's length, count, an offset or a kind is wrong")                                      \
-    X(HDS_PLAN_OUT_OF_ORDER, 15, "the plan's entries do not stand by level, then by number")
+    X(HDS_PLAN_OUT_OF_ORDER, 15, "the plan's entries do not stand by level, then by number")                             \
+    X(HDS_STATED_WRONG, 16, "stated rates above the disk's rate, or a stated node not under the root or in edition 1")
 
 #define HDS_REFUSAL_CASE(name, number, text) name = number,
 enum hds_refusal { HDS_REFUSALS(HDS_REFUSAL_CASE) };
 #undef HDS_REFUSAL_CASE
 
-#define HDS_LAST_REFUSAL 15
+#define HDS_LAST_REFUSAL 16
 
 /*
  * The name and the meaning of a refusal's number, 1 to HDS_LAST_REFUSAL, for logs: give -answer for the answer of a
@@ -255,19 +279,22 @@ static inline const char *hds_refusal_text(int64_t number)
 int64_t hds_open(int64_t *table, size_t table_length, int64_t rate, int64_t depth);
 
 /*
- * Joins a node, 1 to 63, under a class, with balance 0: an hds_sort, an hds_kind, share 1 to 10,000 (ten-thousandths
- * of the class's rate where fixed, else a weight), depth 1 to 1,000,000. Renews the rates of all nodes below that class,
- * at every level; all others stay, the class's own too. Answers 0. A client's depth is at least the cost of its largest
- * request: with less than HDS_LEAST_COST it joins and can never ask. With hds_join_class and hds_join_client, below, a
- * compiler tells sort, kind and share apart. Refused:
+ * Joins a node, 1 to 63, under a class, with balance 0: an hds_sort, an hds_kind, a share by its kind, depth 1 to
+ * 1,000,000. Fixed: ten-thousandths of what the class divides, 1 to 10,000. Weighted: a weight, 1 to 10,000. Stated: the
+ * rate itself in grains per tick, 1 to 1,000,000,000, for a child of the root only; the root divides the disk's rate
+ * less all stated rates, any other class its whole rate. Renews the rates of all nodes below that class, at every level;
+ * all others stay, the class's own too. Answers 0. A client's depth is at least the cost of its largest request: with
+ * less than HDS_LEAST_COST it joins and can never ask. With hds_join_class and hds_join_client, below, a compiler tells
+ * sort, kind and share apart. Refused:
  *   HDS_NOT_IN_ORDER      the table
- *   HDS_OUTSIDE_LIMITS    node, parent, sort, kind, share or depth
+ *   HDS_OUTSIDE_LIMITS    node, parent, sort, kind, share (by its kind) or depth
  *   HDS_NOT_THERE         no node has the parent's number
  *   HDS_IN_USE            a node has the joining number
  *   HDS_WRONG_NODE        the parent is a client
  *   HDS_LEVEL_TOO_LOW     a class under a class of level 3
  *   HDS_SHARES_ABOVE      the fixed shares under the parent would be above 10,000
  *   HDS_DEPTH_ABOVE       the depths of the parent's children would be above its own
+ *   HDS_STATED_WRONG      a stated share under another class than the root, or stated rates would be above the disk's
  */
 int64_t hds_join(int64_t *table, size_t table_length, int64_t node, int64_t parent, int64_t sort, int64_t kind,
                  int64_t share, int64_t depth);
@@ -285,19 +312,22 @@ int64_t hds_leave(int64_t *table, size_t table_length, int64_t node);
 
 /*
  * Gives a node a kind and a share and renews the rates of all nodes below its parent, its own among them; all others
- * stay. Answers 0. hds_set_share, below, takes both as one. Refused:
+ * stay. Answers 0. Better take hds_set_share, below: kind and share exchanged are not always refused, weight 2 becomes
+ * a stated rate of 1. Refused:
  *   HDS_NOT_IN_ORDER      the table
- *   HDS_OUTSIDE_LIMITS    node not 0 to 63, kind or share
+ *   HDS_OUTSIDE_LIMITS    node not 0 to 63, kind, or share (by its kind)
  *   HDS_NOT_THERE         no node has this number
  *   HDS_WRONG_NODE        the node is the root
  *   HDS_SHARES_ABOVE      the fixed shares under its parent would be above 10,000
+ *   HDS_STATED_WRONG      a stated share under another class than the root, or stated rates would be above the disk's
  */
 int64_t hds_change_share(int64_t *table, size_t table_length, int64_t node, int64_t kind, int64_t share);
 
 /*
- * Gives the disk a rate, 1 to 1,000,000,000, and renews all rates. Answers 0. Refused:
+ * Gives the disk a rate, 1 to 1,000,000,000, and renews all rates; stated ones stay what they are. Answers 0. Refused:
  *   HDS_NOT_IN_ORDER      the table
  *   HDS_OUTSIDE_LIMITS    rate
+ *   HDS_STATED_WRONG      the stated rates are above this rate
  */
 int64_t hds_change_rate(int64_t *table, size_t table_length, int64_t rate);
 
@@ -343,28 +373,37 @@ int64_t hds_look(const int64_t *table, size_t table_length, int64_t node, int64_
 int64_t hds_same(const int64_t *first, size_t first_length, const int64_t *second, size_t second_length);
 
 /*
- * Reads a plan: opens the table and joins the plan's entries in turn. The table may hold anything before. Answers 0.
- * As in join, a client of a depth below HDS_LEAST_COST is accepted and can never ask. Refused:
+ * Reads a plan of either edition: opens the table and joins the plan's entries in turn. The table may hold anything
+ * before. Answers the edition that it met, an hds_edition, so never 0: test for below 0. It is HDS_SECOND_EDITION for
+ * bytes that begin with HDS_PLAN_MARK bytes FF, HDS_FIRST_EDITION for all others. As in join, a client of a depth below
+ * HDS_LEAST_COST is accepted and can never ask. Refused:
  *   HDS_NOT_IN_ORDER      the table's length (its contents are not judged)
- *   HDS_PLAN_WRONG        the plan's length, count, an offset or a kind
+ *   HDS_PLAN_WRONG        the plan's length, count, an offset or a kind, by its edition
  *   HDS_OUTSIDE_LIMITS to HDS_DEPTH_ABOVE    as open refuses the disk's rate and depth, then as join refuses the
  *                         first entry that it refuses
+ *   HDS_STATED_WRONG      as join, for that entry
  *   HDS_PLAN_OUT_OF_ORDER all entries can be joined, but do not stand by level, then by number
  */
 int64_t hds_plan_read(int64_t *table, size_t table_length, const uint8_t *plan, size_t plan_length);
 
 /*
- * Writes the plan of a table into a buffer, and nothing beyond it. Answers the plan's length in bytes. Refused:
+ * Writes the plan of a table in the edition given, an hds_edition, into a buffer, and nothing beyond it. The second
+ * edition can hold every tree. In the edition that hds_plan_read answered, a plan that was read is written to the same
+ * bytes. Answers the plan's length in bytes. Refused:
  *   HDS_NOT_IN_ORDER      the table
- *   HDS_BUFFER_SHORT      the buffer is shorter than the plan
+ *   HDS_OUTSIDE_LIMITS    edition not 1 or 2
+ *   HDS_BUFFER_SHORT      the buffer is shorter than the plan of this edition
+ *   HDS_STATED_WRONG      the first edition, and a node is stated
  */
-int64_t hds_plan_write(const int64_t *table, size_t table_length, uint8_t *buffer, size_t buffer_length);
+int64_t hds_plan_write(const int64_t *table, size_t table_length, int64_t edition, uint8_t *buffer,
+                       size_t buffer_length);
 
 /*
- * Checks a plan without a table. !! Answers 0 or the refusal's number itself, NOT negated: the one that reading the
- * plan into a table of HDS_TABLE_LENGTH numbers gives. Refused:
- *   HDS_PLAN_WRONG        the plan's length, count, an offset or a kind
+ * Checks a plan of either edition without a table. !! Answers 0 or the refusal's number itself, NOT negated: the one
+ * that reading the plan into a table of HDS_TABLE_LENGTH numbers gives. It does not say the edition. Refused:
+ *   HDS_PLAN_WRONG        the plan's length, count, an offset or a kind, by its edition
  *   HDS_OUTSIDE_LIMITS to HDS_DEPTH_ABOVE    as open and join refuse
+ *   HDS_STATED_WRONG      as join refuses
  *   HDS_PLAN_OUT_OF_ORDER the entries do not stand by level, then by number
  */
 uint32_t hds_plan_check(const uint8_t *plan, size_t plan_length);
@@ -379,15 +418,15 @@ static inline int64_t hds_cost(int64_t size)
     return size < 1 || size > HDS_GREATEST_SIZE ? INT64_MAX : HDS_COST(size);
 }
 
-/* Checks a plan as hds_plan_check does, and answers as all other calls do: 0 or the negated number. */
+/* Checks a plan as hds_plan_check does, and answers 0 or the negated number. */
 static inline int64_t hds_plan_judge(const uint8_t *plan, size_t plan_length)
 {
     return -(int64_t)hds_plan_check(plan, plan_length);
 }
 
 /*
- * Join and change share with types that a compiler tells apart: a share is made by hds_fixed or hds_weighted, and the
- * sort is in the call's name. They answer as the calls above.
+ * Join and change share with types that a compiler tells apart: a share is made by hds_fixed, hds_weighted or
+ * hds_stated, and the sort is in the call's name. They answer as the calls above.
  */
 struct hds_share {
     enum hds_kind kind;
@@ -397,18 +436,26 @@ struct hds_share {
 /* The same for a constant table of shares: struct hds_share share = HDS_FIXED_SHARE(2500). */
 #define HDS_FIXED_SHARE(ten_thousandths) {HDS_FIXED, (ten_thousandths)}
 #define HDS_WEIGHTED_SHARE(weight) {HDS_WEIGHTED, (weight)}
+#define HDS_STATED_SHARE(rate) {HDS_STATED, (rate)}
 
-/* A fixed part of the class's rate, in ten-thousandths: hds_fixed(2500) is a quarter. */
+/* A fixed part of what the class divides, in ten-thousandths: hds_fixed(2500) is a quarter. */
 static inline struct hds_share hds_fixed(int64_t ten_thousandths)
 {
     struct hds_share share = HDS_FIXED_SHARE(ten_thousandths);
     return share;
 }
 
-/* A part, by weight, of what the fixed shares leave. */
+/* A part, by weight, of what the stated and fixed shares leave. */
 static inline struct hds_share hds_weighted(int64_t weight)
 {
     struct hds_share share = HDS_WEIGHTED_SHARE(weight);
+    return share;
+}
+
+/* A rate, in grains per tick, for a child of the root: hds_stated(300) is 300 whatever the disk's rate becomes. */
+static inline struct hds_share hds_stated(int64_t rate)
+{
+    struct hds_share share = HDS_STATED_SHARE(rate);
     return share;
 }
 

@@ -1,7 +1,7 @@
 /*
  * What include/hds.h itself says: names and texts of the refusals, the calls with types of their own beside the plain ones, the
- * places of what look shows, and costs beside what a request is charged. It is compiled as C and as C++. Prints what fails, then
- * 'N passed, 0 failed'.
+ * places of what look shows, the lengths of plans in both editions, and costs beside what a request is charged. It is compiled as C
+ * and as C++. Prints what fails, then 'N passed, 0 failed'.
  */
 #include <stdio.h>
 #include <string.h>
@@ -31,7 +31,7 @@ static void refusals(void)
 {
     check(strcmp(hds_refusal_name(HDS_NOT_IN_ORDER), "HDS_NOT_IN_ORDER") == 0, "name of the first");
     check(strcmp(hds_refusal_name(HDS_IN_DEBT), "HDS_IN_DEBT") == 0, "name of 10");
-    check(strcmp(hds_refusal_name(HDS_LAST_REFUSAL), "HDS_PLAN_OUT_OF_ORDER") == 0, "name of the last");
+    check(strcmp(hds_refusal_name(HDS_LAST_REFUSAL), "HDS_STATED_WRONG") == 0, "name of the last");
     check(strstr(hds_refusal_text(HDS_IN_DEBT), "below 0") != NULL, "text of 10");
     for (int64_t number = 1; number <= HDS_LAST_REFUSAL; number++) {
         int differ = 1;
@@ -60,9 +60,16 @@ static void typed_calls(void)
     alike(hds_join_client(TABLE, 4, 2, hds_weighted(9), 5), hds_join(PLAIN, 4, 2, HDS_CLIENT, HDS_WEIGHTED, 9, 5), 0,
           "hds_join_client, weighted");
     alike(hds_set_share(TABLE, 3, hds_weighted(8)), hds_change_share(PLAIN, 3, HDS_WEIGHTED, 8), 0, "hds_set_share");
-    static const struct hds_share constants[] = {HDS_FIXED_SHARE(6), HDS_WEIGHTED_SHARE(3)};
+    alike(hds_join_class(TABLE, 5, 0, hds_stated(300), 6), hds_join(PLAIN, 5, 0, HDS_CLASS, HDS_STATED, 300, 6), 0,
+          "hds_join_class, stated");
+    alike(hds_join_client(TABLE, 6, 0, hds_stated(700), 7), hds_join(PLAIN, 6, 0, HDS_CLIENT, HDS_STATED, 700, 7), 0,
+          "hds_join_client, stated");
+    alike(hds_set_share(TABLE, 6, hds_stated(701)), hds_change_share(PLAIN, 6, HDS_STATED, 701), -HDS_STATED_WRONG,
+          "hds_set_share, stated");
+    static const struct hds_share constants[] = {HDS_FIXED_SHARE(6), HDS_WEIGHTED_SHARE(3), HDS_STATED_SHARE(10)};
     alike(hds_set_share(TABLE, 4, constants[0]), hds_change_share(PLAIN, 4, HDS_FIXED, 6), 0, "HDS_FIXED_SHARE");
     alike(hds_set_share(TABLE, 4, constants[1]), hds_change_share(PLAIN, 4, HDS_WEIGHTED, 3), 0, "HDS_WEIGHTED_SHARE");
+    alike(hds_set_share(TABLE, 6, constants[2]), hds_change_share(PLAIN, 6, HDS_STATED, 10), 0, "HDS_STATED_SHARE");
     alike(hds_set_share(TABLE, 1, hds_fixed(10001)), hds_change_share(PLAIN, 1, HDS_FIXED, 10001), -HDS_OUTSIDE_LIMITS,
           "hds_set_share, refused");
 }
@@ -136,13 +143,26 @@ static void looks(void)
     check(seen[HDS_SEEN_LENGTH] == -7, "look writes no further number");
 }
 
-static void plan_judge(void)
+/* The tree of typed_calls has six nodes, two of them stated; without these it can be written in both editions. */
+static void plans(void)
 {
     static uint8_t plan[HDS_LONGEST_PLAN];
-    int64_t length = hds_plan_write(TABLE, plan, sizeof plan);
+    static const int64_t others[] = {INT64_MIN, -1, 0, 3, INT64_MAX};
+    int64_t length = hds_plan_write(TABLE, HDS_SECOND_EDITION, plan, sizeof plan);
 
+    check(length == (int64_t)HDS_SECOND_PLAN_LENGTH(6), "HDS_SECOND_PLAN_LENGTH");
     check(hds_plan_judge(plan, (size_t)length) == 0, "hds_plan_judge, accepted");
     check(hds_plan_judge(plan, (size_t)length - 1) == -HDS_PLAN_WRONG, "hds_plan_judge, refused");
+    check(hds_plan_read(PLAIN, plan, (size_t)length) == HDS_SECOND_EDITION, "HDS_SECOND_EDITION");
+    check(hds_plan_write(TABLE, HDS_FIRST_EDITION, plan, sizeof plan) == -HDS_STATED_WRONG, "a stated node in the first edition");
+    hds_leave(TABLE, 5);
+    hds_leave(TABLE, 6);
+    for (size_t i = 0; i < sizeof others / sizeof *others; i++)
+        check(hds_plan_write(TABLE, others[i], plan, sizeof plan) == -HDS_OUTSIDE_LIMITS, "another number is no edition");
+    length = hds_plan_write(TABLE, HDS_FIRST_EDITION, plan, sizeof plan);
+    check(length == (int64_t)HDS_PLAN_LENGTH(4), "HDS_PLAN_LENGTH");
+    check(hds_plan_read(PLAIN, plan, (size_t)length) == HDS_FIRST_EDITION, "HDS_FIRST_EDITION");
+    check(HDS_SECOND_PLAN_LENGTH(HDS_LAST_NODE) == HDS_LONGEST_PLAN, "HDS_LONGEST_PLAN");
 }
 
 int main(void)
@@ -153,7 +173,7 @@ int main(void)
     check(strcmp(version, HDS_VERSION) == 0, "version");
     refusals();
     typed_calls();
-    plan_judge();
+    plans();
     looks();
     costs();
     printf("%d passed, %d failed\n", passed, failed);

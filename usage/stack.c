@@ -152,7 +152,7 @@ static int64_t plan_read_call(void)
 
 static int64_t plan_write_call(void)
 {
-    return hds_plan_write(TABLE, plan, sizeof plan);
+    return hds_plan_write(TABLE, HDS_SECOND_EDITION, plan, sizeof plan);
 }
 
 static int64_t plan_check_call(void)
@@ -186,7 +186,7 @@ int main(void)
 
     full();
     memcpy(other, table, sizeof table);
-    if (hds_plan_write(TABLE, longest, sizeof longest) != HDS_LONGEST_PLAN)
+    if (hds_plan_write(TABLE, HDS_SECOND_EDITION, longest, sizeof longest) != HDS_LONGEST_PLAN)
         return 1;
     for (size_t i = 0; i < count; i++) {
         int64_t most = 0;

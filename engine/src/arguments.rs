@@ -8,16 +8,58 @@ use crate::table::*;
 /// one below it.
 const TIGHT_DEPTHS: [i64; 10] = [7, 8, 11, 12, 67, 71, 72, 519, 527, 528];
 
-/// A share: for a fixed one often a part of what is left under the class, all
-/// of it, or one above. The share of `except` does not count.
-pub(crate) fn share(rng: &mut Rng, table: &[i64], class: usize, except: Option<usize>) -> i64 {
+/// A kind and a share for a child of the class. So many of a hundred are stated under
+/// the root, and few elsewhere. The share of `except` does not count.
+pub(crate) fn kind_and_share(
+    rng: &mut Rng,
+    table: &[i64],
+    class: usize,
+    except: Option<usize>,
+    stated: usize,
+) -> (i64, i64) {
+    let percent = if class == ROOT { stated } else { stated / 10 };
+    let kind = if rng.chance(percent) { STATED } else { rng.pick(&[FIXED, WEIGHTED]) };
     let others = children(table, class).filter(|&child| Some(child) != except);
-    let left = MAX_SHARE - others.map(|child| share_of_kind(table, child, FIXED)).sum::<i64>();
+    let taken: i64 = others.map(|child| share_of_kind(table, child, kind)).sum();
+    let share = match kind {
+        STATED => stated_rate(rng, get(table, class, RATE), taken),
+        FIXED => share(rng, MAX_SHARE - taken),
+        _ => share(rng, MAX_SHARE),
+    };
+    (kind, share)
+}
+
+/// A share: often a part of what is left for it, all of that, or one above.
+fn share(rng: &mut Rng, left: i64) -> i64 {
     let some = rng.between(1, left / 2);
     let any = rng.between(1, MAX_SHARE);
     let small = rng.between(1, 10);
     let share = rng.pick(&[1, small, some, some, some, any, left, left + 1]);
     share.clamp(1, MAX_SHARE)
+}
+
+/// A stated rate under a class of that rate, of which so much is taken: mostly a small
+/// part of what is left, at times all of it, one above, about 10,000, or any.
+fn stated_rate(rng: &mut Rng, rate: i64, taken: i64) -> i64 {
+    let left = rate - taken;
+    let part = rng.between(1, left / 6);
+    let share = if rng.chance(75) {
+        part
+    } else {
+        let any = rng.between(1, MAX_RATE);
+        rng.pick(&[1, left, left, left + 1, left + 1, rate, rate + 1, MAX_SHARE + 1, any])
+    };
+    share.clamp(1, MAX_RATE)
+}
+
+/// A rate for the disk: any of some, or one at or about the stated rates together.
+pub(crate) fn disk_rate(rng: &mut Rng, table: &[i64]) -> i64 {
+    let rate = get(table, ROOT, RATE);
+    let stated = shares_under(table, ROOT, STATED) as i64;
+    let about = rng.pick(&[stated - 1, stated, stated + 1, 3 * stated, 10 * stated]);
+    let any = rng.pick(&[1, 80, 8000, rate / 3, rate * 2, MAX_RATE]);
+    let rate = if stated > 0 && rng.chance(50) { about } else { any };
+    rate.clamp(1, MAX_RATE)
 }
 
 /// What the children of a class leave of its depth.
@@ -75,6 +117,12 @@ pub(crate) fn any_node(rng: &mut Rng, table: &[i64]) -> i64 {
     } else {
         rng.pick(&used) as i64
     }
+}
+
+/// A child of the root, if there is one.
+pub(crate) fn child_of_root(rng: &mut Rng, table: &[i64]) -> Option<usize> {
+    let all: Vec<usize> = children(table, ROOT).collect();
+    (!all.is_empty()).then(|| rng.pick(&all))
 }
 
 /// Mostly a node that may leave.

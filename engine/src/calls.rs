@@ -34,6 +34,7 @@ pub(crate) fn join(table: &mut [i64], new: &NewNode) -> Answer<i64> {
     require(new.sort == CLIENT || level <= MAX_CLASS_LEVEL, LEVEL_TOO_LOW)?;
     require(fixed_shares_fit(table, parent, node, new.kind, new.share), SHARES_ABOVE)?;
     require(depth_fits(table, parent, new.depth), DEPTH_ABOVE)?;
+    require(stated_fits(table, parent, node, new.kind, new.share), STATED_WRONG)?;
     set(table, node, SORT, new.sort);
     set(table, node, PARENT, parent as i64);
     set(table, node, LEVEL, level);
@@ -76,6 +77,7 @@ pub(crate) fn change_share(table: &mut [i64], node: i64, kind: i64, share: i64) 
     require(is_used(table, node), NOT_THERE)?;
     let parent = parent(table, node).ok_or(WRONG_NODE)?;
     require(fixed_shares_fit(table, parent, node, kind, share), SHARES_ABOVE)?;
+    require(stated_fits(table, parent, node, kind, share), STATED_WRONG)?;
     set(table, node, KIND, kind);
     set(table, node, SHARE, share);
     rates::renew_below(table, parent);
@@ -85,6 +87,7 @@ pub(crate) fn change_share(table: &mut [i64], node: i64, kind: i64, share: i64) 
 /// Change rate: gives the disk another rate, and renews all others.
 pub(crate) fn change_rate(table: &mut [i64], rate: i64) -> Answer<i64> {
     require((1..=MAX_RATE).contains(&rate), OUTSIDE_LIMITS)?;
+    require(shares_under(table, ROOT, STATED) <= i128::from(rate), STATED_WRONG)?;
     set(table, ROOT, RATE, rate);
     rates::renew_below(table, ROOT);
     Ok(0)
@@ -128,8 +131,7 @@ fn existing_number(number: i64) -> Answer<usize> {
 }
 
 fn share_within_limits(kind: i64, share: i64) -> Answer<()> {
-    require([FIXED, WEIGHTED].contains(&kind), OUTSIDE_LIMITS)?;
-    require((1..=MAX_SHARE).contains(&share), OUTSIDE_LIMITS)
+    require(share_is_lawful(kind, share), OUTSIDE_LIMITS)
 }
 
 /// Whether the fixed shares under `class` stay within 10,000 once `node` has
@@ -141,6 +143,20 @@ fn fixed_shares_fit(table: &[i64], class: usize, node: usize, kind: i64, share: 
         .sum();
     let own = if kind == FIXED { share } else { 0 };
     others + own <= MAX_SHARE
+}
+
+/// Whether stated nodes stand under the root only, and their rates are at most the
+/// disk's, once `node` under `class` has this kind and share, whatever it had before.
+/// In a table in order no other node stands in the way.
+fn stated_fits(table: &[i64], class: usize, node: usize, kind: i64, share: i64) -> bool {
+    if kind != STATED {
+        return true;
+    }
+    let others: i64 = children(table, ROOT)
+        .filter(|&child| child != node)
+        .map(|child| share_of_kind(table, child, STATED))
+        .sum();
+    class == ROOT && others + share <= get(table, ROOT, RATE)
 }
 
 /// Whether a child of that depth fits under the class beside the others.

@@ -13,7 +13,7 @@ pub struct NewNode {
     pub parent: i64,
     /// 1 class, 2 client.
     pub sort: i64,
-    /// 0 fixed, 1 weighted.
+    /// 0 fixed, 1 weighted, 2 stated.
     pub kind: i64,
     /// Share.
     pub share: i64,
@@ -62,11 +62,11 @@ pub trait Controller {
     /// Same: whether two tables have the same tree.
     fn same(&mut self, first: &[i64], second: &[i64]) -> Answer<bool>;
 
-    /// Plan read, into a table of any contents.
+    /// Plan read, into a table of any contents: answers the edition met, 1 or 2.
     fn plan_read(&mut self, plan: &[u8], table: &mut [i64]) -> Answer<i64>;
 
-    /// Plan write: answers the plan's length.
-    fn plan_write(&mut self, table: &[i64], buffer: &mut [u8]) -> Answer<i64>;
+    /// Plan write in edition 1 or 2: answers the plan's length.
+    fn plan_write(&mut self, table: &[i64], edition: i64, buffer: &mut [u8]) -> Answer<i64>;
 
     /// Plan check: 0 or a refusal number.
     fn plan_check(&mut self, plan: &[u8]) -> i64;
@@ -129,9 +129,9 @@ impl Controller for Engine {
         plan::read(plan, table)
     }
 
-    fn plan_write(&mut self, table: &[i64], buffer: &mut [u8]) -> Answer<i64> {
+    fn plan_write(&mut self, table: &[i64], edition: i64, buffer: &mut [u8]) -> Answer<i64> {
         order::check(table)?;
-        plan::write(table, buffer)
+        plan::write(table, edition, buffer)
     }
 
     fn plan_check(&mut self, plan: &[u8]) -> i64 {

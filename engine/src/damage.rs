@@ -1,9 +1,9 @@
 //! Damage to the table: every clause of the in-order test broken alone, rates that
-//! are wrong at one node or below a whole class, places written at random, wrong
-//! lengths, and lawful changes.
+//! are wrong at one node or below a whole class, stated nodes where there may be none,
+//! places written at random, wrong lengths, and lawful changes.
 
 use crate::cost::{cost, largest_size, RANGE_ENDS};
-use crate::order::{self, CLAUSES, RATES_CLAUSE};
+use crate::order::{self, *};
 use crate::random::Rng;
 use crate::rates;
 use crate::steps::Step;
@@ -12,7 +12,8 @@ use crate::table::*;
 /// Steps that write a table in order from outside, in some way or other.
 pub fn any(rng: &mut Rng, table: &[i64]) -> Vec<Step> {
     let clause = rng.below(CLAUSES.len());
-    match rng.below(14) {
+    let of_shares = rng.pick(&[LIMITS_CLAUSE, STATED_PLACES_CLAUSE, STATED_RATES_CLAUSE]);
+    match rng.below(15) {
         0..=4 => isolated(rng, table, clause).unwrap_or_default(),
         5 | 6 => random_pokes(rng, table),
         7 => near_pokes(rng, table),
@@ -20,6 +21,7 @@ pub fn any(rng: &mut Rng, table: &[i64]) -> Vec<Step> {
         9 => other_size(rng, table),
         10 => other_depth(rng, table),
         11 | 12 => isolated(rng, table, RATES_CLAUSE).unwrap_or_default(),
+        13 => isolated(rng, table, of_shares).unwrap_or_default(),
         _ => vec![Step::Resize { len: wrong_length(rng) }],
     }
 }
@@ -46,7 +48,7 @@ pub fn other_tree(rng: &mut Rng, table: &[i64]) -> Vec<Step> {
         let value = match place {
             SORT => CLASS + CLIENT - old,
             PARENT => rng.between(0, 63),
-            KIND => FIXED + WEIGHTED - old,
+            KIND => rng.pick(&KINDS),
             _ => old + rng.pick(&[-1, 1]),
         };
         set(&mut changed, node, place, value);
@@ -83,7 +85,8 @@ fn random_pokes(rng: &mut Rng, table: &[i64]) -> Vec<Step> {
             let anywhere = rng.below(TABLE_LEN);
             let node = some(rng, used_nodes(table)).unwrap_or(ROOT);
             let field = at(node, rng.below(SPARE));
-            Step::Poke { place: rng.pick(&[anywhere, field]), value: rng.edge(0, MAX_SHARE) }
+            let high = rng.pick(&[STATED, MAX_SHARE, MAX_RATE]);
+            Step::Poke { place: rng.pick(&[anywhere, field]), value: rng.edge(0, high) }
         })
         .collect()
 }
@@ -195,13 +198,13 @@ fn break_clause(rng: &mut Rng, table: &mut [i64], clause: usize) -> Option<()> {
     match clause {
         0 => table[ACCEPTED] = rng.pick(&[i64::MIN, -1, MAX_ACCEPTED + 1, i64::MAX]),
         1 => table[1 + rng.below(HEADER_LEN - 1)] = rng.pick(&[i64::MIN, -1, 1, i64::MAX]),
-        2 => break_root(rng, table),
+        ROOT_CLAUSE => break_root(rng, table),
         3 => {
             let node = some(rng, used_nodes(table))?;
             set(table, node, SORT, rng.pick(&[i64::MIN, -1, 3, i64::MAX]));
         }
         4 => break_zeros(rng, table)?,
-        5 => break_limits(rng, table)?,
+        LIMITS_CLAUSE => break_limits(rng, table)?,
         6 => break_parent(rng, table)?,
         7 => break_class_level(rng, table)?,
         8 => break_waiting_count(rng, table)?,
@@ -227,7 +230,7 @@ fn break_clause(rng: &mut Rng, table: &mut [i64], clause: usize) -> Option<()> {
             let below = lowest_balance(table, class) - 1;
             set(table, class, BALANCE, rng.pick(&[below, below, i64::MIN]));
         }
-        16 => {
+        SIZES_CLAUSE => {
             let client = some_waiting(rng, table, 1)?;
             if rng.chance(30) {
                 tighten(table, client, 1);
@@ -238,6 +241,8 @@ fn break_clause(rng: &mut Rng, table: &mut [i64], clause: usize) -> Option<()> {
             }
         }
         17 => break_arrivals(rng, table)?,
+        STATED_PLACES_CLAUSE => break_stated_places(rng, table)?,
+        STATED_RATES_CLAUSE => break_stated_rates(rng, table)?,
         _ => return None,
     }
     Some(())
@@ -245,7 +250,7 @@ fn break_clause(rng: &mut Rng, table: &mut [i64], clause: usize) -> Option<()> {
 
 fn break_root(rng: &mut Rng, table: &mut [i64]) {
     match rng.below(5) {
-        0 => set(table, ROOT, KIND, WEIGHTED),
+        0 => set(table, ROOT, KIND, rng.pick(&[WEIGHTED, STATED])),
         1 => set(table, ROOT, SHARE, rng.pick(&[1, MAX_SHARE - 1])),
         2 => set(table, ROOT, PARENT, rng.pick(&[-1, 1, 63, 64])),
         // Only where the root is alone, else its children's clauses fail too.
@@ -277,10 +282,48 @@ fn break_zeros(rng: &mut Rng, table: &mut [i64]) -> Option<()> {
 
 fn break_limits(rng: &mut Rng, table: &mut [i64]) -> Option<()> {
     let node = some(rng, used_nodes(table))?;
-    match rng.below(3) {
-        0 => set(table, node, KIND, rng.pick(&[i64::MIN, -1, 2, i64::MAX])),
-        1 => set(table, node, SHARE, rng.pick(&[-1, 0, MAX_SHARE + 1])),
-        _ => set(table, node, DEPTH, rng.pick(&[-1, 0, MAX_DEPTH + 1])),
+    match rng.below(4) {
+        0 => set(table, node, KIND, rng.pick(&[i64::MIN, -1, STATED + 1, i64::MAX])),
+        1 => {
+            let largest = largest_share(get(table, node, KIND)).unwrap_or(MAX_SHARE);
+            set(table, node, SHARE, rng.pick(&[-1, 0, largest + 1]));
+        }
+        2 => set(table, node, DEPTH, rng.pick(&[-1, 0, MAX_DEPTH + 1])),
+        _ => {
+            // A weight that only a stated rate may be.
+            let rate = rng.between(MAX_SHARE + 1, MAX_RATE);
+            set(table, node, KIND, WEIGHTED);
+            set(table, node, SHARE, rng.pick(&[MAX_SHARE + 1, rate, MAX_RATE]));
+        }
+    }
+    rates::renew_all(table);
+    Some(())
+}
+
+/// Makes a node that stands under another class than the root stated: with its own
+/// rate, with its class's, or with a small one.
+fn break_stated_places(rng: &mut Rng, table: &mut [i64]) -> Option<()> {
+    let is_lower = |&node: &usize| parent(table, node).is_some_and(|class| class != ROOT);
+    let node = some(rng, used_nodes(table).filter(is_lower))?;
+    let class = parent(table, node)?;
+    let [own, whole] = [node, class].map(|node| get(table, node, RATE));
+    set(table, node, KIND, STATED);
+    set(table, node, SHARE, rng.pick(&[1, own.max(1), whole.max(1)]));
+    rates::renew_all(table);
+    Some(())
+}
+
+/// Makes the stated rates one above the disk's, by one of them or by the disk's rate.
+fn break_stated_rates(rng: &mut Rng, table: &mut [i64]) -> Option<()> {
+    let node = some(rng, children(table, ROOT))?;
+    let stated = shares_under(table, ROOT, STATED) as i64;
+    let rate = get(table, ROOT, RATE);
+    if stated > 1 && rng.chance(50) {
+        set(table, ROOT, RATE, stated - 1);
+    } else {
+        let others = stated - share_of_kind(table, node, STATED);
+        set(table, node, KIND, STATED);
+        set(table, node, SHARE, rate + 1 - others);
     }
     rates::renew_all(table);
     Some(())
@@ -363,7 +406,8 @@ fn break_rates(rng: &mut Rng, table: &mut [i64]) -> Option<()> {
         }
         _ => {
             let right = get(table, ROOT, RATE);
-            set(table, ROOT, RATE, wrong_class_rate(rng, right));
+            let stated = shares_under(table, ROOT, STATED) as i64;
+            set(table, ROOT, RATE, wrong_class_rate(rng, right).max(stated));
             rates::renew_below(table, ROOT);
             set(table, ROOT, RATE, right);
         }
@@ -393,12 +437,14 @@ fn wrong_rate(rng: &mut Rng, table: &[i64], node: usize) -> i64 {
     rng.pick(&[near, near, near, limit, high, other, part_of_whole(table, node)])
 }
 
-/// A weighted node's part of its class's whole rate, and a fixed node's rate.
+/// A weighted node's part of its class's whole rate, a fixed node's, and that of a
+/// stated node as if it were a fixed one.
 fn part_of_whole(table: &[i64], node: usize) -> i64 {
     let class = parent(table, node).unwrap_or(ROOT);
-    let weights: i64 =
-        children(table, class).map(|child| share_of_kind(table, child, WEIGHTED)).sum();
-    let whole = if get(table, node, KIND) == FIXED { MAX_SHARE } else { weights };
+    let whole = match get(table, node, KIND) {
+        WEIGHTED => shares_under(table, class, WEIGHTED) as i64,
+        _ => MAX_SHARE,
+    };
     get(table, class, RATE) * get(table, node, SHARE) / whole
 }
 

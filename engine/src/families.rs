@@ -16,13 +16,16 @@ pub(crate) fn rate(rng: &mut Rng) -> i64 {
     in_grains(ROOT_DEPTH) / rng.pick(&[400, 200, 100, 50, 25])
 }
 
-/// A class or a client that mostly fits into the tree.
-pub(crate) fn new_node(rng: &mut Rng, table: &[i64]) -> NewNode {
+/// A class or a client that mostly fits into the tree. Under the root so many of a
+/// hundred are stated.
+pub(crate) fn new_node(rng: &mut Rng, table: &[i64], stated: usize) -> NewNode {
     let parent = arguments::class(rng, table);
     let level = get(table, parent, LEVEL);
     let is_class = level < MAX_CLASS_LEVEL && rng.chance(40);
     let (sort, most) = if is_class { (CLASS, 1200 >> (2 * level)) } else { (CLIENT, 30) };
-    let (kind, share) = if is_class || rng.chance(50) {
+    let (kind, share) = if parent == ROOT && rng.chance(stated) {
+        (STATED, rng.between(1, get(table, ROOT, RATE) / 8))
+    } else if is_class || rng.chance(50) {
         (WEIGHTED, rng.between(1, 5))
     } else {
         (FIXED, rng.between(1, 5))

@@ -4,7 +4,7 @@
 
 use crate::cost::{cost, largest_size};
 use crate::load::{Request, HEAD_LEN};
-use crate::plan::{self, plan_len};
+use crate::plan::{self, Edition};
 use crate::refusal::*;
 use crate::table::*;
 use crate::{calls, tick};
@@ -40,6 +40,8 @@ pub enum LoadFault {
     ZeroTicksFirst,
     /// Bytes behind the plan are not looked at.
     IgnoresRest,
+    /// Plans of the second edition are refused with 14.
+    FirstEditionOnly,
     /// A refused plan prints nothing.
     RefusedPlanSilent,
     /// Every refused plan is refused with 14.
@@ -170,7 +172,7 @@ pub enum LoadFault {
 }
 
 /// All faults.
-pub const LOAD_FAULTS: [LoadFault; 70] = {
+pub const LOAD_FAULTS: [LoadFault; 71] = {
     use LoadFault::*;
     [
         HighByteFirst,
@@ -182,6 +184,7 @@ pub const LOAD_FAULTS: [LoadFault; 70] = {
         ShortInputOther,
         ZeroTicksFirst,
         IgnoresRest,
+        FirstEditionOnly,
         RefusedPlanSilent,
         RefusedPlanAlike,
         NoClientsRefused,
@@ -258,6 +261,9 @@ pub fn text(fault: LoadFault, input: &[u8]) -> Vec<u8> {
     if fault == LoadFault::ZeroTicksFirst && ticks == 0 {
         return Vec::new();
     }
+    if fault == LoadFault::FirstEditionOnly && Edition::of(plan) == Edition::Second {
+        return refused(PLAN_WRONG);
+    }
     let mut table = vec![0; TABLE_LEN];
     match plan::read(plan, &mut table) {
         Ok(_) if fault == LoadFault::NoClientsRefused && clients(&table).next().is_none() => {
@@ -291,8 +297,10 @@ fn split(fault: LoadFault, input: &[u8]) -> Option<(u32, u32, &[u8])> {
         }
     };
     let length = match fault {
-        LoadFault::IgnoresRest if plan.len() >= plan_len(0) => {
-            plan.len().min(plan_len(usize::from(plan[8])))
+        LoadFault::IgnoresRest => {
+            let form = Edition::of(plan).form();
+            let whole = form.count(plan).map_or(plan.len(), |count| form.plan_len(count));
+            plan.len().min(whole)
         }
         _ => plan.len(),
     };

@@ -3,14 +3,14 @@
 //! documents' once more.
 
 use crate::cost::cost;
-use crate::damage::failing;
 use crate::faulty::{Fault, Lost, Pick};
 use crate::faulty_picks::StepFour;
-use crate::order::{sizes_fit, SIZES_CLAUSE};
+use crate::order::{sizes_fit, CLAUSES, SIZES_CLAUSE};
+use crate::rates::Division;
 use crate::refusal::*;
 use crate::table::*;
 use crate::tick::{cut, grow, has_enough, oldest, path_to_root, DispatchList};
-use crate::{arguments, calls, rates};
+use crate::{arguments, calls, faulty_stated, rates};
 
 /// The cost of a size, wherever a cost counts.
 fn cost_with(fault: Fault, size: i64) -> i64 {
@@ -40,8 +40,14 @@ fn tokens_to_fit(fault: Fault, by_size: Fault, size: i64) -> i64 {
 
 /// The in-order test with that fault.
 pub(crate) fn in_order(fault: Fault, table: &[i64]) -> bool {
-    failing(table).into_iter().all(|clause| clause == SIZES_CLAUSE)
-        && sizes_fit(table, |size| tokens_to_fit(fault, Fault::OrdersBySize, size))
+    let holds = |clause: usize| match fault {
+        _ if clause == SIZES_CLAUSE => {
+            sizes_fit(table, |size| tokens_to_fit(fault, Fault::OrdersBySize, size))
+        }
+        Fault::WrongStated(wrong) => faulty_stated::holds(wrong, clause, table),
+        _ => CLAUSES[clause].1(table),
+    };
+    (0..CLAUSES.len()).all(holds)
 }
 
 /// A request with that fault.
@@ -202,20 +208,18 @@ fn dispatch(
     }
 }
 
-/// Gives weighted children their part of the class's whole rate.
+/// Gives weighted children their part of all that their class divides, as if no share
+/// were fixed.
 pub(crate) fn renew_on_whole_rate(table: &mut [i64]) {
     for level in 0..=MAX_CLASS_LEVEL {
         let classes: Vec<usize> =
             classes(table).filter(|&class| get(table, class, LEVEL) == level).collect();
         for class in classes {
             let children: Vec<usize> = children(table, class).collect();
-            let weights: i64 =
-                children.iter().map(|&child| share_of_kind(table, child, WEIGHTED)).sum();
+            let division = Division { fixed_sum: 0, ..Division::of(table, class) };
             for child in children {
-                let fixed = get(table, child, KIND) == FIXED;
-                let whole = if fixed { MAX_SHARE } else { weights };
-                let rate = get(table, class, RATE) * get(table, child, SHARE) / whole;
-                set(table, child, RATE, rate);
+                let rate = division.child_rate(get(table, child, KIND), get(table, child, SHARE));
+                set(table, child, RATE, rate as i64);
             }
         }
     }
@@ -224,10 +228,10 @@ pub(crate) fn renew_on_whole_rate(table: &mut [i64]) {
 /// Gives the lowest child of the root what rounding lost among weights.
 pub(crate) fn give_remainder(table: &mut [i64]) {
     rates::renew_all(table);
-    let fixed = children(table, ROOT).any(|child| get(table, child, KIND) == FIXED);
+    let weighted = children(table, ROOT).all(|child| get(table, child, KIND) == WEIGHTED);
     let sum: i64 = children(table, ROOT).map(|child| get(table, child, RATE)).sum();
     let first = children(table, ROOT).next();
-    if let (false, Some(child)) = (fixed, first) {
+    if let (true, Some(child)) = (weighted, first) {
         table[at(child, RATE)] += get(table, ROOT, RATE) - sum;
     }
 }
@@ -244,24 +248,27 @@ pub(crate) fn lost_grains(misread: Lost, table: &[i64], node: usize) -> i64 {
         let counted = children(table, node).filter(|&child| counts(child));
         counted.map(|child| get(table, child, place)).sum()
     };
-    let is_fixed = |child: usize| get(table, child, KIND) == FIXED;
-    let is_weighted = |child: usize| !is_fixed(child);
-    let left = rate * (MAX_SHARE - sum_of(SHARE, &is_fixed)) / MAX_SHARE;
+    let is_of = |child: usize, kind: i64| get(table, child, KIND) == kind;
+    let rates_without = |kind: i64| sum_of(RATE, &|child| !is_of(child, kind));
+    let shares = |kind: i64| sum_of(SHARE, &|child| is_of(child, kind));
+    let left = (rate - shares(STATED)) * (MAX_SHARE - shares(FIXED)) / MAX_SHARE;
     match misread {
         Lost::AllBelow => {
             let below = arguments::family(table, node).into_iter().skip(1);
             rate - below.map(|node| get(table, node, RATE)).sum::<i64>()
         }
-        Lost::WithoutWeighted => rate - sum_of(RATE, &is_fixed),
-        Lost::WithoutFixed => rate - sum_of(RATE, &is_weighted),
+        Lost::WithoutWeighted => rate - rates_without(WEIGHTED),
+        Lost::WithoutFixed => rate - rates_without(FIXED),
+        Lost::WithoutStated => rate - rates_without(STATED),
+        Lost::StatedTwice => right - shares(STATED),
         Lost::WithoutClasses => rate - sum_of(RATE, &|child| is_client(table, child)),
         Lost::OfShares => rate - sum_of(SHARE, &|_| true),
         Lost::OfBalances => rate - sum_of(BALANCE, &|_| true),
         Lost::ZeroForClass => 0,
         Lost::ZeroForChildless if children(table, node).next().is_none() => 0,
         Lost::RootAmongChildren if node == ROOT => right - rate,
-        Lost::WithoutUnclaimed if !children(table, node).any(is_weighted) => right - left,
-        Lost::WithoutFixedRounding => left - sum_of(RATE, &is_weighted),
+        Lost::WithoutUnclaimed if shares(WEIGHTED) == 0 => right - left,
+        Lost::WithoutFixedRounding => left - sum_of(RATE, &|child| is_of(child, WEIGHTED)),
         _ => right,
     }
 }

@@ -89,8 +89,9 @@ fn own_rate(wrong: Renewal, table: &[i64], class: usize) -> Option<i64> {
         _ => return None,
     };
     let kind = if wrong == Renewal::OwnRateAsFixed { FIXED } else { get(table, class, KIND) };
-    let division =
-        Division { class_rate: i128::from(get(table, above, RATE)), fixed_sum, weight_sum };
+    let class_rate = i128::from(get(table, above, RATE));
+    let stated_sum = sum(table, STATED, |node| parent(table, node) == Some(above));
+    let division = Division { class_rate, stated_sum, fixed_sum, weight_sum };
     Some(division.child_rate(kind, get(table, class, SHARE)) as i64)
 }
 
@@ -117,7 +118,7 @@ fn renewed(wrong: Renewal, change: &Change, table: &[i64]) -> Vec<usize> {
 fn keeps(wrong: Renewal, change: &Change, table: &[i64], node: usize) -> bool {
     let class = change.class(table);
     let steps = get(table, node, LEVEL) - get(table, class, LEVEL);
-    let is_fixed = get(table, node, KIND) == FIXED;
+    let kind = get(table, node, KIND);
     match wrong {
         Renewal::ChildrenOnly | Renewal::RateChildrenOnly => steps > 1,
         Renewal::TwoLevels => steps > 2,
@@ -132,9 +133,10 @@ fn keeps(wrong: Renewal, change: &Change, table: &[i64], node: usize) -> bool {
         Renewal::WithoutNode => node == change.node,
         Renewal::NotBelowNode => is_below(table, node, change.node),
         Renewal::NotBelowOthers => steps > 1 && !is_below(table, node, change.node),
-        Renewal::FixedKept => is_fixed,
+        Renewal::FixedKept => kind == FIXED,
         Renewal::WeightsKept => {
-            steps == 1 && node != change.node && !is_fixed && touches_fixed(change, table)
+            let is_other_weight = kind == WEIGHTED && node != change.node;
+            steps == 1 && is_other_weight && touches_fixed(change, table)
         }
         Renewal::ClassesKept => is_class(table, node),
         _ => false,
@@ -166,19 +168,19 @@ fn rate(wrong: Renewal, change: &Change, table: &[i64], node: usize) -> i64 {
         Renewal::SameLevel | Renewal::NeighboursToo if are_level(table, class, changed) => changed,
         _ => class,
     };
-    let [fixed_sum, weight_sum] =
-        [FIXED, WEIGHTED].map(|kind| sum_for(wrong, change, table, node, kind));
+    let [fixed_sum, weight_sum, stated_sum] =
+        KINDS.map(|kind| sum_for(wrong, change, table, node, kind));
     let class_rate = i128::from(get(table, from, RATE));
-    let division = Division { class_rate, fixed_sum, weight_sum };
+    let division = Division { class_rate, stated_sum, fixed_sum, weight_sum };
     let (kind, share) = (get(table, node, KIND), get(table, node, SHARE));
     let rate = match wrong {
         Renewal::Scaled if class != changed => scaled(change, table, node, class),
         Renewal::RoundsOnce if kind == WEIGHTED => {
             let whole = i128::from(MAX_SHARE);
-            class_rate * (whole - fixed_sum) * i128::from(share) / (whole * weight_sum)
+            division.divided() * (whole - fixed_sum) * i128::from(share) / (whole * weight_sum)
         }
         Renewal::LessFixedRates if kind == WEIGHTED => {
-            let left = class_rate - fixed_rates(table, class, &division);
+            let left = division.divided() - fixed_rates(table, class, &division);
             left * i128::from(share) / weight_sum
         }
         _ => division.child_rate(kind, share),

@@ -50,7 +50,9 @@ use crate::controller::{Controller, NewNode};
 use crate::cost::cost;
 use crate::rates::Division;
 use crate::steps::{Call, Reply, Step, World};
-use crate::table::{node_number, CLASS, CLIENT, FIXED, GRAINS, MAX_SHARE, NODES, ROOT, WEIGHTED};
+use crate::table::{
+    node_number, CLASS, CLIENT, FIXED, GRAINS, MAX_SHARE, NODES, ROOT, STATED, WEIGHTED,
+};
 
 /// Depths by which the disk or a class may exceed its rates.
 const CLASS_DEPTHS: i128 = 5;
@@ -322,6 +324,7 @@ impl Judge {
         while let Some(class) = classes.pop() {
             let division = Division {
                 class_rate: rates[class],
+                stated_sum: self.share_sum(class, STATED),
                 fixed_sum: self.share_sum(class, FIXED),
                 weight_sum: self.share_sum(class, WEIGHTED),
             };

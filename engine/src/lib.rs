@@ -1,9 +1,9 @@
 //! The second engine of the disk share controller.
 //!
 //! It is written from document 01 ("Hierarchical Disk Sharing: the account
-//! table and its calls") and document 02 up to request (e) alone, to check
-//! another implementation of them call by call. Quoted words in the comments are
-//! the documents'.
+//! table and its calls") and document 02 up to request (f) alone, to check another
+//! implementation of them call by call. Quoted words in the comments are the
+//! documents'.
 //!
 //! * The engine: [`table`], [`order`], [`rates`], [`cost`](mod@cost), `calls`,
 //!   `tick`, [`plan`], [`mod@print`], behind the trait [`Controller`], and
@@ -28,7 +28,9 @@ pub mod faulty;
 pub mod faulty_load;
 mod faulty_parts;
 mod faulty_picks;
+mod faulty_plans;
 mod faulty_renewals;
+mod faulty_stated;
 pub mod judge;
 pub mod load;
 pub mod loads;

@@ -1,7 +1,7 @@
 //! Inputs of the load: special ones, and random ones from a seed.
 
 use crate::controller::NewNode;
-use crate::plan::Plan;
+use crate::plan::{Edition, Plan};
 use crate::plans;
 use crate::random::Rng;
 use crate::table::*;
@@ -28,10 +28,12 @@ pub fn inputs(seed: u64, count: usize) -> Vec<Vec<u8>> {
 pub fn special() -> Vec<Vec<u8>> {
     let mut all = vec![Vec::new(), vec![1; 7], input(1, 5, &[])];
     for nodes in [vec![], vec![class(9, 0, WEIGHTED, 1, 40), class(3, 9, WEIGHTED, 1, 40)]] {
-        all.push(input(1, 20, &Plan { rate: 1000, depth: 40, nodes }.encode()));
+        all.push(input(1, 20, &first(&Plan { rate: 1000, depth: 40, nodes })));
     }
     all.extend(family_inputs());
-    all.extend(spoiled().iter().flat_map(|plan| [input(1, 0, plan), input(1, 20, plan)]));
+    all.extend(second_inputs());
+    let spoiled = [spoiled(), spoiled_second()].concat();
+    all.extend(spoiled.iter().flat_map(|plan| [input(1, 0, plan), input(1, 20, plan)]));
     all.extend(small_inputs());
     all
 }
@@ -40,14 +42,27 @@ pub fn special() -> Vec<Vec<u8>> {
 fn family_inputs() -> Vec<Vec<u8>> {
     let mut all = Vec::new();
     for ticks in [0, 1, 2, 40] {
-        all.push(input(1, ticks, &family(60_000).encode()));
+        all.push(input(1, ticks, &first(&family(60_000))));
     }
     for seed in [0, 1, u32::MAX, 0x8000_0000, 0x0102_0304] {
-        all.push(input(seed, 300, &family(60_000).encode()));
+        all.push(input(seed, 300, &first(&family(60_000))));
     }
     for (rate, ticks) in [(1, 400), (2000, 1000), (30_000, 1000), (100_000, 500), (MAX_RATE, 200)] {
-        all.push(input(1, ticks, &family(rate).encode()));
+        all.push(input(1, ticks, &first(&family(rate))));
     }
+    all
+}
+
+/// Plans of the second edition: one without a stated node, and desks on disks that are
+/// fast, or have nothing beside the stated rates.
+fn second_inputs() -> Vec<Vec<u8>> {
+    let mut all = vec![input(1, 40, &second(&family(60_000)))];
+    for (rate, ticks) in [(DESKS, 400), (60_000, 400), (MAX_RATE, 100)] {
+        all.push(input(1, ticks, &second(&desks(rate))));
+    }
+    // A disk rate that begins as the mark does, but for its last byte.
+    let nodes = vec![client(5, 0, WEIGHTED, 4, 100)];
+    all.push(input(1, 40, &first(&Plan { rate: 0xFF_FFFF, depth: 1000, nodes })));
     all
 }
 
@@ -58,14 +73,14 @@ fn small_inputs() -> Vec<Vec<u8>> {
     for depth in TIGHT_DEPTHS.into_iter().chain([100, 65_535, 65_536, 65_537, MAX_DEPTH]) {
         let nodes = vec![client(5, 0, WEIGHTED, 4, depth)];
         let rate = in_grains(depth) / 2;
-        all.push(input(1, 100, &Plan { rate, depth: MAX_DEPTH, nodes }.encode()));
+        all.push(input(1, 100, &first(&Plan { rate, depth: MAX_DEPTH, nodes })));
     }
     for (rate, depth) in [(8000, 16), (20_000, 40), (400_000, 1000)] {
         let nodes = (1..64).map(|node| client(node, 0, WEIGHTED, node, depth)).collect();
-        all.push(input(0, 800, &Plan { rate, depth: 63 * depth, nodes }.encode()));
+        all.push(input(0, 800, &first(&Plan { rate, depth: 63 * depth, nodes })));
     }
     let nodes = vec![client(5, 0, WEIGHTED, 1, 16)];
-    all.push(input(1, 65_540, &Plan { rate: 100, depth: 40, nodes }.encode()));
+    all.push(input(1, 65_540, &first(&Plan { rate: 100, depth: 40, nodes })));
     all
 }
 
@@ -87,15 +102,68 @@ fn family(rate: i64) -> Plan {
     Plan { rate, depth: 1000, nodes }
 }
 
+/// What the desks have stated together.
+const DESKS: i64 = 18_000;
+
+/// Desks with stated rates, of which one is a class, beside a class and a client that
+/// have none. The disk's rate is no less than what is stated.
+fn desks(rate: i64) -> Plan {
+    let nodes = vec![
+        client(6, 0, STATED, 6000, 100),
+        class(9, 0, STATED, 12_000, 300),
+        class(30, 0, FIXED, 5000, 200),
+        client(41, 0, WEIGHTED, 1, 40),
+        client(4, 9, FIXED, 2500, 40),
+        client(7, 9, WEIGHTED, 1, 100),
+        client(8, 30, WEIGHTED, 1, 100),
+    ];
+    Plan { rate, depth: 1000, nodes }
+}
+
+/// Plans of the second edition that are refused with 14, 2, 16, 8 and 15, and a first
+/// edition with a stated node, which is refused with 14.
+fn spoiled_second() -> Vec<Vec<u8>> {
+    let right = desks(60_000);
+    let changed = |change: fn(&mut Plan)| {
+        let mut plan = right.clone();
+        change(&mut plan);
+        second(&plan)
+    };
+    let bytes = second(&right);
+    vec![
+        first(&right),
+        bytes[1..].to_vec(),
+        bytes[4..].to_vec(),
+        bytes[..bytes.len() - 1].to_vec(),
+        bytes[..4].to_vec(),
+        [&bytes[..], &[0]].concat(),
+        [&[0xFF; 4], &first(&family(60_000))[..]].concat(),
+        changed(|plan| plan.nodes[0].share = MAX_RATE + 1),
+        changed(|plan| plan.nodes[2].share = MAX_SHARE + 1),
+        changed(|plan| plan.rate = DESKS - 1),
+        changed(|plan| plan.nodes[4].kind = STATED),
+        changed(|plan| plan.nodes.swap(0, 1)),
+        // Out of order as well, and too deep as well.
+        changed(|plan| {
+            plan.rate = DESKS - 1;
+            plan.nodes.swap(0, 1);
+        }),
+        changed(|plan| {
+            plan.rate = 5999;
+            plan.nodes[0].depth = 1001;
+        }),
+    ]
+}
+
 /// Plans that are refused with 14, 2, 3, 4, 8 and 15.
 fn spoiled() -> Vec<Vec<u8>> {
     let right = family(60_000);
     let changed = |change: fn(&mut Plan)| {
         let mut plan = right.clone();
         change(&mut plan);
-        plan.encode()
+        first(&plan)
     };
-    let bytes = right.encode();
+    let bytes = first(&right);
     let long = |more: usize| [&bytes[..], &vec![0; more]].concat();
     let mut wrong_kind = bytes.clone();
     wrong_kind[9 + 4 * right.nodes.len()] = 4;
@@ -121,7 +189,8 @@ fn spoiled() -> Vec<Vec<u8>> {
 /// or lengthened.
 pub fn any(rng: &mut Rng) -> Vec<u8> {
     let plan = accepted_plan(rng);
-    let bytes = if rng.chance(12) { plans::any(rng, &plan) } else { plan.encode() };
+    let edition = if plan.has_stated() { Edition::Second } else { rng.pick(&Edition::ALL) };
+    let bytes = if rng.chance(12) { plans::any(rng, &plan) } else { plan.encode(edition) };
     let random = rng.bits() as u32;
     let seed = rng.pick(&[0, 1, u32::MAX, random, random]);
     let most = rng.pick(&[0, 1, 2, 50, 400, 400, 1000, 1000, 3000]);
@@ -134,8 +203,8 @@ pub fn any(rng: &mut Rng) -> Vec<u8> {
     input
 }
 
-/// A random plan that is accepted: any shape, and a disk that is slow or fast for
-/// what its clients ask.
+/// A random plan that is accepted, in the second edition if a node is stated: any shape,
+/// and a disk that is slow or fast for what its clients ask.
 pub fn accepted_plan(rng: &mut Rng) -> Plan {
     let (few, many, all) = (1 + rng.below(4), 5 + rng.below(15), 1 + rng.below(63));
     let shapes =
@@ -144,8 +213,24 @@ pub fn accepted_plan(rng: &mut Rng) -> Plan {
     let mut nodes = tree(rng, classes, clients);
     let depths = give_depths(rng, &mut nodes, clients as i64);
     let rate = rate(rng, &nodes);
+    if rng.chance(40) {
+        state_some(rng, &mut nodes, rate);
+    }
     let spare = rng.pick(&[0, 0, depths / 2, MAX_DEPTH]);
     Plan { rate, depth: (depths + spare).clamp(1, MAX_DEPTH), nodes }
+}
+
+/// Gives some children of the root stated rates, within the disk's together.
+fn state_some(rng: &mut Rng, nodes: &mut [NewNode], rate: i64) {
+    let mut left = rate;
+    for new in nodes.iter_mut().filter(|new| new.parent == ROOT as i64) {
+        if left > 0 && rng.chance(40) {
+            let part = rng.between(1, left / 3);
+            new.kind = STATED;
+            new.share = rng.pick(&[1, part, part, part, left]);
+            left -= new.share;
+        }
+    }
 }
 
 /// So many classes and clients, by level and then by number.
@@ -208,6 +293,14 @@ fn rate(rng: &mut Rng, nodes: &[NewNode]) -> i64 {
     let few = rng.pick(&[1, 300, 8000, MAX_RATE]);
     let part = in_a_tick * percent / 100;
     rng.pick(&[part, part, part, part, part, few]).clamp(1, MAX_RATE)
+}
+
+fn first(plan: &Plan) -> Vec<u8> {
+    plan.encode(Edition::First)
+}
+
+fn second(plan: &Plan) -> Vec<u8> {
+    plan.encode(Edition::Second)
 }
 
 fn class(node: i64, parent: i64, kind: i64, share: i64, depth: i64) -> NewNode {

@@ -13,7 +13,7 @@ use crate::table::*;
 pub type Clause = fn(&[i64]) -> bool;
 
 /// All clauses, with their names.
-pub const CLAUSES: [(&str, Clause); 18] = [
+pub const CLAUSES: [(&str, Clause); 20] = [
     ("header count within limits", header_count),
     ("other header places zero", header_zeros),
     ("root is the root", root),
@@ -32,12 +32,22 @@ pub const CLAUSES: [(&str, Clause); 18] = [
     ("class balances not too low", class_balances),
     ("waiting sizes from 1, their costs to the depth", waiting_sizes),
     ("arrival numbers", arrivals),
+    ("stated under the root only", stated_places),
+    ("stated rates at most the disk's", stated_rates),
 ];
 
+/// The number of the clause on the root.
+pub const ROOT_CLAUSE: usize = 2;
+/// The number of the clause on kinds, shares and depths.
+pub const LIMITS_CLAUSE: usize = 5;
 /// The number of the clause on rates.
 pub const RATES_CLAUSE: usize = 12;
 /// The number of the clause on waiting sizes.
 pub const SIZES_CLAUSE: usize = 16;
+/// The number of the clause on where stated nodes stand.
+pub const STATED_PLACES_CLAUSE: usize = 18;
+/// The number of the clause on the sum of stated rates.
+pub const STATED_RATES_CLAUSE: usize = 19;
 
 /// Whether a slice is a table of right length that is in order.
 pub fn in_order(table: &[i64]) -> bool {
@@ -90,9 +100,14 @@ fn unused_zero(table: &[i64]) -> bool {
 }
 
 fn limits(table: &[i64]) -> bool {
+    limits_hold(table, share_is_lawful)
+}
+
+/// Whether all depths are within their limits, and all kinds and shares by that
+/// function.
+pub(crate) fn limits_hold(table: &[i64], share_is_lawful: impl Fn(i64, i64) -> bool) -> bool {
     used_nodes(table).all(|node| {
-        [FIXED, WEIGHTED].contains(&get(table, node, KIND))
-            && (1..=MAX_SHARE).contains(&get(table, node, SHARE))
+        share_is_lawful(get(table, node, KIND), get(table, node, SHARE))
             && (1..=MAX_DEPTH).contains(&get(table, node, DEPTH))
     })
 }
@@ -170,6 +185,18 @@ fn arrivals(table: &[i64]) -> bool {
     }
     all.sort_unstable();
     is_rising(&all) && all.iter().all(|arrival| (1..=table[ACCEPTED]).contains(arrival))
+}
+
+/// A stated node is a child of the root.
+fn stated_places(table: &[i64]) -> bool {
+    let is_stated = |&node: &usize| get(table, node, KIND) == STATED;
+    used_nodes(table)
+        .filter(is_stated)
+        .all(|node| parent(table, node).is_none_or(|parent| parent == ROOT))
+}
+
+fn stated_rates(table: &[i64]) -> bool {
+    shares_under(table, ROOT, STATED) <= i128::from(get(table, ROOT, RATE))
 }
 
 /// A node's depth in grains, wide enough for any contents.

@@ -6,7 +6,7 @@
 
 use crate::controller::{Engine, NewNode};
 use crate::cost::largest_size;
-use crate::plan::{plan_len, Plan};
+use crate::plan::{Edition, Plan};
 use crate::steps::{Call, Step, World};
 use crate::table::*;
 use crate::{arguments, damage, families, order, plans};
@@ -54,6 +54,8 @@ struct Generator {
     busy: usize,
     /// Into how many parts joining clients divide the depth that is left.
     spread: i64,
+    /// Percentage of stated rates among the shares under the root.
+    stated: usize,
 }
 
 impl Generator {
@@ -62,9 +64,10 @@ impl Generator {
         let bent = rng.pick(&[0, 1, 3, 10]);
         let busy = rng.pick(&[30, 50, 65, 88]);
         let spread = rng.pick(&[2, 5, 30, 200]);
+        let stated = rng.pick(&[0, 10, 25, 50]);
         let world = World::default();
         let (damaged, steps, counted) = (false, Vec::new(), 0);
-        Generator { rng, profile, world, damaged, steps, counted, bent, busy, spread }
+        Generator { rng, profile, world, damaged, steps, counted, bent, busy, spread, stated }
     }
 
     /// Opens the table and joins some nodes.
@@ -230,21 +233,26 @@ impl Generator {
     }
 
     fn join(&mut self) {
-        let spread = self.spread;
+        let (spread, stated) = (self.spread, self.stated);
         let (rng, view) = self.rng_and_view();
         let mut class = arguments::class(rng, view);
         if arguments::depth_left(view, class) == 0 {
             class = arguments::class(rng, view);
         }
+        // Only under the root a stated node has a place.
+        if rng.chance(stated / 2) {
+            class = ROOT;
+        }
         let sort = rng.pick(&[CLASS, CLIENT, CLIENT]);
         // A class needs depth for its children.
         let parts = if sort == CLASS { spread.min(5) } else { spread };
+        let (kind, share) = arguments::kind_and_share(rng, view, class, None, stated);
         let mut new = NewNode {
             node: arguments::unused_node(rng, view),
             parent: class as i64,
             sort,
-            kind: rng.pick(&[FIXED, WEIGHTED]),
-            share: arguments::share(rng, view, class, None),
+            kind,
+            share,
             depth: arguments::depth(rng, view, class, parts),
         };
         if rng.chance(2) {
@@ -257,16 +265,17 @@ impl Generator {
             node: self.bend(new.node, 1, 63),
             parent: self.bend(new.parent, 0, 63),
             sort: self.bend(new.sort, CLASS, CLIENT),
-            kind: self.bend(new.kind, FIXED, WEIGHTED),
-            share: self.bend(new.share, 1, MAX_SHARE),
+            kind: self.bend(new.kind, FIXED, STATED),
+            share: self.bend(new.share, 1, largest_share(new.kind).unwrap_or(MAX_SHARE)),
             depth: self.bend(new.depth, 1, MAX_DEPTH),
         };
         self.call(Call::Join(new));
     }
 
     fn join_family(&mut self) {
+        let stated = self.stated;
         let (rng, view) = self.rng_and_view();
-        let new = families::new_node(rng, view);
+        let new = families::new_node(rng, view, stated);
         self.call(Call::Join(new));
     }
 
@@ -292,22 +301,24 @@ impl Generator {
     }
 
     fn change_share(&mut self) {
+        let stated = self.stated;
         let (rng, view) = self.rng_and_view();
-        let node = arguments::any_node(rng, view) as usize;
+        let mut node = arguments::any_node(rng, view) as usize;
+        if rng.chance(stated) {
+            node = arguments::child_of_root(rng, view).unwrap_or(node);
+        }
         let class = parent(view, node).unwrap_or(ROOT);
-        let share = arguments::share(rng, view, class, Some(node));
-        let kind = rng.pick(&[FIXED, WEIGHTED]);
+        let (kind, share) = arguments::kind_and_share(rng, view, class, Some(node), stated);
         let node = self.bend(node as i64, 0, 63);
-        let kind = self.bend(kind, FIXED, WEIGHTED);
-        let share = self.bend(share, 1, MAX_SHARE);
+        let share = self.bend(share, 1, largest_share(kind).unwrap_or(MAX_SHARE));
+        let kind = self.bend(kind, FIXED, STATED);
         self.call(Call::ChangeShare { node, kind, share });
     }
 
     fn change_rate(&mut self) {
         let (rng, view) = self.rng_and_view();
-        let rate = get(view, ROOT, RATE);
-        let rate = rng.pick(&[1, 80, 8000, rate / 3, rate * 2, MAX_RATE]);
-        let rate = self.bend(rate.clamp(1, MAX_RATE), 1, MAX_RATE);
+        let rate = arguments::disk_rate(rng, view);
+        let rate = self.bend(rate, 1, MAX_RATE);
         self.call(Call::ChangeRate { rate });
     }
 
@@ -367,10 +378,15 @@ impl Generator {
 
     fn plan_write(&mut self) {
         let (rng, view) = self.rng_and_view();
-        let needed = plan_len(Plan::of_table(view).nodes.len());
+        let plan = Plan::of_table(view);
+        let right = plans::edition_for(rng, &plan);
+        let edition = if rng.chance(12) { rng.edge(1, 2) } else { right.number() };
+        let [first, second] = Edition::ALL.map(|edition| edition.plan_len(plan.nodes.len()));
+        let needed = right.plan_len(plan.nodes.len());
         let more = rng.below(20);
-        let buffer_len = rng.pick(&[needed, needed + more, needed - 1, more]);
-        self.call(Call::PlanWrite { buffer_len });
+        let about = rng.pick(&[first - 1, first, second - 1, second]);
+        let buffer_len = rng.pick(&[needed, needed + more, needed - 1, about, about, more]);
+        self.call(Call::PlanWrite { edition, buffer_len });
     }
 
     fn plan_read(&mut self) {

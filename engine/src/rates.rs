@@ -11,6 +11,8 @@ use crate::table::*;
 pub struct Division {
     /// The class's own rate.
     pub class_rate: i128,
+    /// Sum of the stated rates of its children. Only the root has such children.
+    pub stated_sum: i128,
     /// Sum of the fixed shares of its children.
     pub fixed_sum: i128,
     /// Sum of the weights of its children.
@@ -18,15 +20,33 @@ pub struct Division {
 }
 
 impl Division {
+    /// What a class has by its stored rate and its children's shares.
+    pub(crate) fn of(table: &[i64], class: usize) -> Division {
+        Division {
+            class_rate: i128::from(get(table, class, RATE)),
+            stated_sum: shares_under(table, class, STATED),
+            fixed_sum: shares_under(table, class, FIXED),
+            weight_sum: shares_under(table, class, WEIGHTED),
+        }
+    }
+
     /// The rate of a child with that kind and share.
     pub fn child_rate(&self, kind: i64, share: i64) -> i128 {
-        let whole = i128::from(MAX_SHARE);
-        if kind == FIXED {
-            part(self.class_rate, i128::from(share), whole)
-        } else {
-            let left = part(self.class_rate, whole - self.fixed_sum, whole);
-            part(left, i128::from(share), self.weight_sum)
+        let (share, whole) = (i128::from(share), i128::from(MAX_SHARE));
+        match kind {
+            STATED => share,
+            FIXED => part(self.divided(), share, whole),
+            _ => {
+                let left = part(self.divided(), whole - self.fixed_sum, whole);
+                part(left, share, self.weight_sum)
+            }
         }
+    }
+
+    /// What fixed shares and weights divide: "the disk's rate less all stated rates",
+    /// and the whole rate of any other class.
+    pub fn divided(&self) -> i128 {
+        self.class_rate - self.stated_sum
     }
 }
 
@@ -37,22 +57,22 @@ fn part(rate: i128, share: i128, whole: i128) -> i128 {
 
 /// The share sums of every class, from which divisions are made.
 struct Sums {
+    stated: [i128; NODES],
     fixed: [i128; NODES],
     weights: [i128; NODES],
 }
 
 impl Sums {
     fn of(table: &[i64]) -> Sums {
-        Sums {
-            fixed: sums_over_children(table, |node| share_of_kind(table, node, FIXED)),
-            weights: sums_over_children(table, |node| share_of_kind(table, node, WEIGHTED)),
-        }
+        let sums = |kind| sums_over_children(table, |node| share_of_kind(table, node, kind));
+        Sums { stated: sums(STATED), fixed: sums(FIXED), weights: sums(WEIGHTED) }
     }
 
     /// The rate of a node that the stored rate of its parent gives it.
     fn rate(&self, table: &[i64], node: usize, parent: usize) -> i128 {
         let division = Division {
             class_rate: i128::from(get(table, parent, RATE)),
+            stated_sum: self.stated[parent],
             fixed_sum: self.fixed[parent],
             weight_sum: self.weights[parent],
         };
@@ -63,7 +83,8 @@ impl Sums {
 /// Renews the rates below a class: of its children, of their children, and so on.
 ///
 /// The table is in order save for its rates, each of which may be right or wrong,
-/// and the class's own rate is 0 to 1,000,000,000. From the class's own the others
+/// and the class's own rate is 0 to 1,000,000,000, the root's no less than the stated
+/// rates together. From the class's own the others
 /// follow by the section on rates; the class's own stays, as does all else in the
 /// table.
 pub fn renew_below(table: &mut [i64], class: usize) {

@@ -34,6 +34,9 @@ pub const BUFFER_SHORT: i64 = 13;
 pub const PLAN_WRONG: i64 = 14;
 /// Plan entries out of order.
 pub const PLAN_OUT_OF_ORDER: i64 = 15;
+/// Stated rates above the disk's rate, stated elsewhere than under the root, or
+/// first-edition writing of a tree with a stated node.
+pub const STATED_WRONG: i64 = 16;
 
 /// Goes on if `holds`, else turns the call back.
 pub(crate) fn require(holds: bool, refusal: i64) -> Answer<()> {

@@ -68,6 +68,8 @@ pub enum Call {
     },
     /// Write the table's plan to a buffer of that length.
     PlanWrite {
+        /// The edition's number.
+        edition: i64,
         /// Bytes in the buffer.
         buffer_len: usize,
     },
@@ -221,7 +223,7 @@ impl World {
                     (0..*list_len as i64).map(|place| -7_000_000 - place).collect();
                 self.list.replace(&list);
             }
-            Call::PlanWrite { buffer_len } => {
+            Call::PlanWrite { buffer_len, .. } => {
                 let buffer: Vec<u8> =
                     (0..*buffer_len).map(|place| 200 - (place % 100) as u8).collect();
                 self.plan.replace(&buffer);
@@ -252,7 +254,7 @@ impl World {
             Call::Same { swapped: false } => reply(controller.same(table, kept), Reply::Same),
             Call::Same { swapped: true } => reply(controller.same(kept, table), Reply::Same),
             Call::PlanRead { .. } => number(controller.plan_read(plan, table)),
-            Call::PlanWrite { .. } => number(controller.plan_write(table, plan)),
+            Call::PlanWrite { edition, .. } => number(controller.plan_write(table, edition, plan)),
             Call::PlanCheck { .. } => Reply::Number(controller.plan_check(plan)),
         }
     }

@@ -52,14 +52,18 @@ pub const CLIENT: i64 = 2;
 pub const FIXED: i64 = 0;
 /// Share kind: a weight on what the fixed shares leave.
 pub const WEIGHTED: i64 = 1;
+/// Share kind: a rate in grains per tick, stated in the share's place.
+pub const STATED: i64 = 2;
+/// All share kinds.
+pub const KINDS: [i64; 3] = [FIXED, WEIGHTED, STATED];
 
 /// The root's node number.
 pub const ROOT: usize = 0;
-/// Largest share, and the whole that fixed shares are parts of.
+/// Largest fixed share or weight, and the whole that fixed shares are parts of.
 pub const MAX_SHARE: i64 = 10_000;
 /// Largest depth in tokens.
 pub const MAX_DEPTH: i64 = 1_000_000;
-/// Largest disk rate in grains per tick.
+/// Largest disk rate and largest stated rate, in grains per tick.
 pub const MAX_RATE: i64 = 1_000_000_000;
 /// Largest count of accepted requests.
 pub const MAX_ACCEPTED: i64 = 9_000_000_000_000_000_000;
@@ -77,6 +81,20 @@ pub struct Waiting {
     pub size: i64,
     /// Arrival number.
     pub arrival: i64,
+}
+
+/// The largest share of a kind, if the kind is known.
+pub fn largest_share(kind: i64) -> Option<i64> {
+    match kind {
+        FIXED | WEIGHTED => Some(MAX_SHARE),
+        STATED => Some(MAX_RATE),
+        _ => None,
+    }
+}
+
+/// Whether a kind is known and a share is within the limits of that kind.
+pub fn share_is_lawful(kind: i64, share: i64) -> bool {
+    largest_share(kind).is_some_and(|largest| (1..=largest).contains(&share))
 }
 
 /// Tokens in grains. They are no more than a depth may be.
@@ -172,6 +190,11 @@ pub fn share_of_kind(table: &[i64], node: usize, kind: i64) -> i64 {
     } else {
         0
     }
+}
+
+/// The shares of a kind of a class's children together, wide enough for any contents.
+pub fn shares_under(table: &[i64], class: usize, kind: i64) -> i128 {
+    children(table, class).map(|child| i128::from(share_of_kind(table, child, kind))).sum()
 }
 
 /// How many waiting places of a record are filled, 0 to 8 on any contents.

@@ -6,8 +6,8 @@ use native.Mathlib.Omega.{arith}
 use Rattle.numbers.specs.Whole.{plus}
 use Rattle.numbers.specs.Tests.{every}
 use Rattle.numbers.specs.Below.{sumBelow}
-use Rattle.table.specs.Tree.{there, isClient, isFixed, childOf, countIf, sumUnder}
-use Rattle.table.specs.Rates.{fixedShare, weight, fixedSum, weightSum, fixedRate, leftRate, weightedRate, childRate, rateAtLevel, rateIn}
+use Rattle.table.specs.Tree.{there, isClient, isFixed, isStated, childOf, countIf, sumUnder}
+use Rattle.table.specs.Rates.{kindShare, kindSum, fixedRate, leftRate, weightedRate, dividedRate, unstatedRate, childRate, rateAtLevel, rateIn}
 use Rattle.table.specs.Cost.{cost}
 use Rattle.table.specs.Tick.{grains}
 use Rattle.bounds.specs.Observer.{setAt, entriesIn, dispatchedBy, entriesOf, entries, entriesFor, start, withNode, afterAccepted, afterAnswer, observed, observedAll}
@@ -17,10 +17,10 @@ use Rattle.bounds.specs.Fakes.{clientJoins, asks, entriesOfOne, dispatch
 
 -- Three ticks at a rate of 8000 are 24000 grains, and its depth is 8000.
 pub lists-nothing : Bounds before listsNothing → ⊥
-unfolding before clientJoins asks entriesOfOne dispatches listsNothing dispatchesEverything observedAll observed afterAnswer afterAccepted start withNode setAt entries entriesOf dispatchedBy entriesIn entriesFor isClient waitsThroughout waits every plus ratesOver rateAt isTick accepts rateIn rateAtLevel childRate isFixed fixedSum fixedShare weightSum weight fixedRate leftRate weightedRate sumUnder sumBelow countIf childOf there dispatchedOver sumOver grainsForClient entryGrains grainsOver grains cost
+unfolding before clientJoins asks entriesOfOne dispatches listsNothing dispatchesEverything observedAll observed afterAnswer afterAccepted start withNode setAt entries entriesOf dispatchedBy entriesIn entriesFor isClient waitsThroughout waits every plus ratesOver rateAt isTick accepts rateIn rateAtLevel childRate isStated unstatedRate dividedRate isFixed kindSum kindShare fixedRate leftRate weightedRate sumUnder sumBelow countIf childOf there dispatchedOver sumOver grainsForClient entryGrains grainsOver grains cost
 lists-nothing b = omega (arith, b .clients 1 refl refl)
 
 -- Eight requests are 64000 grains; the rate and five depths are 48000.
 pub dispatches-everything : Bounds before dispatchesEverything → ⊥
-unfolding before clientJoins asks entriesOfOne dispatches listsNothing dispatchesEverything observedAll observed afterAnswer afterAccepted start withNode setAt entries entriesOf dispatchedBy entriesIn entriesFor isClient waitsThroughout waits every plus ratesOver rateAt isTick accepts rateIn rateAtLevel childRate isFixed fixedSum fixedShare weightSum weight fixedRate leftRate weightedRate sumUnder sumBelow countIf childOf there dispatchedOver sumOver grainsForClient entryGrains grainsOver grains cost
+unfolding before clientJoins asks entriesOfOne dispatches listsNothing dispatchesEverything observedAll observed afterAnswer afterAccepted start withNode setAt entries entriesOf dispatchedBy entriesIn entriesFor isClient waitsThroughout waits every plus ratesOver rateAt isTick accepts rateIn rateAtLevel childRate isStated unstatedRate dividedRate isFixed kindSum kindShare fixedRate leftRate weightedRate sumUnder sumBelow countIf childOf there dispatchedOver sumOver grainsForClient entryGrains grainsOver grains cost
 dispatches-everything b = omega (arith, b .disk)

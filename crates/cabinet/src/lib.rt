@@ -143,7 +143,7 @@ pub extern "C" fn hds_same(first: &[i64], second: &[i64]) -> i64
     compared_number(accounts::same(first, second))
 }
 
-// Reads a plan into a table.
+// Reads a plan into a table: its edition, 1 or 2.
 #[no_mangle]
 pub extern "C" fn hds_plan_read(table: &mut [i64], contents: &[u8]) -> i64
     ensures answer { λ r. ⌜ r ≡ exported (planAnswer (now (table .entry)) (now (contents .entry))) ⌝ }
@@ -152,11 +152,11 @@ pub extern "C" fn hds_plan_read(table: &mut [i64], contents: &[u8]) -> i64
     answer_number(plan::read(table, contents))
 }
 
-// Writes the plan of a table into a buffer: its length.
+// Writes the plan of a table into a buffer, in edition 1 or 2: its length.
 #[no_mangle]
-pub extern "C" fn hds_plan_write(table: &[i64], buffer: &mut [u8]) -> i64
-    ensures answer { λ r. ⌜ r ≡ exported (writeAnswer (now (table .entry)) (now (buffer .entry))) ⌝ }
-    ensures buffer { λ _. ⌜ now (buffer .exit) ≡ writeBuffer (now (table .entry)) (now (buffer .entry)) ⌝ }
+pub extern "C" fn hds_plan_write(table: &[i64], edition: i64, buffer: &mut [u8]) -> i64
+    ensures answer { λ r. ⌜ r ≡ exported (writeAnswer (now (table .entry)) edition (now (buffer .entry))) ⌝ }
+    ensures buffer { λ _. ⌜ now (buffer .exit) ≡ writeBuffer (now (table .entry)) edition (now (buffer .entry)) ⌝ }
 {
-    answer_number(plan::write(table, buffer))
+    answer_number(plan::write(table, edition, buffer))
 }

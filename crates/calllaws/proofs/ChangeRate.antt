@@ -1,19 +1,22 @@
--- Change rate keeps a table in order: it writes the root's rate, which is within its limits by cause 2.
+-- Change rate keeps a table in order: it writes the root's rate, which is within its limits by cause 2, and no less than the
+-- stated rates by cause 16.
 use mathlib.Core.Path.{_≡_, sym, ap, _∙_}
-use mathlib.Core.Bool.{true}
+use mathlib.Core.Bool.{true, not}
 use mathlib.Core.List.{List}
 use native.Mathlib.Omega.{arith}
+use borrow.Author.Tests.{ltb-true, ltb-false, not-true}
+use lib.Dec.{ltb}
 use lib.IntN.{ℤ}
 use Rattle.numbers.specs.Whole.{plus, withinℤ}
-use Rattle.numbers.proofs.Tests.{true-false}
+use Rattle.numbers.proofs.Tests.{by-test, same-truth, true-false}
 use Rattle.numbers.proofs.Parts.{zarith, pos-of-within}
 use Rattle.table.specs.Limits.{rateAt, root, greatestRate}
 use Rattle.table.specs.Places.{put, rate as rateOf}
-use Rattle.table.specs.Tree.{treeOf, there}
-use Rattle.table.specs.Rates.{renewed}
-use Rattle.table.specs.Order.{inOrder}
-use Rattle.table.specs.Calls.{changeRateRefusal, changeRateTable}
-use Rattle.table.proofs.Facts.{facts}
+use Rattle.table.specs.Tree.{Tree, treeOf, there}
+use Rattle.table.specs.Rates.{statedSum, renewed}
+use Rattle.table.specs.Order.{statedInOrder, inOrder}
+use Rattle.table.specs.Calls.{statedWrong, changeRateRefusal, changeRateTable}
+use Rattle.table.proofs.Facts.{InOrder, Stated, facts, of-stated, stated-of}
 use Rattle.table.proofs.Places.{length-put, header-put, place-put-same, place-put-node, place-put-place}
 use Rattle.treelaws.proofs.Renewed.{same-tree}
 use Rattle.treelaws.specs.Renewal.{RenewsAll}
@@ -27,8 +30,8 @@ use Rattle.calllaws.proofs.OneChild.{ways-before}
 pub rerated-tree : (t : List ℤ) (rate : ℤ) → treeOf (put t root rateAt rate) ≡ treeOf t
 rerated-tree t rate = same-tree (put t root rateAt rate) t (λ k p hp. place-put-place t root rateAt rate k p (omega arith) (omega arith) (omega arith))
 
-rerated-ready : (t : List ℤ) (rate : ℤ) → Ready t → withinℤ 1 greatestRate rate ≡ true → Ready (put t root rateAt rate)
-rerated-ready t rate f within =
+rerated-ready : (t : List ℤ) (rate : ℤ) → Ready t → withinℤ 1 greatestRate rate ≡ true → Stated (put t root rateAt rate) → Ready (put t root rateAt rate)
+rerated-ready t rate f within stated =
     ready-but-rates t (put t root rateAt rate) f (length-put t root rateAt rate ∙ f .long) (header-put t root rateAt rate)
     (λ j.
     record {
@@ -38,11 +41,28 @@ rerated-ready t rate f within =
     (rerated-tree t rate)
     (root-kept t (put t root rateAt rate) (λ p hp. place-put-place t root rateAt rate 0 p (omega arith) (omega arith) (omega arith))
     (rw (place-put-same t root rateAt rate (f .long) (omega arith) (omega arith)) within) (f .root))
+    stated
+
+-- Cause 16 from the table as it came: the stated rates stay.
+pub stated-rerated : (t : List ℤ) (rate : ℤ) → InOrder t → statedWrong (put t root rateAt rate) ≡ ltb (plus rate) (statedSum (treeOf t) root)
+unfolding statedWrong rateOf
+stated-rerated t rate o =
+    let tree = rerated-tree t rate in
+    let disk : rateOf (put t root rateAt rate) root ≡ plus rate = ap plus (place-put-same t root rateAt rate (o .long) (omega arith) (omega arith)) in
+    let sum : statedSum (treeOf (put t root rateAt rate)) root ≡ statedSum (treeOf t) root = ap (λ (tree : Tree). statedSum tree root) tree in
+    same-truth _ _
+    (λ h.
+    by-test (ltb (plus rate) (statedSum (treeOf t) root)) (λ y. y)
+    (λ n. absurd (true-false (of-stated _ (record { under = rw tree (o .stated .under); fits = omega (arith, ltb-false (plus rate) _ n, sum, disk) })) (not-true _ h))))
+    (λ h.
+    by-test (statedInOrder (put t root rateAt rate))
+    (λ e. absurd (omega (arith, ltb-true (plus rate) (statedSum (treeOf t) root) h, stated-of _ e .fits, sum, disk)))
+    (λ e. ap not e))
 
 changed : (t : List ℤ) (rate : ℤ) → changeRateRefusal t rate ≡ 0 → inOrder (renewed (put t root rateAt rate)) ≡ true
 changed t rate h =
     let passed = change-rate-passed t rate h in
-    ready-renewed (put t root rateAt rate) (rerated-ready t rate (ready t (facts t (passed .order))) (passed .within))
+    ready-renewed (put t root rateAt rate) (rerated-ready t rate (ready t (facts t (passed .order))) (passed .within) (passed .stated))
 
 -- Renewing below the root renews everything.
 pub change-rate-renews-below : (t : List ℤ) (rate : ℤ) → changeRateRefusal t rate ≡ 0 → RenewsAll (put t root rateAt rate) root

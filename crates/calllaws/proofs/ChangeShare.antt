@@ -1,5 +1,6 @@
--- Change share keeps a table in order: it writes a node's kind and share, which are within their limits by cause 2. Only
--- the fixed shares under the node's parent change, and these are within 10,000 by cause 7.
+-- Change share keeps a table in order: it writes a node's kind and share, which are within their limits by cause 2. Only the
+-- shares under the node's parent change: the fixed ones are within 10,000 by cause 7, and the stated rates are in order by
+-- cause 16.
 use Prim.Native.Nat.{ℕ, _+_, _*_, _≤_, _<_}
 use mathlib.Core.Path.{_≡_, sym, ap, _∙_}
 use mathlib.Core.Bool.{true}
@@ -9,19 +10,18 @@ use native.Mathlib.Decide.{ℕ-discrete}
 use lib.IntN.{ℤ}
 use Rattle.numbers.specs.Whole.{plus, minus, withinℤ}
 use Rattle.numbers.proofs.Tests.{true-false}
-use Rattle.table.specs.Limits.{recordLength, nodes, sortAt, parentAt, levelAt, kindAt, shareAt, depthAt, balanceAt, waitingAt, arrivalAt, fixed, weighted, wholeShare}
+use Rattle.table.specs.Limits.{recordLength, nodes, sortAt, parentAt, levelAt, kindAt, shareAt, depthAt, balanceAt, waitingAt, arrivalAt, fixed, stated, wholeShare, shareLimit}
 use Rattle.table.specs.Places.{queuePlace, place, count, balance, waiting, arrival}
 use Rattle.table.specs.Tree.{treeOf, there, childOf, countIf}
-use Rattle.table.specs.Rates.{fixedSum, fixedShare, renewed}
+use Rattle.table.specs.Rates.{fixedSum, renewed}
 use Rattle.table.specs.Order.{inOrder}
 use Rattle.table.specs.Calls.{reshared, changeShareRefusal, changeShareTable}
-use Rattle.table.proofs.Facts.{Child, Class, facts}
+use Rattle.table.proofs.Facts.{Child, Class, Stated, facts}
 use Rattle.table.proofs.Edits.{Edited, reshared-edit, reshared-node, reshared-rest}
 use Rattle.table.proofs.Passed.{change-share-passed}
-use Rattle.treelaws.proofs.Children.{uncounted}
 use Rattle.treelaws.specs.Renewal.{RenewsAll}
 use Rattle.calllaws.proofs.Nodes.{Ready, ready, Sums, node-limited, child-kept, most-waiting}
-use Rattle.calllaws.proofs.OneNode.{child-same, no-child, count-same, shares-changed, depths-changed, balances-changed, edited-ready}
+use Rattle.calllaws.proofs.OneNode.{child-same, no-child, count-same, kinds-fall, depths-changed, balances-changed, edited-ready}
 use Rattle.calllaws.proofs.OneChild.{ways-before, renews-below-parent}
 use Rattle.calllaws.proofs.Ready.{ready-renewed, kept-in-order}
 
@@ -51,12 +51,7 @@ module _ (t u : List ℤ) (k : ℕ) (f : ℕ → ℤ) (hk : k < nodes) (edited :
   other-shares : (c : ℕ) → (c ≡ treeOf t .parent k → ⊥) → Class t c → fixedSum (treeOf u) c ≤ wholeShare
   other-shares c ne class =
       let none = no-child (treeOf t) c k (λ child. ne (sym (child .parent))) in
-      omega (
-        arith,
-        class .shares,
-        shares-changed t u k f hk edited c,
-        uncounted (childOf (treeOf u) c k) (fixedShare (treeOf u)) k (same-children c ∙ none),
-      )
+      omega (arith, class .shares, kinds-fall t u k f hk edited fixed c (same-children c ∙ none))
 
   share-sums : fixedSum (treeOf u) (treeOf t .parent k) ≤ wholeShare → (c : ℕ) → Class t c → Sums t u c
   share-sums within c class =
@@ -66,9 +61,9 @@ module _ (t u : List ℤ) (k : ℕ) (f : ℕ → ℤ) (hk : k < nodes) (edited :
         balances = balances-changed t u k f hk edited c (omega (arith, same-part plus c, same-part minus c));
       }
 
-  share-ready : (k ≡ 0 → ⊥) → there (treeOf t) k ≡ true → withinℤ fixed weighted (place u k kindAt) ≡ true → withinℤ 1 wholeShare (place u k shareAt) ≡ true → fixedSum (treeOf u) (treeOf t .parent k) ≤ wholeShare → Ready t → Ready u
+  share-ready : (k ≡ 0 → ⊥) → there (treeOf t) k ≡ true → withinℤ fixed stated (place u k kindAt) ≡ true → withinℤ 1 (shareLimit (plus (place u k kindAt))) (place u k shareAt) ≡ true → fixedSum (treeOf u) (treeOf t .parent k) ≤ wholeShare → Stated u → Ready t → Ready u
   unfolding count waiting arrival
-  share-ready below here kind share within r =
+  share-ready below here kind share within rates r =
       edited-ready t u k f hk edited below
       (ap plus (rest k waitingAt (omega arith) (omega arith) (omega arith)))
       (λ i hi. ap plus (rest k (queuePlace i + arrivalAt) (omega (arith, most-waiting t k (r .node k hk))) (omega arith) (omega arith)))
@@ -91,6 +86,7 @@ module _ (t u : List ℤ) (k : ℕ) (f : ℕ → ℤ) (hk : k < nodes) (edited :
       (λ e root. same-child k)
       (λ e. share-sums within k (r .node k hk .class e))
       (r .node k hk))
+      rates
       r
 
 changed : (t : List ℤ) (node kind share : ℤ) → changeShareRefusal t node kind share ≡ 0 → inOrder (renewed (reshared t (plus node) kind share)) ≡ true
@@ -101,8 +97,9 @@ changed t node kind share h =
     ready-renewed (reshared t (plus node) kind share)
     (share-ready t _ (plus node) _ (passed .node) e (reshared-rest t (plus node) kind share (r .long) (passed .node)) (passed .below) (passed .there)
     (rw (e .here kindAt (omega arith)) (passed .kinds))
-    (rw (e .here shareAt (omega arith)) (passed .within))
+    (rw (e .here kindAt (omega arith), e .here shareAt (omega arith)) (passed .within))
     (passed .shares)
+    (passed .stated)
     r)
 
 -- Renewing below the parent renews everything.

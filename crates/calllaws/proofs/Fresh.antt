@@ -9,10 +9,10 @@ use lib.IntN.{ℤ, pos}
 use Rattle.numbers.specs.Whole.{plus, minus}
 use Rattle.numbers.proofs.Tests.{true-false}
 use Rattle.numbers.proofs.Parts.{zarith, plus-pos, minus-pos, add-parts}
-use Rattle.table.specs.Limits.{recordLength, nodes, sortAt, balanceAt, waitingAt, spareAt, queueAt, lastClassLevel}
+use Rattle.table.specs.Limits.{recordLength, nodes, sortAt, balanceAt, waitingAt, spareAt, queueAt, fixed, lastClassLevel}
 use Rattle.table.specs.Places.{place, balance, waiting, depthGrains}
 use Rattle.table.specs.Tree.{treeOf, there, isClass, isClient, sumUnder}
-use Rattle.table.specs.Rates.{fixedSum, fixedShare}
+use Rattle.table.specs.Rates.{kindShare, kindSum}
 use Rattle.table.proofs.Facts.{Limits, Child, Class, Balance}
 use Rattle.treelaws.proofs.Children.{ChildOf, balances-parts, under-zero}
 use Rattle.calllaws.proofs.Nodes.{Node}
@@ -46,12 +46,12 @@ module _ (t : List ℤ) (k : ℕ) (zeros : (p : ℕ) → p < recordLength → ba
   none f = under-zero (treeOf t) k f (λ j hj child. absurd (childless j hj child))
 
   fresh-class : treeOf t .level k ≤ lastClassLevel → Class t k
-  unfolding fixedSum
+  unfolding kindSum
   fresh-class level =
       record {
         level = level;
         idle = idle;
-        shares = omega (arith, none (fixedShare (treeOf t)));
+        shares = omega (arith, none (kindShare (treeOf t) fixed));
         depths = omega (arith, none (treeOf t .depth));
       }
 

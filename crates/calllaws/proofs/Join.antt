@@ -1,5 +1,5 @@
 -- Join keeps a table in order: the new node was unused, so it was nobody's parent, and it comes with balance 0. It adds only
--- to the sums under its parent, which causes 7 and 8 tested on the table as the call leaves it.
+-- to the sums under its parent, which causes 7, 8 and 16 tested on the table as the call leaves it.
 use Prim.Native.Nat.{ℕ, suc, _+_, _*_, _≤_, _<_}
 use mathlib.Core.Path.{_≡_, sym, ap, _∙_}
 use mathlib.Core.Bool.{true, false, not}
@@ -80,7 +80,7 @@ module _ (t : List ℤ) (k c : ℕ) (sort kind share depth : ℤ) (passed : Join
         parent = rw (edited .here parentAt (omega arith)) (omega (arith, zarith, passed .parent, plus-pos c, minus-pos c));
         level = rw (edited .here levelAt (omega arith)) (omega (arith, zarith, parent-level, plus-pos (suc (treeOf t .level c)), minus-pos (suc (treeOf t .level c))));
         kind = rw (edited .here kindAt (omega arith)) (passed .kinds);
-        share = rw (edited .here shareAt (omega arith)) (passed .within);
+        share = rw (edited .here kindAt (omega arith), edited .here shareAt (omega arith)) (passed .within);
         depth = rw (edited .here depthAt (omega arith)) (passed .deep);
         waiting = rw (zeros waitingAt (omega arith) (omega arith)) (omega (arith, zarith, plus-pos 0, minus-pos 0));
       }
@@ -136,6 +136,7 @@ module _ (t : List ℤ) (k c : ℕ) (sort kind share depth : ℤ) (passed : Join
       child-kept (treeOf (joined t k c sort kind share depth)) (treeOf t) j (others j ne .parent) (others j ne .level) (above .sort) (above .level) child)
       (λ a ha ne e. elim (ℕ-discrete a c) [ yes same ↦ rw same parent-sums | no other ↦ other-sums a other (r .node a ha .class e) ])
       (fresh-node _ k (λ p hp low. zeros p hp (omega arith)) childless new-there new-limits (λ ne. new-child) new-level)
+      (passed .stated)
       r
 
 entered : (t : List ℤ) (node parent sort kind share depth : ℤ) → joinRefusal t node parent sort kind share depth ≡ 0 → inOrder (renewed (joined t (plus node) (plus parent) sort kind share depth)) ≡ true

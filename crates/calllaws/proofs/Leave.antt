@@ -9,19 +9,19 @@ use lib.IntN.{ℤ, pos}
 use Rattle.numbers.specs.Whole.{plus, minus}
 use Rattle.numbers.proofs.Tests.{by-test, true-false}
 use Rattle.numbers.proofs.Parts.{zarith, one-is-zero, plus-pos, minus-pos}
-use Rattle.table.specs.Limits.{sortAt, waitingAt}
-use Rattle.table.specs.Places.{balance, waiting}
-use Rattle.table.specs.Tree.{treeOf, there, isClass, childless}
+use Rattle.table.specs.Limits.{sortAt, rateAt, waitingAt, stated, root}
+use Rattle.table.specs.Places.{rate, balance, waiting}
+use Rattle.table.specs.Tree.{treeOf, there, isClass, isStated, childOf, childless}
 use Rattle.table.specs.Rates.{renewed}
 use Rattle.table.specs.Order.{inOrder}
 use Rattle.table.specs.Calls.{cleared, leaveRefusal, leaveTable}
-use Rattle.table.proofs.Facts.{facts}
+use Rattle.table.proofs.Facts.{Stated, facts}
 use Rattle.table.proofs.Passed.{LeavePassed, leave-passed}
 use Rattle.treelaws.proofs.Children.{no-children}
 use Rattle.table.proofs.Edits.{Edited, SameNode, cleared-edit, cleared-others}
 use Rattle.treelaws.specs.Renewal.{RenewsAll}
-use Rattle.calllaws.proofs.Nodes.{Ready, ready, child-kept}
-use Rattle.calllaws.proofs.OneNode.{no-child, sums-fall, edited-ready}
+use Rattle.calllaws.proofs.Nodes.{Ready, ready, there-same, child-kept}
+use Rattle.calllaws.proofs.OneNode.{no-child, kinds-fall, sums-fall, edited-ready}
 use Rattle.calllaws.proofs.OneChild.{ways-before, renews-below-parent}
 use Rattle.calllaws.proofs.Fresh.{zero-unused, unused-node}
 use Rattle.calllaws.proofs.Ready.{ready-renewed, kept-in-order}
@@ -36,6 +36,27 @@ module _ (t : List ℤ) (k : ℕ) (passed : LeavePassed t k) (r : Ready t) where
 
   gone : there (treeOf (cleared t k)) k ≡ false
   gone = zero-unused (cleared t k) k (edited .here sortAt (omega arith))
+
+  no-child-after : (c : ℕ) → childOf (treeOf (cleared t k)) c k ≡ false
+  no-child-after c = no-child (treeOf (cleared t k)) c k (λ child. true-false (child .there) gone)
+
+  -- The stated nodes that stay were there, and their rates sum to no more.
+  left-stated : Stated (cleared t k)
+  unfolding isStated rate
+  left-stated =
+      record {
+        under = λ j hj e s.
+            let same = others j (λ left. true-false e (rw left gone)) in
+            same .parent
+            ∙ r .stated .under j hj (sym (there-same (treeOf (cleared t k)) (treeOf t) j (same .sort)) ∙ e) (rw (same .kind) at s);
+        fits =
+            omega (
+              arith,
+              r .stated .fits,
+              kinds-fall t (cleared t k) k (λ q. pos 0) (passed .node) edited stated root (no-child-after root),
+              ap plus (edited .others root rateAt (λ e. passed .below (sym e)) (omega arith)),
+            );
+      }
 
   pub not-below-zero : minus (balance t k) ≡ 0
   not-below-zero =
@@ -57,10 +78,11 @@ module _ (t : List ℤ) (k : ℕ) (passed : LeavePassed t k) (r : Ready t) where
       child-kept (treeOf (cleared t k)) (treeOf t) j (others j ne .parent) (others j ne .level) (above .sort) (above .level) child)
       (λ c hc ne e.
       sums-fall t (cleared t k) k (λ q. pos 0) (passed .node) edited c
-      (no-child (treeOf (cleared t k)) c k (λ child. true-false (child .there) gone))
+      (no-child-after c)
       (λ was. not-below-zero)
       (r .node c hc .class e))
       (unused-node (cleared t k) k (edited .here))
+      left-stated
       r
 
 left : (t : List ℤ) (node : ℤ) → leaveRefusal t node ≡ 0 → inOrder (renewed (cleared t (plus node))) ≡ true

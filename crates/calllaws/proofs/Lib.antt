@@ -2,6 +2,7 @@ pub mod Nodes
 pub mod Ready
 pub mod OneNode
 pub mod OneChild
+pub mod StatedAfter
 pub mod ChangeRate
 pub mod ChangeShare
 pub mod Request

@@ -19,7 +19,7 @@ use Rattle.table.specs.Places.{queuePlace, place, header, count, rate, balance,
 use Rattle.table.specs.Tree.{Tree, treeOf, there, isClass, isClient, sumUnder}
 use Rattle.table.specs.Rates.{fixedSum, rateIn}
 use Rattle.table.specs.Order.{childBalances}
-use Rattle.table.proofs.Facts.{InOrder, Limits, Spare, Root, Child, Class, Balance, Request}
+use Rattle.table.proofs.Facts.{InOrder, Limits, Spare, Root, Child, Class, Balance, Request, Stated}
 
 pub record Node (t : List ℤ) (k : ℕ) : Type 0 where
   pub empty : there (treeOf t) k ≡ false → (p : ℕ) → p < recordLength → place t k p ≡ pos 0
@@ -37,6 +37,7 @@ pub record Ready (t : List ℤ) : Type 0 where
   pub root : Root t
   pub node : (k : ℕ) → k < nodes → Node t k
   pub differ : (k : ℕ) → k < nodes → (i : ℕ) → i < waiting t k → (j : ℕ) → j < k → (l : ℕ) → l < waiting t j → arrival t k i ≡ arrival t j l → ⊥
+  pub stated : Stated t
 
 pub ready : (t : List ℤ) → InOrder t → Ready t
 ready t f =
@@ -56,6 +57,7 @@ ready t f =
             requests = f .requests k hk;
           };
       differ = f .differ;
+      stated = f .stated;
     }
 
 pub ready-in-order : (t : List ℤ) → Ready t → ((k : ℕ) → k < nodes → there (treeOf t) k ≡ true → place t k rateAt ≡ pos (rateIn (treeOf t) (rate t root) k)) → InOrder t
@@ -74,6 +76,7 @@ ready-in-order t f rates =
       balances = λ k hk. f .node k hk .balance;
       requests = λ k hk. f .node k hk .requests;
       differ = f .differ;
+      stated = f .stated;
     }
 
 leZ-trans : (a b c : ℤ) → leZ a b ≡ true → leZ b c ≡ true → leZ a c ≡ true
@@ -101,7 +104,7 @@ module _ (t u : List ℤ) (j : ℕ) where
         parent = rw (h parentAt (omega arith) (omega arith)) (f .parent);
         level = rw (h levelAt (omega arith) (omega arith)) (f .level);
         kind = rw (h kindAt (omega arith) (omega arith)) (f .kind);
-        share = rw (h shareAt (omega arith) (omega arith)) (f .share);
+        share = rw (h kindAt (omega arith) (omega arith), h shareAt (omega arith) (omega arith)) (f .share);
         depth = rw (h depthAt (omega arith) (omega arith)) (f .depth);
         waiting = rw (h waitingAt (omega arith) (omega arith)) (f .waiting);
       }

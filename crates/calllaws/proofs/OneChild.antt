@@ -10,10 +10,10 @@ use lib.Dec.{eqb}
 use lib.IntN.{ℤ, pos}
 use Rattle.numbers.specs.Whole.{plus}
 use Rattle.numbers.proofs.Tests.{true-false, or-true-left, or-false-left, or-false-right}
-use Rattle.table.specs.Limits.{nodes, rateAt, root}
+use Rattle.table.specs.Limits.{nodes, rateAt, fixed, weighted, stated, root}
 use Rattle.table.specs.Places.{place, rate}
-use Rattle.table.specs.Tree.{Tree, treeOf, there, isFixed, childOf}
-use Rattle.table.specs.Rates.{fixedShare, weight, fixedSum, weightSum, childRate, rateIn, renewed}
+use Rattle.table.specs.Tree.{Tree, treeOf, there, isFixed, isStated, childOf}
+use Rattle.table.specs.Rates.{kindShare, kindSum, dividedRate, childRate, rateIn, renewed}
 use Rattle.table.specs.Renewal.{below}
 use Rattle.table.specs.Order.{inOrder}
 use Rattle.table.proofs.Facts.{InOrder, facts}
@@ -25,16 +25,16 @@ use Rattle.treelaws.proofs.Way.{Ways, ways-of, At, Above, above}
 use Rattle.treelaws.specs.Renewal.{RenewsAll}
 use Rattle.treelaws.proofs.Below.{below-parent, renewed-by-class}
 use Rattle.calllaws.proofs.Nodes.{there-same}
-use Rattle.calllaws.proofs.OneNode.{no-child, shares-changed, weights-changed}
+use Rattle.calllaws.proofs.OneNode.{no-child, kinds-changed}
 
 -- A table that is in order once its rates are renewed has the ways of a tree.
 pub ways-before : (u : List ℤ) → inOrder (renewed u) ≡ true → Ways (treeOf u)
 ways-before u h = subst Ways (renewed-tree u) (ways-of (renewed u) (facts (renewed u) h))
 
 -- A child's rate goes by its own share and the sums under its parent.
-child-rate-same : (new old : Tree) (j r : ℕ) → SameNode new old j → fixedSum new (new .parent j) ≡ fixedSum old (new .parent j) → weightSum new (new .parent j) ≡ weightSum old (new .parent j) → childRate new r j ≡ childRate old r j
-unfolding childRate isFixed
-child-rate-same new old j r same shares weights = rw (← same .parent, same .kind, same .share, shares, weights)
+child-rate-same : (new old : Tree) (j r : ℕ) → SameNode new old j → ((kind : ℕ) → kindSum new kind (new .parent j) ≡ kindSum old kind (new .parent j)) → childRate new r j ≡ childRate old r j
+unfolding childRate dividedRate isFixed isStated
+child-rate-same new old j r same sums = rw (← same .parent, same .kind, same .share, sums fixed, sums weighted, sums stated)
 
 module _ (t u : List ℤ) (k c : ℕ) (f : ℕ → ℤ) (hk : k < nodes) (edited : Edited t u k f) (below-root : k ≡ 0 → ⊥) (o : InOrder t) (w : Ways (treeOf u)) (was : there (treeOf t) k ≡ true → treeOf t .parent k ≡ c) (is : there (treeOf u) k ≡ true → treeOf u .parent k ≡ c) where
   others : (j : ℕ) → (j ≡ k → ⊥) → SameNode (treeOf u) (treeOf t) j
@@ -47,13 +47,14 @@ module _ (t u : List ℤ) (k c : ℕ) (f : ℕ → ℤ) (hk : k < nodes) (edited
   no-child-after : (p : ℕ) → (p ≡ c → ⊥) → childOf (treeOf u) p k ≡ false
   no-child-after p ne = no-child (treeOf u) p k (λ child. ne (sym (child .parent) ∙ is (child .there)))
 
-  same-shares : (p : ℕ) → (p ≡ c → ⊥) → fixedSum (treeOf u) p ≡ fixedSum (treeOf t) p
-  same-shares p ne =
-      omega (arith, shares-changed t u k f hk edited p, uncounted _ (fixedShare (treeOf t)) k (no-child-before p ne), uncounted _ (fixedShare (treeOf u)) k (no-child-after p ne))
-
-  same-weights : (p : ℕ) → (p ≡ c → ⊥) → weightSum (treeOf u) p ≡ weightSum (treeOf t) p
-  same-weights p ne =
-      omega (arith, weights-changed t u k f hk edited p, uncounted _ (weight (treeOf t)) k (no-child-before p ne), uncounted _ (weight (treeOf u)) k (no-child-after p ne))
+  same-sums : (p : ℕ) → (p ≡ c → ⊥) → (kind : ℕ) → kindSum (treeOf u) kind p ≡ kindSum (treeOf t) kind p
+  same-sums p ne kind =
+      omega (
+        arith,
+        kinds-changed t u k f hk edited kind p,
+        uncounted _ (kindShare (treeOf t) kind) k (no-child-before p ne),
+        uncounted _ (kindShare (treeOf u) kind) k (no-child-after p ne),
+      )
 
   -- Where it is there afterwards, it stands below c.
   stands-below : there (treeOf u) k ≡ true → below (treeOf u) c k ≡ true
@@ -79,7 +80,7 @@ module _ (t u : List ℤ) (k c : ℕ) (f : ℕ → ℤ) (hk : k < nodes) (edited
       let other = eqb-false (treeOf u .parent j) c (or-false-left (eqb (treeOf u .parent j) c) _ outside) in
       let old = o .child j (a .low) (was-there j (a .there) out) (up .below) in
       rate-of-child (treeOf u) disk j (omega (arith, a .level, up .up .level))
-      ∙ child-rate-same (treeOf u) (treeOf t) j _ node (same-shares (treeOf u .parent j) other) (same-weights (treeOf u .parent j) other)
+      ∙ child-rate-same (treeOf u) (treeOf t) j _ node (same-sums (treeOf u .parent j) other)
       ∙ ap (λ (r : ℕ). childRate (treeOf t) r j)
       (same-rate l disk (treeOf u .parent j) (up .up) (or-false-right (eqb (treeOf u .parent j) c) _ outside) ∙ ap (rateIn (treeOf t) disk) (node .parent))
       ∙ sym (rate-of-child (treeOf t) disk j (old .level))

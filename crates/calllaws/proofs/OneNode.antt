@@ -13,12 +13,13 @@ use Rattle.numbers.specs.Whole.{plus, minus}
 use Rattle.numbers.proofs.Tests.{by-test}
 use Rattle.numbers.proofs.Parts.{zarith}
 use Rattle.numbers.proofs.Sums.{sum-changed}
-use Rattle.table.specs.Limits.{nodes, rateAt, balanceAt, waitingAt, arrivalAt, root}
+use Rattle.table.specs.Limits.{nodes, rateAt, balanceAt, waitingAt, arrivalAt, fixed, root}
 use Rattle.table.specs.Places.{queuePlace, count, balance, waiting, arrival}
-use Rattle.table.specs.Tree.{Tree, treeOf, there, isClass, isFixed, childOf, countIf, sumUnder}
-use Rattle.table.specs.Rates.{fixedShare, weight, fixedSum, weightSum}
+use Rattle.table.specs.Tree.{Tree, treeOf, there, isClass, childOf, countIf, sumUnder}
+use Rattle.table.specs.Rates.{kindShare, kindSum}
 use Rattle.table.specs.Order.{childBalances}
-use Rattle.table.proofs.Facts.{Child, Class}
+use Rattle.table.proofs.Facts.{Child, Class, Stated}
+use Rattle.table.proofs.ShareKinds.{same-share}
 use Rattle.treelaws.proofs.Children.{ChildOf, child-facts, balances-parts, uncounted}
 use Rattle.table.proofs.Edits.{Edited, SameNode, edited-others}
 use Rattle.calllaws.proofs.Nodes.{Node, Ready, Sums, there-same, node-kept, differ-kept, root-kept, most-waiting}
@@ -26,14 +27,6 @@ use Rattle.calllaws.proofs.Nodes.{Node, Ready, Sums, there-same, node-k
 pub child-same : (new old : Tree) (c j : ℕ) → new .sort j ≡ old .sort j → new .parent j ≡ old .parent j → childOf new c j ≡ childOf old c j
 unfolding childOf
 child-same new old c j sorts parents = rw (there-same new old j sorts, parents)
-
-fixed-same : (new old : Tree) (j : ℕ) → SameNode new old j → fixedShare new j ≡ fixedShare old j
-unfolding fixedShare isFixed
-fixed-same new old j same = rw (same .kind, same .share)
-
-weight-same : (new old : Tree) (j : ℕ) → SameNode new old j → weight new j ≡ weight old j
-unfolding weight isFixed
-weight-same new old j same = rw (same .kind, same .share)
 
 pub no-child : (tree : Tree) (c k : ℕ) → (ChildOf tree c k → ⊥) → childOf tree c k ≡ false
 no-child tree c k h = by-test (childOf tree c k) (λ e. absurd (h (child-facts tree c k e))) (λ e. e)
@@ -63,13 +56,16 @@ module _ (t u : List ℤ) (k : ℕ) (f : ℕ → ℤ) (hk : k < nodes) (edited :
   others : (j : ℕ) → (j ≡ k → ⊥) → SameNode (treeOf u) (treeOf t) j
   others = edited-others t u k f edited
 
-  pub shares-changed : (c : ℕ) → fixedSum (treeOf u) c + countIf (childOf (treeOf t) c k) (fixedShare (treeOf t)) k ≡ fixedSum (treeOf t) c + countIf (childOf (treeOf u) c k) (fixedShare (treeOf u)) k
-  unfolding fixedSum
-  shares-changed c = under-changed (treeOf u) (treeOf t) k c (fixedShare (treeOf u)) (fixedShare (treeOf t)) hk others (λ j ne. fixed-same (treeOf u) (treeOf t) j (others j ne))
+  -- The shares of one kind.
+  pub kinds-changed : (kind c : ℕ) → kindSum (treeOf u) kind c + countIf (childOf (treeOf t) c k) (kindShare (treeOf t) kind) k ≡ kindSum (treeOf t) kind c + countIf (childOf (treeOf u) c k) (kindShare (treeOf u) kind) k
+  unfolding kindSum
+  kinds-changed kind c =
+      under-changed (treeOf u) (treeOf t) k c (kindShare (treeOf u) kind) (kindShare (treeOf t) kind) hk others
+      (λ j ne. same-share (treeOf u) (treeOf t) kind j j (others j ne .kind) (others j ne .share))
 
-  pub weights-changed : (c : ℕ) → weightSum (treeOf u) c + countIf (childOf (treeOf t) c k) (weight (treeOf t)) k ≡ weightSum (treeOf t) c + countIf (childOf (treeOf u) c k) (weight (treeOf u)) k
-  unfolding weightSum
-  weights-changed c = under-changed (treeOf u) (treeOf t) k c (weight (treeOf u)) (weight (treeOf t)) hk others (λ j ne. weight-same (treeOf u) (treeOf t) j (others j ne))
+  -- They sum to no more where the node is no child of class c afterwards.
+  pub kinds-fall : (kind c : ℕ) → childOf (treeOf u) c k ≡ false → kindSum (treeOf u) kind c ≤ kindSum (treeOf t) kind c
+  kinds-fall kind c no-child = omega (arith, kinds-changed kind c, uncounted (childOf (treeOf u) c k) (kindShare (treeOf u) kind) k no-child)
 
   pub depths-changed : (c : ℕ) → sumUnder (treeOf u) c (treeOf u .depth) + countIf (childOf (treeOf t) c k) (treeOf t .depth) k ≡ sumUnder (treeOf t) c (treeOf t .depth) + countIf (childOf (treeOf u) c k) (treeOf u .depth) k
   depths-changed c = under-changed (treeOf u) (treeOf t) k c (treeOf u .depth) (treeOf t .depth) hk others (λ j ne. others j ne .depth)
@@ -86,7 +82,7 @@ module _ (t u : List ℤ) (k : ℕ) (f : ℕ → ℤ) (hk : k < nodes) (edited :
   pub sums-fall : (c : ℕ) → childOf (treeOf u) c k ≡ false → (childOf (treeOf t) c k ≡ true → minus (balance t k) ≡ 0) → Class t c → Sums t u c
   sums-fall c no-child low class =
       record {
-        shares = omega (arith, class .shares, shares-changed c, uncounted (childOf (treeOf u) c k) (fixedShare (treeOf u)) k no-child);
+        shares = omega (arith, class .shares, kinds-fall fixed c no-child);
         depths = omega (arith, class .depths, depths-changed c, uncounted (childOf (treeOf u) c k) (treeOf u .depth) k no-child);
         balances =
             balances-changed c
@@ -97,9 +93,9 @@ module _ (t u : List ℤ) (k : ℕ) (f : ℕ → ℤ) (hk : k < nodes) (edited :
             ));
       }
 
-  pub edited-ready : (k ≡ 0 → ⊥) → waiting u k ≡ waiting t k → ((i : ℕ) → i < waiting t k → arrival u k i ≡ arrival t k i) → ((j : ℕ) → j < nodes → (j ≡ k → ⊥) → there (treeOf t) j ≡ true → (j ≡ 0 → ⊥) → Child (treeOf t) j → Child (treeOf u) j) → ((c : ℕ) → c < nodes → (c ≡ k → ⊥) → isClass (treeOf t) c ≡ true → Sums t u c) → Node u k → Ready t → Ready u
+  pub edited-ready : (k ≡ 0 → ⊥) → waiting u k ≡ waiting t k → ((i : ℕ) → i < waiting t k → arrival u k i ≡ arrival t k i) → ((j : ℕ) → j < nodes → (j ≡ k → ⊥) → there (treeOf t) j ≡ true → (j ≡ 0 → ⊥) → Child (treeOf t) j → Child (treeOf u) j) → ((c : ℕ) → c < nodes → (c ≡ k → ⊥) → isClass (treeOf t) c ≡ true → Sums t u c) → Node u k → Stated u → Ready t → Ready u
   unfolding count waiting arrival
-  edited-ready not-root waits arrivals child sums node r =
+  edited-ready not-root waits arrivals child sums node stated r =
       record {
         long = edited .long;
         counted = rw (edited .heading 0 (omega arith)) (r .counted);
@@ -127,4 +123,5 @@ module _ (t u : List ℤ) (k : ℕ) (f : ℕ → ℤ) (hk : k < nodes) (edited :
               | no ne ↦ ap plus (edited .others j (queuePlace i + arrivalAt) ne (omega (arith, most-waiting t j (r .node j hj))))
             ])
             r;
+        stated = stated;
       }

@@ -9,15 +9,17 @@ use lib.IntN.{ℤ, pos}
 use Rattle.numbers.specs.Whole.{plus}
 use Rattle.numbers.proofs.Tests.{true-false}
 use Rattle.numbers.proofs.Parts.{zarith, pos-of-within, plus-pos, minus-pos}
-use Rattle.table.specs.Limits.{recordLength, nodes, sortAt, parentAt, levelAt, kindAt, shareAt, depthAt, rateAt, balanceAt, waitingAt, root, wholeShare, greatestRate}
+use Rattle.table.specs.Limits.{recordLength, nodes, sortAt, parentAt, levelAt, kindAt, shareAt, depthAt, rateAt, balanceAt, waitingAt, fixed, stated, root, wholeShare, greatestRate}
 use Rattle.table.specs.Places.{place, rate as rateOf, waiting}
 use Rattle.table.specs.Tree.{treeOf, there}
-use Rattle.table.specs.Rates.{rateIn}
+use Rattle.table.specs.Rates.{kindShare, kindSum, rateIn}
 use Rattle.table.specs.Order.{inOrder}
 use Rattle.table.specs.Calls.{opened, openRefusal, openTable}
-use Rattle.table.proofs.Facts.{Limits, Root, from-facts}
+use Rattle.table.proofs.Facts.{Limits, Root, Stated, root-unstated, from-facts}
+use Rattle.table.proofs.ShareKinds.{limit-unstated}
 use Rattle.table.proofs.Refusals.{kept-new}
 use Rattle.treelaws.proofs.Renewed.{rate-at-root}
+use Rattle.treelaws.proofs.Children.{under-zero}
 use Rattle.table.proofs.Edits.{opened-edit, opened-place, opened-others, blank-header}
 use Rattle.table.proofs.Passed.{OpenPassed, open-passed}
 use Rattle.calllaws.proofs.Nodes.{Node, Ready, ready-in-order}
@@ -47,7 +49,7 @@ module _ (rate depth : ℤ) (passed : OpenPassed rate depth) where
         parent = rw (opened-root .parent) (omega (arith, zarith, plus-pos 0, minus-pos 0));
         level = rw (opened-root .level) (omega (arith, zarith, plus-pos 0, minus-pos 0));
         kind = rw (opened-root .kind) (omega (arith, zarith, plus-pos 0, minus-pos 0));
-        share = rw (opened-root .share) (omega (arith, zarith, plus-pos wholeShare, minus-pos wholeShare));
+        share = rw (opened-root .kind, opened-root .share, plus-pos fixed, limit-unstated fixed (omega arith)) (omega (arith, zarith, plus-pos wholeShare, minus-pos wholeShare));
         depth = rw (opened-edit rate depth .here depthAt (omega arith)) (passed .depths);
         waiting = rw (opened-place rate depth waitingAt (omega arith) (omega arith) (omega arith) (omega arith) (omega arith)) (omega (arith, zarith, plus-pos 0, minus-pos 0));
       }
@@ -77,6 +79,23 @@ module _ (rate depth : ℤ) (passed : OpenPassed rate depth) where
         | no ne ↦ ap plus (opened-others rate depth k waitingAt hk ne (omega arith)) ∙ plus-pos 0
       ]
 
+  -- No node is stated.
+  opened-stated : Stated (opened rate depth)
+  unfolding kindSum
+  opened-stated =
+      record {
+        under = λ k hk e s.
+            elim (ℕ-discrete k root) [
+              | yes same ↦ absurd (true-false (rw same at s) (root-unstated (opened rate depth) opened-root))
+              | no ne ↦ absurd (true-false e (opened-unused k hk ne))
+            ];
+        fits =
+            omega (
+              arith,
+              under-zero (treeOf (opened rate depth)) root (kindShare (treeOf (opened rate depth)) stated) (λ j hj child. absurd (true-false (child .there) (opened-unused j hj (child .below)))),
+            );
+      }
+
   opened-ready : Ready (opened rate depth)
   opened-ready =
       record {
@@ -86,6 +105,7 @@ module _ (rate depth : ℤ) (passed : OpenPassed rate depth) where
         root = opened-root;
         node = opened-nodes;
         differ = λ k hk i hi j hj l hl e. omega (arith, opened-waiting k hk);
+        stated = opened-stated;
       }
 
   -- The root has the disk's rate.

@@ -17,9 +17,9 @@ use Rattle.table.specs.Tree.{treeOf}
 use Rattle.table.specs.Rates.{renewed}
 use Rattle.table.specs.Order.{childBalance, childBalances, inOrder}
 use Rattle.table.specs.Refusals.{kept}
-use Rattle.table.proofs.Facts.{Root, Class, from-facts}
+use Rattle.table.proofs.Facts.{Root, Class, Stated, stated-kept, from-facts}
 use Rattle.table.proofs.Refusals.{kept-new, kept-old}
-use Rattle.treelaws.proofs.Renewed.{renewed-length, renewed-header, renewed-place, renewed-unused, renewed-tree, renewed-rate, renewed-rates, rate-at-root}
+use Rattle.treelaws.proofs.Renewed.{renewed-length, renewed-header, renewed-place, renewed-unused, renewed-tree, renewed-rate, renewed-disk, renewed-rates, rate-at-root}
 pub use Rattle.table.proofs.Facts.{root-there, root-level}
 use Rattle.calllaws.proofs.Nodes.{Ready, ready-in-order, SameRecord, Sums, node-kept, differ-kept, most-waiting, root-kept}
 
@@ -37,10 +37,11 @@ same-sums t u c trees h f =
       balances = let e = same-balances t u c trees h in omega (arith, zarith, ap plus e, ap minus e);
     }
 
--- A table that differs from a ready one at most in the rates of nodes that are there is ready if its root is.
-pub ready-but-rates : (t u : List ℤ) → Ready t → length u ≡ tableLength → ((p : ℕ) → p < headerLength → header u p ≡ header t p) → ((j : ℕ) → SameRecord t u j) → treeOf u ≡ treeOf t → Root u → Ready u
+-- A table that differs from a ready one at most in the rates of nodes that are there is ready if its root is, and its stated
+-- rates.
+pub ready-but-rates : (t u : List ℤ) → Ready t → length u ≡ tableLength → ((p : ℕ) → p < headerLength → header u p ≡ header t p) → ((j : ℕ) → SameRecord t u j) → treeOf u ≡ treeOf t → Root u → Stated u → Ready u
 unfolding count waiting arrival
-ready-but-rates t u f long headers same trees root =
+ready-but-rates t u f long headers same trees root stated =
     record {
       long = long;
       counted = rw (headers 0 (omega arith)) (f .counted);
@@ -56,6 +57,7 @@ ready-but-rates t u f long headers same trees root =
           (λ k hk. ap plus (same k .places waitingAt (omega arith) (omega arith)))
           (λ k hk i hi. ap plus (same k .places (queuePlace i + arrivalAt) (omega (arith, most-waiting t k (f .node k hk))) (omega arith)))
           f;
+      stated = stated;
     }
 
 -- The root keeps the disk's rate.
@@ -76,7 +78,8 @@ ready-renewed t f =
     (ready-but-rates t (renewed t) f (renewed-length t ∙ f .long) (renewed-header t)
     (λ j. record { places = renewed-place t j; unused = renewed-unused t j })
     (renewed-tree t)
-    (renewed-root t (f .long) (f .root)))
+    (renewed-root t (f .long) (f .root))
+    (stated-kept t (renewed t) (renewed-tree t) (renewed-disk t (f .long) (root-there t (f .root)) (root-level t (f .root))) (f .stated)))
     (renewed-rates t (f .long) (root-there t (f .root)) (root-level t (f .root))))
 
 -- A call whose accepted contents are in order keeps order, accepted or not.

@@ -20,7 +20,7 @@ use Rattle.table.specs.Tree.{treeOf, there, isClass}
 use Rattle.table.specs.Cost.{cost}
 use Rattle.table.specs.Order.{inOrder}
 use Rattle.table.specs.Calls.{requested, requestRefusal, requestTable}
-use Rattle.table.proofs.Facts.{Limits, Spare, Request, facts, from-facts}
+use Rattle.table.proofs.Facts.{Limits, Spare, Request, stated-kept, facts, from-facts}
 use Rattle.table.proofs.Cost.{size-within}
 use Rattle.treelaws.proofs.Renewed.{same-tree}
 use Rattle.table.proofs.Edits.{Requested, requested-edit}
@@ -122,7 +122,7 @@ module _ (t u : List ℤ) (k : ℕ) (tag size : ℤ) (hk : k < nodes) (more : Re
         parent = rw (before k parentAt (omega arith)) (f .parent);
         level = rw (before k levelAt (omega arith)) (f .level);
         kind = rw (before k kindAt (omega arith)) (f .kind);
-        share = rw (before k shareAt (omega arith)) (f .share);
+        share = rw (before k kindAt (omega arith), before k shareAt (omega arith)) (f .share);
         depth = rw (before k depthAt (omega arith)) (f .depth);
         waiting = rw (more .here waitingAt (omega arith)) (omega (arith, zarith, plus-pos (suc (waiting t k)), minus-pos (suc (waiting t k))));
       }
@@ -171,7 +171,7 @@ module _ (t u : List ℤ) (k : ℕ) (tag size : ℤ) (hk : k < nodes) (more : Re
       old = r .node k hk
 
   requested-ready : Ready t → RequestPassed t k size → waiting t k < mostWaiting → Ready u
-  unfolding count
+  unfolding count rate
   requested-ready r passed w =
       record {
         long = more .long;
@@ -189,6 +189,7 @@ module _ (t u : List ℤ) (k : ℕ) (tag size : ℤ) (hk : k < nodes) (more : Re
                   (r .node j hj)
             ];
         differ = new-differ r w;
+        stated = stated-kept t u requested-tree (ap plus (before root rateAt (omega arith))) (r .stated);
       }
 
 asked : (t : List ℤ) (node tag size : ℤ) → requestRefusal t node tag size ≡ 0 → inOrder (requested t (plus node) tag size) ≡ true

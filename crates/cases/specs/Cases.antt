@@ -2,14 +2,14 @@
 use Prim.Native.Nat.{suc, _+_, _-_}
 use mathlib.Core.List.{[], _∷_}
 use lib.IntN.{pos, negℤ}
-use Rattle.table.specs.Limits.{root, class, client, fixed, weighted, wholeShare, greatestRate, greatestCount, sortAt, parentAt, levelAt, kindAt, shareAt, depthAt, rateAt, balanceAt, waitingAt, spareAt, spareLength, tagAt, sizeAt, arrivalAt}
+use Rattle.table.specs.Limits.{root, class, client, fixed, weighted, stated, wholeShare, greatestRate, greatestCount, sortAt, parentAt, levelAt, kindAt, shareAt, depthAt, rateAt, balanceAt, waitingAt, spareAt, spareLength, tagAt, sizeAt, arrivalAt}
 use Rattle.table.specs.Places.{queuePlace}
 use Rattle.table.specs.Refusals.{refused}
-use Rattle.scenarios.specs.Scenario.{Scenario, disk, join, leave, changeRate, request, look, tick, dispatch, atPlace, atHeader, _gives_, _answers_leaving_, _lists_, fits, spoils, setBalance, number, seen, greatestNumber}
+use Rattle.scenarios.specs.Scenario.{Scenario, disk, join, leave, changeShare, changeRate, request, look, tick, dispatch, atPlace, atHeader, _gives_, _answers_leaving_, _lists_, fits, spoils, setBalance, number, seen, greatestNumber}
 
 -- The cases by name.
 pub data Case : Type 0 where
-  roundedDown lostByClasses emptyBuckets restOfList cutToDepth firstSupplier headerPlaces nodesInOrder sumsInOrder requestsInOrder : Case
+  roundedDown lostByClasses emptyBuckets restOfList cutToDepth firstSupplier headerPlaces nodesInOrder sumsInOrder requestsInOrder statedNodes : Case
 
 unfoldable pub scenario : Case → Scenario
 -- "rounded down", what the fixed shares leave too: of 1000, fixed 3333 gets 333, and 666 are left for one weight; of these
@@ -135,7 +135,7 @@ scenario nodesInOrder =
     ∷ spoils (atPlace 4 sortAt (pos class))
     ∷ spoils (atPlace 4 sortAt (pos 3))
     ∷ fits (atPlace 4 sortAt (pos client))
-    ∷ spoils (atPlace 4 kindAt (pos 2))
+    ∷ spoils (atPlace 4 kindAt (pos (suc stated)))
     ∷ fits (atPlace 4 kindAt (pos weighted))
     ∷ spoils (atPlace 4 shareAt (pos (suc wholeShare)))
     ∷ fits (atPlace 4 shareAt (pos wholeShare))
@@ -199,4 +199,32 @@ scenario requestsInOrder =
     ∷ spoils (atPlace 1 (queuePlace 1 + arrivalAt) (pos 1))
     ∷ fits (atPlace 1 (queuePlace 1 + arrivalAt) (pos 2))
     ∷ fits (atPlace 1 (queuePlace 1 + tagAt) (negℤ (pos 7)))
+    ∷ []
+-- Document 02, (f): a stated node is in order under the root, with its share for its rate. It is not with another rate, under
+-- another class, with an unknown kind, where the stated rates are above the disk's, or with a share above the greatest rate. Client
+-- 2, alone in its class, has the rate 700 by any weight, so that stated 700 would be its rate, too; where all of the disk's rate is
+-- stated its rate is 0. The root itself is fixed.
+scenario statedNodes =
+    disk 1000 40 gives number 0
+    ∷ join 1 root class weighted 1 20 gives number 0
+    ∷ join 2 1 client weighted 700 10 gives number 0
+    ∷ join 3 root client stated 300 10 gives number 0
+    ∷ spoils (atPlace 3 rateAt (pos 299))
+    ∷ fits (atPlace 3 rateAt (pos 300))
+    ∷ spoils (atPlace 3 kindAt (pos fixed))
+    ∷ fits (atPlace 3 kindAt (pos stated))
+    ∷ look 2 gives seen 700 (pos 0) 0 0
+    ∷ spoils (atPlace 2 kindAt (pos stated))
+    ∷ fits (atPlace 2 kindAt (pos weighted))
+    ∷ spoils (atPlace root kindAt (pos stated))
+    ∷ fits (atPlace root kindAt (pos fixed))
+    ∷ changeShare 3 stated 1000 gives number 0
+    ∷ spoils (atPlace 2 kindAt (pos (suc stated)))
+    ∷ fits (atPlace 2 kindAt (pos weighted))
+    ∷ spoils (atPlace root rateAt (pos 999))
+    ∷ fits (atPlace root rateAt (pos 1000))
+    ∷ changeRate greatestRate gives number 0
+    ∷ changeShare 3 stated greatestRate gives number 0
+    ∷ spoils (atPlace 3 shareAt (pos (suc greatestRate)))
+    ∷ fits (atPlace 3 shareAt (pos greatestRate))
     ∷ []

@@ -3,7 +3,7 @@
 use Prim.Native.Nat.{suc, _-_}
 use mathlib.Core.List.{[], _∷_}
 use lib.IntN.{pos, negℤ}
-use Rattle.table.specs.Limits.{nodes, lastNode, root, unused, class, client, fixed, weighted, wholeShare, greatestDepth, greatestRate, greatestCount}
+use Rattle.table.specs.Limits.{nodes, lastNode, root, unused, class, client, fixed, weighted, stated, wholeShare, greatestDepth, greatestRate, greatestCount}
 use Rattle.table.specs.Refusals.{refused}
 use Rattle.scenarios.specs.Scenario.{Scenario, openℤ, joinℤ, leaveℤ, changeShareℤ, changeRateℤ, requestℤ, lookℤ, same, disk, join, leave, changeShare, changeRate, request, look, tick, atHeader, oneLess, oneMore, _gives_, _lists_, _refuses_, keep, fits, spoils, setBalance, number, seen, greatestNumber}
 
@@ -68,16 +68,20 @@ scenario joinLimits =
     ∷ join 1 root unused weighted 1 1 gives refused 2
     ∷ join 1 root 3 weighted 1 1 gives refused 2
     ∷ joinℤ (pos 1) (pos root) (pos client) (negℤ (pos 1)) (pos 1) (pos 1) gives refused 2
-    ∷ join 1 root client 2 1 1 gives refused 2
+    ∷ join 1 root client (suc stated) 1 1 gives refused 2
     ∷ join 1 root client weighted 0 1 gives refused 2
     ∷ join 1 root client weighted (suc wholeShare) 1 gives refused 2
+    ∷ join 1 root client fixed (suc wholeShare) 1 gives refused 2
+    ∷ join 1 root client stated 0 1 gives refused 2
+    ∷ join 1 root client stated (suc greatestRate) 1 gives refused 2
     ∷ join 1 root client weighted 1 0 gives refused 2
     ∷ join 1 root client weighted 1 (suc greatestDepth) gives refused 2
     ∷ join 1 root client weighted wholeShare 40 gives number 0
     ∷ []
--- Join: 2 before 3, 3, 3 before 4, 4, 4 before 5, 5, 5 before 6, 6, 6 before 7, 7, 7 before 8, 8, and none.
+-- Join: 2 before 3, 3, 3 before 4, 4, 4 before 5, 5, 5 before 6, 6, 6 before 7, 7, 7 before 8, 8, 8 before 16, 16 by the parent,
+-- 8 before 16, 16 by the disk's rate, and none.
 scenario joins =
-    disk 1000 40 gives number 0
+    disk 1000 50 gives number 0
     ∷ join 1 root class fixed 5000 40 gives number 0
     ∷ join 2 1 class weighted 1 40 gives number 0
     ∷ join 3 2 class weighted 1 20 gives number 0
@@ -95,7 +99,12 @@ scenario joins =
     ∷ join 6 3 client fixed 1 1 gives refused 7
     ∷ join 6 3 client fixed 1 11 gives refused 7
     ∷ join 6 3 client weighted 1 11 gives refused 8
+    ∷ join 6 3 client stated 1 11 gives refused 8
+    ∷ join 6 3 client stated 1 10 gives refused 16
     ∷ join 6 3 client weighted 1 10 gives number 0
+    ∷ join 7 root client stated 1001 11 gives refused 8
+    ∷ join 7 root client stated 1001 10 gives refused 16
+    ∷ join 7 root client stated 1000 10 gives number 0
     ∷ []
 -- Leave: 5, 2 before 5, 2 before 3, 3, 5 before 9, 9 by children, 9 by waiting, 9 before 10, 10, and none: the rates are
 -- renewed.
@@ -123,39 +132,58 @@ scenario leaves =
     ∷ look 3 gives refused 3
     ∷ look 4 gives seen 500 (pos 0) 0 0
     ∷ []
--- Change share: 2, 2 before 3, 2 before 5, 3, 5, 7, and none: 500 are left, and weights 3 and 1 get 375 and 125.
+-- Change share: 2, 2 before 3, 2 before 5, 3, 5, 7, 16 by the disk's rate, 16 by the parent, and none: 500 are left, and weights 3
+-- and 1 get 375 and 125; with 200 stated, 800 are to be divided, and the one weight gets 400.
 scenario changesShare =
     disk 1000 40 gives number 0
-    ∷ join 1 root client fixed 5000 10 gives number 0
+    ∷ join 1 root class fixed 5000 10 gives number 0
     ∷ join 2 root client fixed 5000 10 gives number 0
     ∷ join 3 root client weighted 1 10 gives number 0
+    ∷ join 4 1 client weighted 1 10 gives number 0
     ∷ changeShareℤ (negℤ (pos 1)) (pos weighted) (pos 1) gives refused 2
     ∷ changeShare nodes weighted 1 gives refused 2
     ∷ changeShareℤ (pos 1) (negℤ (pos 1)) (pos 1) gives refused 2
-    ∷ changeShare 1 2 1 gives refused 2
+    ∷ changeShare 1 (suc stated) 1 gives refused 2
     ∷ changeShare 1 weighted 0 gives refused 2
     ∷ changeShare 1 weighted (suc wholeShare) gives refused 2
+    ∷ changeShare 1 fixed (suc wholeShare) gives refused 2
+    ∷ changeShare 1 stated 0 gives refused 2
+    ∷ changeShare 1 stated (suc greatestRate) gives refused 2
     ∷ changeShare 9 weighted 0 gives refused 2
     ∷ changeShare root weighted 0 gives refused 2
     ∷ changeShare 9 weighted 1 gives refused 3
     ∷ changeShare root fixed wholeShare gives refused 5
+    ∷ changeShare root stated 1000 gives refused 5
     ∷ changeShare 2 fixed 5001 gives refused 7
     ∷ changeShare 3 fixed 1 gives refused 7
+    ∷ changeShare 3 stated 1001 gives refused 16
+    ∷ changeShare 4 stated 1 gives refused 16
     ∷ changeShare 2 fixed 5000 gives number 0
     ∷ changeShare 2 weighted 3 gives number 0
     ∷ look 2 gives seen 375 (pos 0) 0 0
     ∷ look 3 gives seen 125 (pos 0) 0 0
+    ∷ changeShare 3 stated 200 gives number 0
+    ∷ look 2 gives seen 400 (pos 0) 0 0
+    ∷ look 3 gives seen 200 (pos 0) 0 0
     ∷ []
--- Change rate: 2, and none.
+-- Change rate: 2 before 16, 2, 16, 1 before 16, and none: fixed 5000 gets half of the rate less stated 600.
 scenario changesRate =
     disk 1000 40 gives number 0
     ∷ join 1 root client fixed 5000 10 gives number 0
+    ∷ join 2 root client stated 600 10 gives number 0
     ∷ changeRate 0 gives refused 2
     ∷ changeRateℤ (negℤ (pos 1)) gives refused 2
     ∷ changeRate (suc greatestRate) gives refused 2
+    ∷ changeRate 599 gives refused 16
+    ∷ spoils (atHeader 1 (pos 1))
+    ∷ changeRate 599 gives refused 1
+    ∷ fits (atHeader 1 (pos 0))
+    ∷ changeRate 600 gives number 0
+    ∷ look 1 gives seen 0 (pos 0) 0 0
     ∷ changeRate greatestRate gives number 0
-    ∷ look root gives seen greatestRate (pos 0) 0 500000000
-    ∷ look 1 gives seen 500000000 (pos 0) 0 0
+    ∷ look root gives seen greatestRate (pos 0) 0 499999700
+    ∷ look 1 gives seen 499999700 (pos 0) 0 0
+    ∷ look 2 gives seen 600 (pos 0) 0 0
     ∷ []
 -- Request: 2, 2 before 3, 2 before 5, 3 before 8, 5, 5 before 8, 8, none, 11, 8 before 11, 11 before 12, 12, and the last
 -- number. At depth 16 size 12 costs 16, and 13 costs 17. A tag is any number.

@@ -5,15 +5,16 @@ use mathlib.Core.List.{List}
 use native.Mathlib.Omega.{arith}
 use borrow.Author.Tests.{not-false}
 use lib.IntN.{ℤ, pos}
-use Rattle.numbers.specs.Whole.{withinℤ}
+use Rattle.numbers.specs.Whole.{plus, withinℤ}
 use Rattle.numbers.proofs.Every.{head-holds, rest-hold}
 use Rattle.numbers.proofs.Parts.{zarith, pos-of-within}
-use Rattle.table.specs.Limits.{lastNode, balanceAt, class, client, fixed, weighted, wholeShare, greatestDepth}
+use Rattle.table.specs.Limits.{lastNode, balanceAt, class, client, fixed, stated, greatestDepth, shareLimit}
 use Rattle.table.specs.Order.{inOrder}
 use Rattle.table.specs.Tree.{treeOf}
 use Rattle.table.specs.Calls.{joinRefusal}
 use Rattle.table.proofs.Facts.{facts}
 use Rattle.table.proofs.Refusals.{none-first}
+use Rattle.table.proofs.ShareKinds.{limit-le}
 use Rattle.table.proofs.Passed.{long, join-passed}
 use Rattle.treelaws.specs.Joins.{Join, refusalOf}
 use Rattle.joining.specs.declared.NewNode.{NewNode}
@@ -24,8 +25,8 @@ record Within (j : Join) : Type 0 where
   node : withinℤ 1 lastNode (j .node) ≡ true
   parent : withinℤ 0 lastNode (j .parent) ≡ true
   sort : withinℤ class client (j .sort) ≡ true
-  kind : withinℤ fixed weighted (j .kind) ≡ true
-  share : withinℤ 1 wholeShare (j .share) ≡ true
+  kind : withinℤ fixed stated (j .kind) ≡ true
+  share : withinℤ 1 (shareLimit (plus (j .kind))) (j .share) ≡ true
   depth : withinℤ 1 greatestDepth (j .depth) ≡ true
 
 within : (j : Join) → joinLimits j ≡ true → Within j
@@ -45,7 +46,7 @@ within j l1 =
     }
 
 limited : (n : NewNode) (j : Join) → Natural n j → joinLimits j ≡ true → Limited n
-limited n j same h = let w = within j h in omega (arith, zarith)
+limited n j same h = let w = within j h in omega (arith, zarith, limit-le (plus (j .kind)))
 
 pub as-asked : (n : NewNode) (j : Join) → Natural n j → joinLimits j ≡ true → joinOf n ≡ j
 unfolding joinOf

@@ -1,6 +1,7 @@
--- The fixed shares and depths under the parent as join would leave them, from the sums as they are: causes 7 and 8.
+-- The fixed shares and depths under the parent, and the stated rates, as join would leave them, from the sums as they are:
+-- causes 7, 8 and 16.
 use Prim.Native.Nat.{ℕ, suc, _+_, _-_, _≤_, _<_}
-use mathlib.Core.Path.{_≡_, ap}
+use mathlib.Core.Path.{_≡_, ap, _∙_}
 use mathlib.Core.Bool.{true, false, not, cond}
 use mathlib.Core.List.{List}
 use native.Mathlib.Omega.{arith}
@@ -9,17 +10,20 @@ use lib.Dec.{eqb, ltb}
 use lib.IntN.{ℤ, pos}
 use Rattle.numbers.specs.Whole.{plus}
 use Rattle.numbers.proofs.Tests.{by-test, true-false}
-use Rattle.numbers.proofs.Parts.{zarith}
-use Rattle.table.specs.Limits.{nodes, fixed, wholeShare, greatestDepth}
+use Rattle.numbers.proofs.Parts.{zarith, plus-pos}
+use Rattle.table.specs.Limits.{nodes, root, fixed, stated, wholeShare, greatestDepth, kindAt}
 use Rattle.table.specs.Tree.{Tree, treeOf, there, childOf, sumUnder}
-use Rattle.table.specs.Rates.{fixedShare, fixedSum}
-use Rattle.table.specs.Calls.{sharesAbove, depthsAbove}
+use Rattle.table.specs.Rates.{kindShare, fixedSum}
+use Rattle.table.specs.Calls.{sharesAbove, depthsAbove, statedWrong}
 use Rattle.table.proofs.Facts.{InOrder, Class, facts, class-or-client}
 use Rattle.table.proofs.Edits.{Edited, NodeIs, joinedPlace, joined-edit, joined-node, joined-others}
+use Rattle.table.proofs.ShareKinds.{other-share}
 use Rattle.treelaws.specs.Joins.{joinedBy}
+use Rattle.treelaws.specs.Stated.{statedWrongWith}
 use Rattle.treelaws.proofs.Children.{child-facts, child-of, counted, uncounted}
-use Rattle.calllaws.proofs.OneNode.{shares-changed, depths-changed}
-use Rattle.rating.proofs.Rated.{fixed-of}
+use Rattle.calllaws.proofs.OneNode.{kinds-changed, depths-changed}
+use Rattle.calllaws.proofs.StatedAfter.{stated-after}
+use Rattle.rating.proofs.Rated.{share-of}
 use Rattle.joining.specs.declared.NewNode.{NewNode}
 use Rattle.joining.specs.NewNodes.{joinOf, Placeable}
 
@@ -59,19 +63,23 @@ module _ (t : List ℤ) (n : NewNode) (p : Placeable t n) where
   unfolding joinedBy joinOf plus
   node = joined-node t (n .node) (n .parent) _ _ _ _ (ordered .long) low
 
+  new-there : there (treeOf (joinedBy t (joinOf n))) (n .node) ≡ true
+  new-there = there-by-sort _ (n .node) (rw (node .sort) (p .judged .limits .sort-least))
+
+  below-root : n .node ≡ root → ⊥
+  below-root = let l = p .judged .limits in omega arith
+
   new-child : childOf (treeOf (joinedBy t (joinOf n))) (n .parent) (n .node) ≡ true
-  new-child =
-      let l = p .judged .limits in
-      child-of _ _ (n .node) (record { there = there-by-sort _ (n .node) (rw (node .sort) (l .sort-least)); below = omega arith; parent = node .parent })
+  new-child = child-of _ _ (n .node) (record { there = new-there; below = below-root; parent = node .parent })
 
   shares : fixedSum (treeOf (joinedBy t (joinOf n))) (n .parent) ≡ fixedSum (treeOf t) (n .parent) + cond (eqb (n .kind) fixed) (n .share) 0 - 0
   shares =
       omega (
         arith,
-        shares-changed t _ (n .node) _ low edited (n .parent),
-        uncounted (childOf (treeOf t) (n .parent) (n .node)) (fixedShare (treeOf t)) (n .node) (no-child (treeOf t) (n .parent) (n .node) (p .unused)),
-        counted (childOf (treeOf (joinedBy t (joinOf n))) (n .parent) (n .node)) (fixedShare (treeOf (joinedBy t (joinOf n)))) (n .node) new-child,
-        fixed-of (treeOf (joinedBy t (joinOf n))) (n .node) (n .kind) (n .share) (node .kind) (node .share),
+        kinds-changed t _ (n .node) _ low edited fixed (n .parent),
+        uncounted (childOf (treeOf t) (n .parent) (n .node)) (kindShare (treeOf t) fixed) (n .node) (no-child (treeOf t) (n .parent) (n .node) (p .unused)),
+        counted (childOf (treeOf (joinedBy t (joinOf n))) (n .parent) (n .node)) (kindShare (treeOf (joinedBy t (joinOf n))) fixed) (n .node) new-child,
+        share-of (treeOf (joinedBy t (joinOf n))) fixed (n .node) (n .kind) (n .share) (node .kind) (node .share),
       )
 
   depths : sumUnder (treeOf (joinedBy t (joinOf n))) (n .parent) (treeOf (joinedBy t (joinOf n)) .depth) ≡ sumUnder (treeOf t) (n .parent) (treeOf t .depth) + n .depth
@@ -93,3 +101,13 @@ module _ (t : List ℤ) (n : NewNode) (p : Placeable t n) where
   depths-with =
       let apart : n .parent ≡ n .node → ⊥ = λ e. true-false (p .there) (rw e (p .unused)) in
       rw (depths, joined-others t (n .node) (n .parent) _ _ _ _ (ordered .long) low (n .parent) apart .depth)
+
+  -- The node was unused, so it added nothing to the stated rates.
+  nothing-before : kindShare (treeOf t) stated (n .node) ≡ 0
+  unfolding treeOf
+  nothing-before = other-share (treeOf t) stated (n .node) (λ e. omega (arith, ap plus (ordered .empty (n .node) low (p .unused) kindAt (omega arith)), plus-pos 0))
+
+  pub stated-with : statedWrong (joinedBy t (joinOf n)) ≡ statedWrongWith t (n .parent) 0 (n .kind) (n .share)
+  stated-with =
+      stated-after t _ (n .node) (n .parent) (n .kind) (n .share) _ ordered low edited below-root new-there (node .parent) (node .kind) (node .share)
+      ∙ ap (λ (old : ℕ). statedWrongWith t (n .parent) old (n .kind) (n .share)) nothing-before

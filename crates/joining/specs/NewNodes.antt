@@ -1,5 +1,5 @@
 -- The joining node as natural numbers: what join's arguments make of it, and the join that it stands for.
-use Prim.Native.Nat.{_≤_}
+use Prim.Native.Nat.{ℕ, _≤_}
 use mathlib.Core.Path.{_≡_}
 use mathlib.Core.Bool.{Bool, true, false}
 use mathlib.Core.List.{List, [], _∷_}
@@ -7,10 +7,12 @@ use lib.ListN.{length}
 use lib.IntN.{ℤ, pos}
 use Rattle.numbers.specs.Whole.{plus, withinℤ}
 use Rattle.numbers.specs.Tests.{every}
-use Rattle.table.specs.Limits.{tableLength, lastNode, lastLevel, balanceAt, class, client, fixed, weighted, wholeShare, greatestDepth}
+use Rattle.table.specs.Limits.{tableLength, lastNode, lastLevel, balanceAt, class, client, fixed, stated, greatestDepth, greatestRate, shareLimit}
 use Rattle.table.specs.Places.{place}
 use Rattle.table.specs.Tree.{treeOf, there, isClient}
 use Rattle.table.specs.Order.{inOrder}
+use Rattle.table.specs.Refusals.{cause, first}
+use Rattle.table.specs.Calls.{sharesAbove, depthsAbove, statedWrong}
 use Rattle.treelaws.specs.Joins.{Join}
 use Rattle.joining.specs.declared.NewNode.{NewNode}
 
@@ -26,10 +28,14 @@ joinLimits j =
     (withinℤ 1 lastNode (j .node)
     ∷ withinℤ 0 lastNode (j .parent)
     ∷ withinℤ class client (j .sort)
-    ∷ withinℤ fixed weighted (j .kind)
-    ∷ withinℤ 1 wholeShare (j .share)
+    ∷ withinℤ fixed stated (j .kind)
+    ∷ withinℤ 1 (shareLimit (plus (j .kind))) (j .share)
     ∷ withinℤ 1 greatestDepth (j .depth)
     ∷ [])
+
+-- The causes that go by the sums of the table as the join would leave it, under class c.
+unfoldable pub sumsRefusal : List ℤ → ℕ → ℕ
+sumsRefusal t c = first (cause 7 (sharesAbove t c) ∷ cause 8 (depthsAbove t c) ∷ cause 16 (statedWrong t) ∷ [])
 
 -- A node has the natural parts of a join's arguments.
 pub record Natural (n : NewNode) (j : Join) : Type 0 where
@@ -51,8 +57,8 @@ pub record Limited (n : NewNode) : Type 0 where
   pub parent : n .parent ≤ lastNode
   pub sort-least : class ≤ n .sort
   pub sort : n .sort ≤ client
-  pub kind : n .kind ≤ weighted
-  pub share : n .share ≤ wholeShare
+  pub kind : n .kind ≤ stated
+  pub share : n .share ≤ greatestRate
   pub depth : n .depth ≤ greatestDepth
 
 -- A table and a node that the first two causes do not turn back.

@@ -7,10 +7,11 @@ ghost use lib.ListN.{length};
 ghost use Rattle.numbers.specs.Tests.{every};
 ghost use Rattle.table.specs.Limits.{tableLength, lastNode, lastClassLevel, class};
 ghost use Rattle.table.specs.Tree.{treeOf};
+ghost use Rattle.table.specs.Refusals.{lastRefusal};
 ghost use Rattle.table.specs.Answers.{told};
-ghost use Rattle.table.specs.Calls.{sharesAbove, depthsAbove, joinTable, joinAnswer};
+ghost use Rattle.table.specs.Calls.{sharesAbove, depthsAbove, statedWrong, joinTable, joinAnswer};
 ghost use Rattle.treelaws.specs.Joins.{refusalOf, joinedBy};
-ghost use Rattle.joining.specs.NewNodes.{asked, joinLimits, Natural, joinOf, Judged, Placeable, Writable};
+ghost use Rattle.joining.specs.NewNodes.{asked, joinLimits, sumsRefusal, Natural, joinOf, Judged, Placeable, Writable};
 use table::Answer;
 use table::Table;
 
@@ -30,8 +31,9 @@ fn join_limits(node: i64, parent: i64, sort: i64, kind: i64, share: i64, depth: 
     let node_fits = numbers::within(node, 1, Table::LAST_NODE);
     let parent_fits = numbers::within(parent, 0, Table::LAST_NODE);
     let sort_fits = numbers::within(sort, Table::CLASS, Table::CLIENT);
-    let kind_fits = numbers::within(kind, 0, Table::WEIGHTED);
-    let share_fits = numbers::within(share, 1, Table::WHOLE_SHARE);
+    let kind_fits = numbers::within(kind, Table::FIXED, Table::STATED);
+    let most = Table::share_limit(numbers::natural(kind));
+    let share_fits = numbers::within(share, 1, most);
     let depth_fits = numbers::within(depth, 1, Table::GREATEST_DEPTH);
     node_fits & parent_fits & sort_fits & kind_fits & share_fits & depth_fits
 }
@@ -76,11 +78,37 @@ fn depths_above(table: &[i64], new: NewNode) -> bool
         < rating::sums::sum_under(table, rating::sums::Summand::Depths, new.parent) + new.depth
 }
 
+// Whether the node would be stated elsewhere than under the root, or the stated rates would be above the disk's.
+fn stated_wrong(table: &[i64], new: NewNode) -> bool
+    requires { ⌜ Placeable (now table) new ⌝ }
+    ensures { λ r. ⌜ r ≡ statedWrong (joinedBy (now (table .entry)) (joinOf new)) ⌝ }
+{
+    rating::sums::stated_wrong(table, new.parent, 0, new.kind, new.share)
+}
+
+// The number of the first cause in the sums that turns the node back, or 0.
+fn sums_refusal(table: &[i64], new: NewNode) -> u64
+    requires { ⌜ Placeable (now table) new ⌝ }
+    ensures first { λ r. ⌜ r ≡ sumsRefusal (joinedBy (now (table .entry)) (joinOf new)) (new .parent) ⌝ }
+    ensures small { λ r. ⌜ r ≤ lastRefusal ⌝ }
+{
+    if shares_above(table, new) {
+        return 7;
+    }
+    if depths_above(table, new) {
+        return 8;
+    }
+    if stated_wrong(table, new) {
+        return 16;
+    }
+    0
+}
+
 // The number of the first cause in the tree that turns the node back, or 0.
 fn tree_refusal(table: &[i64], new: NewNode) -> u64
     requires { ⌜ Judged (now table) new ⌝ }
     ensures first { λ r. ⌜ r ≡ refusalOf (now (table .entry)) (joinOf new) ⌝ }
-    ensures small { λ r. ⌜ r ≤ 8 ⌝ }
+    ensures small { λ r. ⌜ r ≤ lastRefusal ⌝ }
 {
     if !rating::tree::there(table, new.parent) {
         return 3;
@@ -94,13 +122,7 @@ fn tree_refusal(table: &[i64], new: NewNode) -> u64
     if level_too_low(table, new) {
         return 6;
     }
-    if shares_above(table, new) {
-        return 7;
-    }
-    if depths_above(table, new) {
-        return 8;
-    }
-    0
+    sums_refusal(table, new)
 }
 
 // The number of the first cause that turns join back, or 0.
@@ -114,7 +136,7 @@ fn join_refusal(
     depth: i64,
 ) -> u64
     ensures first { λ r. ⌜ r ≡ refusalOf (now (table .entry)) (asked node parent sort kind share depth) ⌝ }
-    ensures small { λ r. ⌜ r ≤ 8 ⌝ }
+    ensures small { λ r. ⌜ r ≤ lastRefusal ⌝ }
 {
     if !order::in_order(table) {
         return 1;

@@ -1,70 +1,104 @@
 -- The plan's kinds one by one: the kind of a sort and a share kind stands for them, and a kind is that of what it stands
 -- for.
 use Prim.Native.Nat.{ℕ, zero, suc, _≤_}
-use mathlib.Core.Path.{_≡_, refl, sym}
-use mathlib.Core.Bool.{_||_}
+use mathlib.Core.Path.{_≡_, refl}
+use mathlib.Core.Bool.{Bool, true, false, cond, _||_}
 use native.Mathlib.Omega.{arith}
-use borrow.Author.Tests.{eqb-true, eqb-false}
 use lib.Dec.{eqb}
 use Rattle.numbers.proofs.Tests.{by-test}
-use Rattle.table.specs.Limits.{class, client, fixed, weighted}
-use Rattle.layout.specs.declared.Share.the-variants.{Fixed, Weighted}
+use Rattle.table.specs.Limits.{class, client, fixed, weighted, stated}
+use Rattle.layout.specs.declared.Share.the-variants.{Fixed, Weighted, Stated}
 use Rattle.layout.specs.declared.Sort.{Sort}
 use Rattle.layout.specs.declared.Sort.the-variants.{Class, Client}
-use Rattle.layout.specs.Kinds.{classFixed, classWeighted, kindOf, sortOf, shareKindOf}
-use Rattle.layout.specs.Format.{lastKind}
-use Rattle.layout.specs.Nodes.{weightedIn, heldBy, sortIn, kindIn}
+use Rattle.layout.specs.Kinds.{classFixed, classWeighted, classStated, clientWeighted, clientStated, kindOf, sortOf, shareKindOf}
+use Rattle.layout.specs.Nodes.{shareKindIn, heldBy, sortIn, kindIn}
 
-pub sort-of-kind : (sort shareKind : ℕ) → class ≤ sort → sort ≤ client → sortOf (kindOf sort shareKind) ≡ sort
+-- The two sorts and the three share kinds, one by one.
+each-sort : (P : ℕ → Type 0) → P class → P client → (n : ℕ) → class ≤ n → n ≤ client → P n
+each-sort P a b zero low high = absurd (omega arith)
+each-sort P a b (suc zero) low high = a
+each-sort P a b (suc (suc zero)) low high = b
+each-sort P a b (suc (suc (suc n))) low high = absurd (omega arith)
+
+each-share : (P : ℕ → Type 0) → P fixed → P weighted → P stated → (n : ℕ) → n ≤ stated → P n
+each-share P a b c zero h = a
+each-share P a b c (suc zero) h = b
+each-share P a b c (suc (suc zero)) h = c
+each-share P a b c (suc (suc (suc n))) h = absurd (omega arith)
+
+pub sort-of-kind : (sort shareKind : ℕ) → class ≤ sort → sort ≤ client → shareKind ≤ stated → sortOf (kindOf sort shareKind) ≡ sort
 unfolding sortOf kindOf
-sort-of-kind sort shareKind low high =
-    by-test (eqb sort class)
-    (λ a. let same = sym (eqb-true sort class a) in by-test (eqb shareKind fixed) (λ b. rw (a, b) same) (λ b. rw (a, b) same))
-    (λ a.
-    let same : client ≡ sort = omega (arith, eqb-false sort class a) in
-    by-test (eqb shareKind fixed) (λ b. rw (a, b) same) (λ b. rw (a, b) same))
+sort-of-kind sort shareKind low high small =
+    each-sort (λ s. sortOf (kindOf s shareKind) ≡ s)
+    (each-share (λ k. sortOf (kindOf class k) ≡ class) refl refl refl shareKind small)
+    (each-share (λ k. sortOf (kindOf client k) ≡ client) refl refl refl shareKind small)
+    sort low high
 
-pub share-of-kind : (sort shareKind : ℕ) → shareKind ≤ weighted → shareKindOf (kindOf sort shareKind) ≡ shareKind
+pub share-of-kind : (sort shareKind : ℕ) → class ≤ sort → sort ≤ client → shareKind ≤ stated → shareKindOf (kindOf sort shareKind) ≡ shareKind
 unfolding shareKindOf kindOf
-share-of-kind sort shareKind high =
-    by-test (eqb shareKind fixed)
-    (λ b. let same = sym (eqb-true shareKind fixed b) in by-test (eqb sort class) (λ a. rw (a, b) same) (λ a. rw (a, b) same))
-    (λ b.
-    let same : weighted ≡ shareKind = omega (arith, eqb-false shareKind fixed b) in
-    by-test (eqb sort class) (λ a. rw (a, b) same) (λ a. rw (a, b) same))
+share-of-kind sort shareKind low high small =
+    each-sort (λ s. shareKindOf (kindOf s shareKind) ≡ shareKind)
+    (each-share (λ k. shareKindOf (kindOf class k) ≡ k) refl refl refl shareKind small)
+    (each-share (λ k. shareKindOf (kindOf client k) ≡ k) refl refl refl shareKind small)
+    sort low high
 
-pub kind-again : (kind : ℕ) → kind ≤ lastKind → kindOf (sortOf kind) (shareKindOf kind) ≡ kind
+pub kind-again : (kind : ℕ) → kind ≤ clientStated → kindOf (sortOf kind) (shareKindOf kind) ≡ kind
 unfolding sortOf shareKindOf kindOf
 kind-again zero h = refl
 kind-again (suc zero) h = refl
 kind-again (suc (suc zero)) h = refl
 kind-again (suc (suc (suc zero))) h = refl
-kind-again (suc (suc (suc (suc kind)))) h = absurd (omega arith)
+kind-again (suc (suc (suc (suc zero)))) h = refl
+kind-again (suc (suc (suc (suc (suc zero))))) h = refl
+kind-again (suc (suc (suc (suc (suc (suc kind)))))) h = absurd (omega arith)
 
 -- A kind stands for a class or a client.
 pub sort-limits : (kind : ℕ) → (class ≤ sortOf kind) × (sortOf kind ≤ client)
 unfolding sortOf
 sort-limits kind =
-    by-test (eqb kind classFixed || eqb kind classWeighted) (λ e. rw e (omega arith, omega arith)) (λ e. rw e (omega arith, omega arith))
+    by-test (eqb kind classFixed || eqb kind classWeighted || eqb kind classStated) (λ e. rw e (omega arith, omega arith)) (λ e. rw e (omega arith, omega arith))
 
-pub kind-small : (sort shareKind : ℕ) → kindOf sort shareKind ≤ lastKind
+-- The greatest kind; of nodes that are not stated, and so the other way round, that of the first edition.
+cond-le : (b : Bool) (x y m : ℕ) → x ≤ m → y ≤ m → cond b x y ≤ m
+cond-le true x y m hx hy = hx
+cond-le false x y m hx hy = hy
+
+pub kind-small : (sort shareKind : ℕ) → kindOf sort shareKind ≤ clientStated
 unfolding kindOf
 kind-small sort shareKind =
-    by-test (eqb sort class)
-    (λ a. by-test (eqb shareKind fixed) (λ b. rw (a, b) (omega arith)) (λ b. rw (a, b) (omega arith)))
-    (λ a. by-test (eqb shareKind fixed) (λ b. rw (a, b) (omega arith)) (λ b. rw (a, b) (omega arith)))
+    cond-le (eqb sort class) _ _ clientStated
+    (cond-le (eqb shareKind fixed) _ _ clientStated (omega arith) (cond-le (eqb shareKind stated) _ _ clientStated (omega arith) (omega arith)))
+    (cond-le (eqb shareKind fixed) _ _ clientStated (omega arith) (cond-le (eqb shareKind stated) _ _ clientStated (omega arith) (omega arith)))
+
+pub first-kind : (sort shareKind : ℕ) → shareKind ≤ weighted → kindOf sort shareKind ≤ clientWeighted
+unfolding kindOf
+first-kind sort zero h = cond-le (eqb sort class) _ _ clientWeighted (omega arith) (omega arith)
+first-kind sort (suc zero) h = cond-le (eqb sort class) _ _ clientWeighted (omega arith) (omega arith)
+first-kind sort (suc (suc shareKind)) h = absurd (omega arith)
+
+pub unstated-kind : (kind : ℕ) → kind ≤ clientWeighted → shareKindOf kind ≤ weighted
+unfolding shareKindOf
+unstated-kind zero h = omega arith
+unstated-kind (suc zero) h = omega arith
+unstated-kind (suc (suc zero)) h = omega arith
+unstated-kind (suc (suc (suc zero))) h = omega arith
+unstated-kind (suc (suc (suc (suc kind)))) h = absurd (omega arith)
 
 -- The sort and the share kind of a node of the code are those that its kind stands for.
 pub sort-in-kind : (x : Sort) → sortOf (kindIn x) ≡ sortIn x
-unfolding sortOf kindIn kindOf sortIn weightedIn heldBy
+unfolding sortOf kindIn kindOf sortIn shareKindIn heldBy
 sort-in-kind (Class (Fixed n)) = refl
 sort-in-kind (Class (Weighted n)) = refl
+sort-in-kind (Class (Stated n)) = refl
 sort-in-kind (Client (Fixed n)) = refl
 sort-in-kind (Client (Weighted n)) = refl
+sort-in-kind (Client (Stated n)) = refl
 
-pub share-in-kind : (x : Sort) → shareKindOf (kindIn x) ≡ weightedIn (heldBy x)
-unfolding shareKindOf kindIn kindOf sortIn heldBy weightedIn
+pub share-in-kind : (x : Sort) → shareKindOf (kindIn x) ≡ shareKindIn (heldBy x)
+unfolding shareKindOf kindIn kindOf sortIn heldBy shareKindIn
 share-in-kind (Class (Fixed n)) = refl
 share-in-kind (Class (Weighted n)) = refl
+share-in-kind (Class (Stated n)) = refl
 share-in-kind (Client (Fixed n)) = refl
 share-in-kind (Client (Weighted n)) = refl
+share-in-kind (Client (Stated n)) = refl

@@ -7,6 +7,7 @@ use native.Mathlib.Omega.{arith}
 use native.Mathlib.Nat.{add-zero, zero-add}
 use lib.ListN.{length, take, drop, set, length-append, take-append-drop}
 use lib.Seq.{length-take-le, take-at, drop-append-add, drop-drop, set-split}
+use Rattle.layout.specs.declared.Edition.{Edition}
 use Rattle.layout.specs.Bytes.{bytesBelow}
 use Rattle.layout.specs.Format.{Plan, entryAt, headBytes, entryBytes, bodyBytes, bytesOf}
 use Rattle.layout.specs.Written.{written}
@@ -59,19 +60,19 @@ module _ (w : ℕ) (f : ℕ → List ℕ) (each : (i : ℕ) → length (f i) ≡
       h ∙ ap (λ (v : List ℕ). written v c (f i)) so-far ∙ written-more b a (bytesBelow i f) (omega arith) c (f i) (omega arith) ∙ ap (written b a) (sym (bytes-next i f))
 
 -- The head, the entries and the bodies written in turn are the plan written.
-pub plan-written : (p : Plan) (n : ℕ) (b h e r : List ℕ) → n ≡ p .count → entryAt n ≤ length b → h ≡ written b 0 (headBytes p) → e ≡ written h (entryAt 0) (bytesBelow n (entryBytes p)) → r ≡ written e (entryAt n) (bytesBelow n (bodyBytes p)) → r ≡ written b 0 (bytesOf p)
+pub plan-written : (e : Edition) (p : Plan) (n : ℕ) (b h c r : List ℕ) → n ≡ p .count → entryAt e n ≤ length b → h ≡ written b 0 (headBytes e p) → c ≡ written h (entryAt e 0) (bytesBelow n (entryBytes e p)) → r ≡ written c (entryAt e n) (bytesBelow n (bodyBytes e p)) → r ≡ written b 0 (bytesOf e p)
 unfolding bytesOf
-plan-written p n b h e r count room head entries bodies =
+plan-written e p n b h c r count room head entries bodies =
     bodies
-    ∙ ap (λ (v : List ℕ). written v (entryAt n) (below bodyBytes)) front
-    ∙ written-more b 0 (headBytes p ++ below entryBytes) (omega (arith, long)) (entryAt n) (below bodyBytes) (omega (arith, long))
-    ∙ ap (λ (m : ℕ). written b 0 (headBytes p ++ bytesBelow m (entryBytes p) ++ bytesBelow m (bodyBytes p))) count
+    ∙ ap (λ (v : List ℕ). written v (entryAt e n) (below bodyBytes)) front
+    ∙ written-more b 0 (headBytes e p ++ below entryBytes) (omega (arith, long)) (entryAt e n) (below bodyBytes) (omega (arith, long))
+    ∙ ap (λ (m : ℕ). written b 0 (headBytes e p ++ bytesBelow m (entryBytes e p) ++ bytesBelow m (bodyBytes e p))) count
   where
-    below : (Plan → ℕ → List ℕ) → List ℕ
-    below part = bytesBelow n (part p)
+    below : (Edition → Plan → ℕ → List ℕ) → List ℕ
+    below part = bytesBelow n (part e p)
 
-    long : length (headBytes p ++ below entryBytes) ≡ entryAt n
-    long = length-append (headBytes p) (below entryBytes) ∙ omega (arith, length-head p, length-entries p n)
+    long : length (headBytes e p ++ below entryBytes) ≡ entryAt e n
+    long = length-append (headBytes e p) (below entryBytes) ∙ omega (arith, length-head e p, length-entries e p n)
 
-    front : e ≡ written b 0 (headBytes p ++ below entryBytes)
-    front = entries ∙ ap (λ (v : List ℕ). written v (entryAt 0) (below entryBytes)) head ∙ written-more b 0 (headBytes p) (omega (arith, length-head p)) (entryAt 0) (below entryBytes) (omega (arith, length-head p))
+    front : c ≡ written b 0 (headBytes e p ++ below entryBytes)
+    front = entries ∙ ap (λ (v : List ℕ). written v (entryAt e 0) (below entryBytes)) head ∙ written-more b 0 (headBytes e p) (omega (arith, length-head e p)) (entryAt e 0) (below entryBytes) (omega (arith, length-head e p))

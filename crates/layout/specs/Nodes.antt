@@ -1,9 +1,9 @@
 -- What a node of the code stands for: the entry of a plan. A node is a class or a client, and either one holds a share
--- that is fixed or weighted.
+-- that is fixed, weighted or stated.
 use Prim.Native.Nat.{ℕ}
-use Rattle.table.specs.Limits.{class, client, fixed, weighted}
+use Rattle.table.specs.Limits.{class, client, fixed, weighted, stated}
 use Rattle.layout.specs.declared.Share.{Share}
-use Rattle.layout.specs.declared.Share.the-variants.{Fixed, Weighted}
+use Rattle.layout.specs.declared.Share.the-variants.{Fixed, Weighted, Stated}
 use Rattle.layout.specs.declared.Sort.{Sort}
 use Rattle.layout.specs.declared.Sort.the-variants.{Class, Client}
 use Rattle.layout.specs.declared.Node.{Node}
@@ -14,10 +14,12 @@ use Rattle.layout.specs.Format.{Entry}
 unfoldable pub shareIn : Share → ℕ
 shareIn (Fixed n) = n
 shareIn (Weighted n) = n
+shareIn (Stated n) = n
 
-unfoldable pub weightedIn : Share → ℕ
-weightedIn (Fixed n) = fixed
-weightedIn (Weighted n) = weighted
+unfoldable pub shareKindIn : Share → ℕ
+shareKindIn (Fixed n) = fixed
+shareKindIn (Weighted n) = weighted
+shareKindIn (Stated n) = stated
 
 -- The share that a sort holds.
 unfoldable pub heldBy : Sort → Share
@@ -31,7 +33,7 @@ sortIn (Client s) = client
 
 -- The plan's kind of a sort.
 unfoldable pub kindIn : Sort → ℕ
-kindIn s = kindOf (sortIn s) (weightedIn (heldBy s))
+kindIn s = kindOf (sortIn s) (shareKindIn (heldBy s))
 
 -- The entry that a node stands for.
 unfoldable pub entryBy : Node → Entry

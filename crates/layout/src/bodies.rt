@@ -1,9 +1,9 @@
 // Nodes in their plan bytes and in their joins.
 ghost use mathlib.Core.Path.{_≡_};
 ghost use Prim.Native.Nat.{_≤_};
-ghost use Rattle.table.specs.Limits.{client, weighted};
-ghost use Rattle.layout.specs.Format.{lastKind};
-ghost use Rattle.layout.specs.Nodes.{shareIn, weightedIn, heldBy, sortIn, kindIn};
+ghost use Rattle.table.specs.Limits.{client, stated};
+ghost use Rattle.layout.specs.Kinds.{clientStated};
+ghost use Rattle.layout.specs.Nodes.{shareIn, shareKindIn, heldBy, sortIn, kindIn};
 use crate::Kind;
 use crate::Share;
 use crate::Sort;
@@ -11,7 +11,7 @@ use table::Table;
 
 // The sort and share of a kind.
 pub fn sort_of(kind: u64, share: u64) -> Sort
-    requires { ⌜ kind ≤ lastKind ⌝ }
+    requires { ⌜ kind ≤ clientStated ⌝ }
     ensures kind { λ r. ⌜ kindIn r ≡ kind ⌝ }
     ensures share { λ r. ⌜ shareIn (heldBy r) ≡ share ⌝ }
 {
@@ -19,7 +19,9 @@ pub fn sort_of(kind: u64, share: u64) -> Sort
         Kind::CLASS_FIXED => Sort::Class(Share::Fixed(share)),
         Kind::CLASS_WEIGHTED => Sort::Class(Share::Weighted(share)),
         Kind::CLIENT_FIXED => Sort::Client(Share::Fixed(share)),
-        _ => Sort::Client(Share::Weighted(share)),
+        Kind::CLIENT_WEIGHTED => Sort::Client(Share::Weighted(share)),
+        Kind::CLASS_STATED => Sort::Class(Share::Stated(share)),
+        _ => Sort::Client(Share::Stated(share)),
     }
 }
 
@@ -40,16 +42,18 @@ pub fn share_in(share: Share) -> u64
     match share {
         Share::Fixed(n) => n,
         Share::Weighted(n) => n,
+        Share::Stated(n) => n,
     }
 }
 
-pub fn weighted_in(share: Share) -> u64
-    ensures kind { λ r. ⌜ r ≡ weightedIn share ⌝ }
-    ensures small { λ r. ⌜ r ≤ weighted ⌝ }
+pub fn share_kind_in(share: Share) -> u64
+    ensures kind { λ r. ⌜ r ≡ shareKindIn share ⌝ }
+    ensures small { λ r. ⌜ r ≤ stated ⌝ }
 {
     match share {
         Share::Fixed(_) => Table::FIXED,
         Share::Weighted(_) => Table::WEIGHTED,
+        Share::Stated(_) => Table::STATED,
     }
 }
 
@@ -67,16 +71,18 @@ pub fn sort_number(sort: Sort) -> u64
 // The plan's kind of a sort.
 pub fn kind_in(sort: Sort) -> u64
     ensures kind { λ r. ⌜ r ≡ kindIn sort ⌝ }
-    ensures small { λ r. ⌜ r ≤ lastKind ⌝ }
+    ensures small { λ r. ⌜ r ≤ clientStated ⌝ }
 {
     match sort {
         Sort::Class(share) => match share {
             Share::Fixed(_) => Kind::CLASS_FIXED,
             Share::Weighted(_) => Kind::CLASS_WEIGHTED,
+            Share::Stated(_) => Kind::CLASS_STATED,
         },
         Sort::Client(share) => match share {
             Share::Fixed(_) => Kind::CLIENT_FIXED,
             Share::Weighted(_) => Kind::CLIENT_WEIGHTED,
+            Share::Stated(_) => Kind::CLIENT_STATED,
         },
     }
 }

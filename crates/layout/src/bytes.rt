@@ -1,8 +1,10 @@
 // Bytes of a plan, and the integers that they make, low byte first.
 ghost use mathlib.Core.Path.{_≡_};
-ghost use Prim.Native.Nat.{_+_, _<_};
+ghost use Prim.Native.Nat.{_+_, _<_, _≤_};
 ghost use lib.ListN.{length};
 ghost use Rattle.layout.specs.Bytes.{byteValues, pairValues, fourValues, byteAt, le2, le4};
+ghost use Rattle.layout.specs.Format.{shareLength, shareValues, shareFrom};
+use crate::Edition;
 
 // How many values a byte has, and two bytes have.
 pub const BYTE_VALUES: u64 = 256;
@@ -39,4 +41,16 @@ pub fn four(s: &[u8], i: usize) -> u64
     ensures small { λ r. ⌜ r < fourValues ⌝ }
 {
     pair(s, i) + PAIR_VALUES * pair(s, i + 2)
+}
+
+// The share of a plan of this edition, from place i on.
+pub fn share(s: &[u8], edition: Edition, i: usize) -> u64
+    requires { ⌜ i + shareLength edition ≤ length (now s) ⌝ }
+    ensures share { λ r. ⌜ r ≡ shareFrom edition (now (s .entry)) i ⌝ }
+    ensures small { λ r. ⌜ r < shareValues edition ⌝ }
+{
+    match edition {
+        Edition::First => pair(s, i),
+        Edition::Second => four(s, i),
+    }
 }

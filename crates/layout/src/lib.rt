@@ -1,5 +1,5 @@
 // The bytes of a plan file: what a plan says of a node, and reading and putting it. Document 01, "Same tree, and the plan
-// file".
+// file", and document 02, (f).
 use table::Table;
 
 pub mod bodies;
@@ -7,10 +7,17 @@ pub mod bytes;
 pub mod forms;
 pub mod putting;
 
-// A share of a class's rate.
+// The editions of a plan.
+pub enum Edition {
+    First,
+    Second,
+}
+
+// A share of a class's rate, or a rate that is stated.
 pub enum Share {
     Fixed(u64),
     Weighted(u64),
+    Stated(u64),
 }
 
 // A class or a client, with its share.
@@ -31,12 +38,24 @@ pub struct Node {
 pub struct Format {}
 
 impl Format {
-    // Bytes of the head, of an entry and of a body; the greatest count.
+    // The numbers of the editions.
+    pub const FIRST_EDITION: u64 = 1;
+
+    pub const SECOND_EDITION: u64 = 2;
+
+    // The four bytes FF before the head of the second edition, and the integer that they make.
+    pub const MARK_BYTE: u64 = 0xFF;
+
+    pub const MARK: u64 = 0xFFFFFFFF;
+
+    pub const MARK_LENGTH: usize = 4;
+
+    // Bytes of the head, of an entry and of a depth; the greatest count.
     pub const HEAD: usize = 9;
 
     pub const ENTRY: usize = 4;
 
-    pub const BODY: usize = 7;
+    pub const DEPTH: usize = 4;
 
     pub const LAST_COUNT: usize = Table::NODES - 1;
 
@@ -54,8 +73,6 @@ impl Format {
 
     // Places of a body, which begins with its kind.
     pub const BODY_SHARE: usize = 1;
-
-    pub const BODY_DEPTH: usize = 3;
 }
 
 // The kinds of a body.
@@ -70,5 +87,7 @@ impl Kind {
 
     pub const CLIENT_WEIGHTED: u64 = 3;
 
-    pub const LAST: u64 = Kind::CLIENT_WEIGHTED;
+    pub const CLASS_STATED: u64 = 4;
+
+    pub const CLIENT_STATED: u64 = 5;
 }

@@ -4,10 +4,12 @@ ghost use mathlib.Core.List.{[], _∷_, _++_};
 ghost use Prim.Native.Nat.{_+_, _≤_, _<_};
 ghost use lib.ListN.{length};
 ghost use Rattle.layout.specs.Bytes.{byteValues, bytes2, bytes4};
-ghost use Rattle.layout.specs.Format.{headLength, entryLength, bodyLength};
+ghost use Rattle.layout.specs.Format.{headLength, entryLength, bodyLength, shareLength, startOf, markBytes, shareBytes};
 ghost use Rattle.layout.specs.Written.{written};
+use crate::Edition;
 use crate::Format;
 use crate::bytes;
+use crate::forms;
 
 fn narrow(n: u64) -> u8
     requires { ⌜ n < byteValues ⌝ }
@@ -42,14 +44,34 @@ pub fn put_four(buffer: &mut [u8], a: usize, n: u64)
     put_pair(buffer, a + 2, n / bytes::PAIR_VALUES);
 }
 
-// Writes the head.
-pub fn put_head(buffer: &mut [u8], rate: u64, depth: u64, count: u64)
-    requires { ⌜ (headLength ≤ length (now buffer)) × (count < byteValues) ⌝ }
-    ensures { λ _. ⌜ now (buffer .exit) ≡ written (now (buffer .entry)) 0 (bytes4 rate ++ bytes4 depth ++ (count ∷ [])) ⌝ }
+// Writes the mark of an edition.
+fn put_mark(buffer: &mut [u8], edition: Edition)
+    requires { ⌜ startOf edition ≤ length (now buffer) ⌝ }
+    ensures { λ _. ⌜ now (buffer .exit) ≡ written (now (buffer .entry)) 0 (markBytes edition) ⌝ }
 {
-    put_four(buffer, Format::DISK_RATE, rate);
-    put_four(buffer, Format::ROOT_DEPTH, depth);
-    put_byte(buffer, Format::COUNT, count);
+    match edition {
+        Edition::First => {}
+        Edition::Second => put_four(buffer, 0, Format::MARK),
+    }
+}
+
+// Writes rate, depth and count of the head, from place a on.
+fn put_numbers(buffer: &mut [u8], a: usize, rate: u64, depth: u64, count: u64)
+    requires { ⌜ (a + headLength ≤ length (now buffer)) × (count < byteValues) ⌝ }
+    ensures { λ _. ⌜ now (buffer .exit) ≡ written (now (buffer .entry)) a (bytes4 rate ++ bytes4 depth ++ (count ∷ [])) ⌝ }
+{
+    put_four(buffer, a + Format::DISK_RATE, rate);
+    put_four(buffer, a + Format::ROOT_DEPTH, depth);
+    put_byte(buffer, a + Format::COUNT, count);
+}
+
+// Writes the mark and the head.
+pub fn put_head(buffer: &mut [u8], edition: Edition, rate: u64, depth: u64, count: u64)
+    requires { ⌜ (startOf edition + headLength ≤ length (now buffer)) × (count < byteValues) ⌝ }
+    ensures { λ _. ⌜ now (buffer .exit) ≡ written (now (buffer .entry)) 0 (markBytes edition ++ (bytes4 rate ++ bytes4 depth ++ (count ∷ []))) ⌝ }
+{
+    put_mark(buffer, edition);
+    put_numbers(buffer, forms::start_of(edition), rate, depth, count);
 }
 
 // Writes an entry.
@@ -62,12 +84,24 @@ pub fn put_entry(buffer: &mut [u8], a: usize, node: u64, parent: u64, offset: u6
     put_pair(buffer, a + Format::ENTRY_OFFSET, offset);
 }
 
+// Writes a share.
+fn put_share(buffer: &mut [u8], edition: Edition, a: usize, share: u64)
+    requires { ⌜ a + shareLength edition ≤ length (now buffer) ⌝ }
+    ensures { λ _. ⌜ now (buffer .exit) ≡ written (now (buffer .entry)) a (shareBytes edition share) ⌝ }
+{
+    match edition {
+        Edition::First => put_pair(buffer, a, share),
+        Edition::Second => put_four(buffer, a, share),
+    }
+}
+
 // Writes a body.
-pub fn put_body(buffer: &mut [u8], a: usize, kind: u64, share: u64, depth: u64)
-    requires { ⌜ (a + bodyLength ≤ length (now buffer)) × (kind < byteValues) ⌝ }
-    ensures { λ _. ⌜ now (buffer .exit) ≡ written (now (buffer .entry)) a (kind ∷ bytes2 share ++ bytes4 depth) ⌝ }
+pub fn put_body(buffer: &mut [u8], edition: Edition, a: usize, kind: u64, share: u64, depth: u64)
+    requires { ⌜ (a + bodyLength edition ≤ length (now buffer)) × (kind < byteValues) ⌝ }
+    ensures { λ _. ⌜ now (buffer .exit) ≡ written (now (buffer .entry)) a (kind ∷ shareBytes edition share ++ bytes4 depth) ⌝ }
 {
     put_byte(buffer, a, kind);
-    put_pair(buffer, a + Format::BODY_SHARE, share);
-    put_four(buffer, a + Format::BODY_DEPTH, depth);
+    let at = a + Format::BODY_SHARE;
+    put_share(buffer, edition, at, share);
+    put_four(buffer, at + forms::share_length(edition), depth);
 }

@@ -11,9 +11,10 @@ use lib.IntN.{ℤ, pos}
 use Rattle.numbers.proofs.Tests.{cond-true, cond-false}
 use Rattle.table.specs.Limits.{tableLength}
 use Rattle.table.specs.Refusals.{numberTold}
-use Rattle.table.specs.Calls.{done, blank}
+use Rattle.table.specs.Calls.{blank}
 use Rattle.table.proofs.Refusals.{first-here, first-past, none-first, number-outcome}
 use Rattle.layout.specs.Bytes.{le4}
+use Rattle.layout.specs.Format.{startOf, shareLength}
 use Rattle.planlaws.specs.Reading.{planTable, planAnswer, checkAnswer}
 use Rattle.planlaws.proofs.Accepted.{refusing-last}
 use Rattle.planlaws.proofs.Stages.{too-long}
@@ -36,7 +37,7 @@ module _ (s : List ℕ) where
 
   -- An input that is longer than any with a good plan is refused with 14.
   long-refused : inputLength ≤ length s → loadRefusal s ≡ 14
-  unfolding checkAnswer blank
+  unfolding checkAnswer blank startOf shareLength
   long-refused long =
       plan-refused (omega arith) ∙ too-long _ (drop planAt s) (length-replicate tableLength (pos 0)) (omega (arith, length-drop planAt s))
 
@@ -46,7 +47,7 @@ module _ (s : List ℕ) where
   plan-read p t u n long part zeros told after =
       let known = rw (zeros, part) at told in
       let left = rw (zeros, part) at after in
-      (known ∙ number-outcome _ done ∙ sym (plan-refused long), λ z. left)
+      (known ∙ number-outcome _ _ ∙ sym (plan-refused long), λ z. left)
 
   -- An accepted input has a head.
   pub accepted-long : loadRefusal s ≡ 0 → planAt ≤ length s

@@ -7,6 +7,7 @@ ghost use lib.ListN.{length, getD};
 ghost use lib.IntN.{pos};
 ghost use Rattle.io.specs.Counts.{Counts};
 ghost use Rattle.table.specs.Limits.{entryLength};
+ghost use Rattle.table.specs.Refusals.{lastRefusal};
 ghost use Rattle.table.specs.Order.{inOrder};
 ghost use Rattle.table.specs.Calls.{blank};
 ghost use Rattle.table.specs.Tick.{ticked};
@@ -187,7 +188,7 @@ pub fn go_on(text: &mut [u8], table: &mut [i64], progress: Progress) -> Progress
 fn read_input(table: &mut [i64], input: &[u8]) -> u64
     requires { ⌜ now table ≡ blank ⌝ }
     ensures number { λ r. ⌜ r ≡ loadRefusal (now (input .entry)) ⌝ }
-    ensures small { λ r. ⌜ r ≤ 15 ⌝ }
+    ensures small { λ r. ⌜ r ≤ lastRefusal ⌝ }
     ensures table { λ r. ⌜ (r ≡ 0 → now (table .exit) ≡ begun (now (input .entry)) .table) ⌝ }
 {
     if input.len() < PLAN_AT {

@@ -12,6 +12,14 @@ pub fn natural(z: i64) -> u64
     if z < 0 { 0 } else { z as u64 }
 }
 
+// `z` as a natural number, where it is not negative.
+pub fn unsigned(z: i64) -> u64
+    requires { ⌜ minus z ≡ 0 ⌝ }
+    ensures { λ r. ⌜ r ≡ plus z ⌝ }
+{
+    z as u64
+}
+
 // The negative part of `z`: its size where it is negative, and else 0. Minus the least i64 is no i64, so one is added first.
 pub fn negative(z: i64) -> u64
     ensures { λ r. ⌜ r ≡ minus z ⌝ }

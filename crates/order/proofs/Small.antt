@@ -1,6 +1,6 @@
 -- The sums under a class are small where every record is in order. All of them at the start and at the end.
 use Prim.Native.Nat.{ℕ, _≤_, _<_, _^_, _*_}
-use mathlib.Core.Path.{_≡_}
+use mathlib.Core.Path.{_≡_, _∙_}
 use mathlib.Core.Bool.{true}
 use mathlib.Core.List.{List}
 use native.Mathlib.Omega.{arith}
@@ -9,16 +9,16 @@ use lib.IntN.{ℤ}
 use Rattle.numbers.specs.Whole.{plus, minus}
 use Rattle.numbers.proofs.Parts.{zarith}
 use Rattle.numbers.proofs.Sums.{sum-bound}
-use Rattle.table.specs.Limits.{nodes, depthAt, balanceAt, lastLevel, greatestDepth, greatestRate, grainScale}
+use Rattle.table.specs.Limits.{nodes, depthAt, balanceAt, fixed, stated, kinds, lastLevel, greatestDepth, greatestRate, grainScale}
 use Rattle.table.specs.Places.{place, rate, balance, depthGrains}
 use Rattle.table.specs.Tree.{treeOf, childOf, countIf, sumUnder}
-use Rattle.table.specs.Rates.{fixedSum}
 use Rattle.table.proofs.Facts.{limits-of}
 use Rattle.rating.specs.declared.sums.Summand.{Summand}
-use Rattle.rating.specs.declared.sums.Summand.the-variants.{FixedShares, Weights, Depths, Credits, Debts}
-use Rattle.rating.specs.Sums.{term, Summable}
-use Rattle.rating.proofs.Summable.{summable-of}
-use Rattle.rating.proofs.Under.{child-small, sums-start, sums-end}
+use Rattle.rating.specs.declared.sums.Summand.the-variants.{Depths, Credits, Debts}
+use Rattle.rating.specs.Sums.{term, Summable, Shareable, sumAt}
+use Rattle.rating.specs.declared.sums.UnderClass.{UnderClass}
+use Rattle.rating.proofs.Summable.{summable-of, shareable-of}
+use Rattle.rating.proofs.Under.{child-small, sums-start, sums-end, share-sums-start, share-sums-end}
 use Rattle.records.specs.Record.{recordsInOrder}
 use Rattle.records.proofs.Bounds.{bounds}
 use Rattle.records.proofs.Nodes.{Node, node-at}
@@ -44,27 +44,24 @@ summable which t h =
     let s = small t k (node-at t h k hk e) in
     record { rate = omega arith; credit = omega arith; debt = omega arith })
 
+pub shareable : (t : List ℤ) → recordsInOrder t ≡ true → Shareable t
+shareable t h = shareable-of t (λ k hk e. limits-of t k (node-at t h k hk e .limits))
+
 pub sum-small : (which : Summand) (t : List ℤ) → recordsInOrder t ≡ true → (c : ℕ) → sumUnder (treeOf t) c (term which t) ≤ 2 ^ 63
 unfolding sumUnder
 sum-small which t h c =
     omega (arith, sum-bound nodes (2 ^ 57) (λ k. countIf (childOf (treeOf t) c k) (term which t) k) (λ k hk. child-small which t (summable which t h) c k hk))
 
 -- All sums are 0 at the start, and at the end those under the classes.
-pub totals-start : (t : List ℤ) → Totals t 1 (replicate nodes 0) (replicate nodes 0) (replicate nodes 0) (replicate nodes 0) (replicate nodes 0)
-totals-start t =
-    record {
-      fixed = sums-start FixedShares t;
-      weights = sums-start Weights t;
-      depths = sums-start Depths t;
-      credits = sums-start Credits t;
-      debts = sums-start Debts t;
-    }
+pub totals-start : (t : List ℤ) → Totals t 1 (replicate (kinds * nodes) 0) (replicate nodes 0) (replicate nodes 0) (replicate nodes 0)
+totals-start t = record { shares = share-sums-start t; depths = sums-start Depths t; credits = sums-start Credits t; debts = sums-start Debts t }
 
-pub totals-sums : (t : List ℤ) (fs ws ds ps ms : List ℕ) → Totals t nodes fs ws ds ps ms → (c : ℕ) → c < nodes → Sums t c (getD fs c 0) (getD ds c 0) (getD ps c 0) (getD ms c 0)
-unfolding term fixedSum
-totals-sums t fs ws ds ps ms f c hc =
+pub totals-sums : (t : List ℤ) (ss ds ps ms : List ℕ) → Totals t nodes ss ds ps ms → (c : ℕ) → c < nodes → (under : UnderClass) → under .fixed ≡ getD ss (sumAt c fixed) 0 → under .stated ≡ getD ss (sumAt c stated) 0 → Sums t c under (getD ds c 0) (getD ps c 0) (getD ms c 0)
+unfolding term
+totals-sums t ss ds ps ms f c hc under fixedShares statedRates =
     record {
-      fixed = sums-end FixedShares t fs (f .fixed) c hc;
+      fixed = fixedShares ∙ share-sums-end t ss (f .shares) c fixed hc (omega arith);
+      stated = statedRates ∙ share-sums-end t ss (f .shares) c stated hc (omega arith);
       depths = sums-end Depths t ds (f .depths) c hc;
       credits = sums-end Credits t ps (f .credits) c hc;
       debts = sums-end Debts t ms (f .debts) c hc;

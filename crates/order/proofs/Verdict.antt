@@ -2,32 +2,35 @@
 -- the stage of records are no clauses of the definition; they follow from the others: the floor of a balance (treelaws,
 -- Floors) and the limit of a rate (treelaws, Rounding).
 use Prim.Native.Nat.{ℕ, _+_, _≤_, _<_}
-use mathlib.Core.Path.{_≡_, sym, ap, _∙_}
+use mathlib.Core.Path.{_≡_, refl, sym, ap, _∙_}
 use mathlib.Core.Bool.{Bool, true, false, not}
 use mathlib.Core.List.{List}
 use native.Mathlib.Omega.{arith}
-use borrow.Author.Tests.{leb-true, le-leb, eq-eqb, eqb-false, not-true}
+use native.Mathlib.Decide.{ℕ-discrete}
+use borrow.Author.Tests.{leb-true, le-leb, eq-eqb, ne-eqb, eqb-true, eqb-false, not-true}
 use lib.ListN.{length}
+use lib.Dec.{eqb}
 use lib.IntN.{ℤ, pos}
 use Rattle.numbers.specs.Whole.{plus, minus}
 use Rattle.numbers.specs.Below.{allBelow}
-use Rattle.numbers.proofs.Tests.{by-test, true-false}
+use Rattle.numbers.proofs.Tests.{by-test, true-false, cond-true, cond-false}
 use Rattle.numbers.proofs.Every.{head-holds, rest-hold, holds-with, none-left}
 use Rattle.numbers.proofs.All.{all-at, all-intro}
 use Rattle.numbers.proofs.Parts.{zarith, add-parts, one-is-zero, plus-pos}
-use Rattle.table.specs.Limits.{tableLength, recordLength, nodes, sortAt, depthAt, waitingAt, class, client, wholeShare, greatestDepth, mostWaiting}
+use Rattle.table.specs.Limits.{tableLength, recordLength, nodes, root, sortAt, depthAt, waitingAt, class, client, stated, wholeShare, greatestDepth, mostWaiting}
 use Rattle.table.specs.Places.{place, rate, balance, waiting, depthGrains}
-use Rattle.table.specs.Tree.{treeOf, there, isClass, isClient, sumUnder, eachNode, eachClass, eachClient}
-use Rattle.table.specs.Rates.{fixedSum}
+use Rattle.table.specs.Tree.{treeOf, there, isClass, isClient, isStated, sumUnder, eachNode, eachClass, eachClient}
+use Rattle.table.specs.Rates.{fixedSum, statedSum}
 use Rattle.table.specs.Order.{isZero, headerInOrder, unusedInOrder, limitsKept, spareInOrder, rootInOrder, parentInOrder, classInOrder, rateInOrder, balanceInOrder, requestInOrder, queueInOrder, arrivalsDiffer, inOrder}
-use Rattle.table.proofs.Facts.{InOrder, facts, each-at, at-each, at-zero, zero-at as zero-of, limits-of, root-of, root-there, child-of, of-balance}
-use Rattle.treelaws.proofs.Children.{balances-parts, class-there}
-use Rattle.treelaws.proofs.Rounding.{rate-small, rate-natural}
+use Rattle.table.proofs.Facts.{InOrder, Root, Stated, facts, of-stated, each-at, at-each, at-zero, zero-at as zero-of, limits-of, root-of, root-there, child-of, of-balance}
+use Rattle.table.proofs.ShareKinds.{stated-kind}
+use Rattle.treelaws.proofs.Children.{child-of as is-child, balances-parts, class-there}
+use Rattle.treelaws.proofs.Rounding.{no-stated-under, share-le-sum, rate-small, rate-natural}
 use Rattle.treelaws.proofs.Floors.{grounds, balance-room, node-floor}
 use Rattle.rating.proofs.Rated.{rated-of}
 use Rattle.records.specs.Record.{recordsInOrder}
 use Rattle.queues.specs.Waiting.{waitingInOrder}
-use Rattle.order.specs.Cover.{classCovers}
+use Rattle.order.specs.Cover.{statedLimit, classCovers}
 use Rattle.order.specs.Following.{Testable}
 use Rattle.records.proofs.Bounds.{bounds}
 use Rattle.records.proofs.Nodes.{Node, node-at, zero-at, records-by}
@@ -46,25 +49,59 @@ pub record Covers (t : List ℤ) (c : ℕ) : Type 0 where
   pub shares : fixedSum (treeOf t) c ≤ wholeShare
   pub depths : sumUnder (treeOf t) c (treeOf t .depth) ≤ treeOf t .depth c
   pub line : sumUnder (treeOf t) c (λ k. plus (balance t k)) + minus (balance t c) ≤ sumUnder (treeOf t) c (λ k. minus (balance t k)) + plus (balance t c) + depthGrains t c
+  pub stated : statedSum (treeOf t) c ≤ statedLimit t c
 
 covers-of : (t : List ℤ) (c : ℕ) → classCovers t c ≡ true → Covers t c
 unfolding classCovers
 covers-of t c h =
     let h1 = rest-hold _ _ h in
+    let h2 = rest-hold _ _ h1 in
     record {
       shares = leb-true (fixedSum (treeOf t) c) wholeShare (head-holds _ _ h);
       depths = leb-true (sumUnder (treeOf t) c (treeOf t .depth)) (treeOf t .depth c) (head-holds _ _ h1);
-      line = leb-true (sumUnder (treeOf t) c (λ k. plus (balance t k)) + minus (balance t c)) (sumUnder (treeOf t) c (λ k. minus (balance t k)) + plus (balance t c) + depthGrains t c) (head-holds _ _ (rest-hold _ _ h1));
+      line = leb-true (sumUnder (treeOf t) c (λ k. plus (balance t k)) + minus (balance t c)) (sumUnder (treeOf t) c (λ k. minus (balance t k)) + plus (balance t c) + depthGrains t c) (head-holds _ _ h2);
+      stated = leb-true (statedSum (treeOf t) c) (statedLimit t c) (head-holds _ _ (rest-hold _ _ h2));
     }
 
 of-covers : (t : List ℤ) (c : ℕ) → Covers t c → classCovers t c ≡ true
 unfolding classCovers
 of-covers t c f =
-    holds-with _ _ (le-leb _ _ (f .shares)) (holds-with _ _ (le-leb _ _ (f .depths)) (holds-with _ _ (le-leb _ _ (f .line)) none-left))
+    holds-with _ _ (le-leb _ _ (f .shares)) (holds-with _ _ (le-leb _ _ (f .depths)) (holds-with _ _ (le-leb _ _ (f .line)) (holds-with _ _ (le-leb _ _ (f .stated)) none-left)))
 
 pub covers-at : (t : List ℤ) → eachClass (treeOf t) (classCovers t) ≡ true → (c : ℕ) → c < nodes → isClass (treeOf t) c ≡ true → Covers t c
 unfolding eachClass
 covers-at t h c hc e = covers-of t c (each-at (isClass (treeOf t)) (classCovers t) h c hc e)
+
+-- Stated rates: where each class covers those under it, they are in order, and so the other way round.
+stated-covered : (t : List ℤ) → InOrder t → (c : ℕ) → statedSum (treeOf t) c ≤ statedLimit t c
+unfolding statedLimit
+stated-covered t f c =
+    by-test (eqb c root)
+    (λ e. rw (cond-true _ (rate t root) 0 e, eqb-true c root e) (f .stated .fits))
+    (λ e. rw (cond-false _ (rate t root) 0 e) (omega (arith, no-stated-under t f c (eqb-false c root e))))
+
+covered-stated : (t : List ℤ) → Root t → ((c : ℕ) → c < nodes → isClass (treeOf t) c ≡ true → Covers t c) → ((k : ℕ) → k < nodes → there (treeOf t) k ≡ true → Node t k) → Stated t
+unfolding statedLimit treeOf isClass
+covered-stated t top covers node =
+    record {
+      under = λ k hk e s. elim (ℕ-discrete (treeOf t .parent k) root) [ yes same ↦ same | no other ↦ absurd (elsewhere k hk e s other) ];
+      fits = covers root (omega arith) (eq-eqb (treeOf t .sort root) class (ap plus (top .sort) ∙ plus-pos 1)) .stated;
+    }
+  where
+    -- A stated node under another class has a share of at least 1, and nothing is covered there.
+    elsewhere : (k : ℕ) → k < nodes → there (treeOf t) k ≡ true → isStated (treeOf t) k ≡ true → (treeOf t .parent k ≡ root → ⊥) → ⊥
+    elsewhere k hk e s other =
+        let l = limits-of t k (node k hk e .limits) in
+        let kind = stated-kind (treeOf t) k s in
+        let below : k ≡ root → ⊥ = λ z. omega (arith, ap (treeOf t .kind) z, ap plus (top .kind), plus-pos 0) in
+        let child = child-of (treeOf t) k (node k hk e .parent) below in
+        omega (
+          arith,
+          zarith,
+          covers (treeOf t .parent k) (omega (arith, zarith)) (child .class) .stated,
+          cond-false _ (rate t root) 0 (ne-eqb (treeOf t .parent k) root other),
+          share-le-sum (treeOf t) (treeOf t .parent k) stated k hk (is-child (treeOf t) (treeOf t .parent k) k (record { there = e; below = below; parent = refl })) kind,
+        )
 
 -- A node at which requests wait is a client.
 idle : (t : List ℤ) → InOrder t → (k : ℕ) → k < nodes → isClient (treeOf t) k ≡ false → waiting t k ≡ 0
@@ -117,7 +154,7 @@ stages t h =
       classes = at-each (isClass (treeOf t)) (classCovers t)
           (λ c hc e.
           let r = balance-room t c (f .balances c hc (class-there (treeOf t) c e)) .class e in
-          of-covers t c (record { shares = f .class c hc e .shares; depths = f .class c hc e .depths; line = omega arith }));
+          of-covers t c (record { shares = f .class c hc e .shares; depths = f .class c hc e .depths; line = omega arith; stated = stated-covered t f c }));
       rates = head-holds _ _ h8;
       queues = all-intro nodes (waitingInOrder t)
           (λ k hk.
@@ -161,7 +198,8 @@ from-stages t s =
     (holds-with _ _ (s .rates)
     (holds-with _ _ (at-each (there (treeOf t)) (balanceInOrder t) (λ k hk e. balance-in t k (node k hk e) (covers k hk)))
     (holds-with _ _ (at-each (isClient (treeOf t)) (queueInOrder t) (λ k hk e. head-holds _ _ (queue k hk)))
-    (holds-with _ _ (all-intro nodes (arrivalsDiffer t) (λ k hk. head-holds _ _ (rest-hold _ _ (queue k hk)))) none-left)))))))))))
+    (holds-with _ _ (all-intro nodes (arrivalsDiffer t) (λ k hk. head-holds _ _ (rest-hold _ _ (queue k hk))))
+    (holds-with _ _ (of-stated t (covered-stated t (root-of t (s .root)) covers node)) none-left))))))))))))
 
 -- What the stages up to the classes make of a table: its rates can be tested.
 pub testable : (t : List ℤ) → length t ≡ tableLength → rootInOrder t ≡ true → recordsInOrder t ≡ true → eachClass (treeOf t) (classCovers t) ≡ true → Testable t
@@ -176,6 +214,7 @@ testable t long root records classes =
           (omega arith)
           (root-there t top)
           (omega (arith, zarith, top .rate));
+      limits = λ k hk e. node k hk e .limits;
       within = λ k hk e. node k hk e .rate;
     }
 

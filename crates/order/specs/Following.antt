@@ -11,13 +11,15 @@ use Rattle.table.specs.Limits.{nodes, root, rateAt, greatestRate}
 use Rattle.table.specs.Places.{place, rate}
 use Rattle.table.specs.Tree.{treeOf, there}
 use Rattle.table.specs.Rates.{childRate}
+use Rattle.table.specs.Order.{limitsKept}
 use Rattle.rating.specs.Rated.{Rated}
 
 -- Whether the rate of node k is the one that its class's rate, as it stands, gives it. The root has no class.
 unfoldable pub rateFollows : List ℤ → ℕ → Bool
 rateFollows t k = eqb k root || eqb (rate t k) (childRate (treeOf t) (rate t (treeOf t .parent k)) k)
 
--- A table whose rates can be tested: it is rated, and every rate is in its limit.
+-- A table whose rates can be tested: it is rated, and the places of every node are in their limits, its rate too.
 pub record Testable (t : List ℤ) : Type 0 where
   pub rated : Rated t root
+  pub limits : (k : ℕ) → k < nodes → there (treeOf t) k ≡ true → limitsKept t k ≡ true
   pub within : (k : ℕ) → k < nodes → there (treeOf t) k ≡ true → withinℤ 0 greatestRate (place t k rateAt) ≡ true

@@ -21,23 +21,15 @@ pub fn in_order(table: &[i64]) -> bool
     if !(header & root & each) {
         return false;
     }
-    let mut fixed: [u64; Table::NODES] = [0; Table::NODES];
-    let mut weights: [u64; Table::NODES] = [0; Table::NODES];
+    let mut shares: [u64; Table::SHARE_SUMS] = [0; Table::SHARE_SUMS];
     let mut depths: [u64; Table::NODES] = [0; Table::NODES];
     let mut credits: [u64; Table::NODES] = [0; Table::NODES];
     let mut debts: [u64; Table::NODES] = [0; Table::NODES];
-    totals::totals(
-        table,
-        &mut fixed,
-        &mut weights,
-        &mut depths,
-        &mut credits,
-        &mut debts,
-    );
-    if !classes::classes_cover(table, &fixed, &depths, &credits, &debts) {
+    totals::totals(table, &mut shares, &mut depths, &mut credits, &mut debts);
+    if !classes::classes_cover(table, &shares, &depths, &credits, &debts) {
         return false;
     }
-    let rates = rates::rates_in_order(table, &fixed, &weights);
+    let rates = rates::rates_in_order(table, &shares);
     let queues = queues::queues_in_order(table);
     rates & queues
 }

@@ -1,6 +1,7 @@
 // Whether the rates are right: each against its class's as it stands, by multiplication. No rate is worked out.
 use rating::rates;
 use rating::rates::Division;
+use rating::sums;
 use rating::tree;
 use table::Table;
 ghost use mathlib.Core.Path.{_≡_};
@@ -9,12 +10,12 @@ ghost use lib.Dec.{eqb};
 ghost use Rattle.table.specs.Limits.{nodes, wholeShare, greatestRate};
 ghost use Rattle.table.specs.Tree.{treeOf, there, testIf, eachNode};
 ghost use Rattle.table.specs.Order.{rateInOrder};
-ghost use Rattle.rating.specs.Rated.{ClassSums};
+ghost use Rattle.rating.specs.Sums.{ShareSums};
 ghost use Rattle.order.specs.Following.{rateFollows, Testable};
 
 // Whether a rate is that of a child with this share, by the division: its quotient rounded down.
 fn is_part(rate: u64, share: u64, by: Division) -> bool
-    requires { ⌜ (rate ≤ greatestRate) × (share ≤ wholeShare) × (by .whole ≤ greatestRate) × (0 < by .parts) × (by .parts ≤ nodes * wholeShare) ⌝ }
+    requires { ⌜ (rate ≤ greatestRate) × (share ≤ greatestRate) × (by .whole ≤ greatestRate) × (0 < by .parts) × (by .parts ≤ nodes * wholeShare) ⌝ }
     ensures { λ r. ⌜ r ≡ eqb rate (by .whole * share / by .parts) ⌝ }
 {
     let product = by.whole * share;
@@ -23,41 +24,33 @@ fn is_part(rate: u64, share: u64, by: Division) -> bool
 }
 
 // Whether the rate of node k, where it is there, is the one that its class's rate, as it stands, gives it.
-fn rate_follows(
-    table: &[i64],
-    fixed: &[u64; Table::NODES],
-    weights: &[u64; Table::NODES],
-    k: usize,
-) -> bool
-    requires { ⌜ Testable (now table) × ClassSums (now table) (now fixed) (now weights) × (0 < k) × (k < nodes) ⌝ }
+fn rate_follows(table: &[i64], shares: &[u64; Table::SHARE_SUMS], k: usize) -> bool
+    requires { ⌜ Testable (now table) × ShareSums (now table) nodes (now shares) × (0 < k) × (k < nodes) ⌝ }
     ensures { λ r. ⌜ r ≡ testIf (there (treeOf (now (table .entry))) k) (rateFollows (now (table .entry))) k ⌝ }
 {
     if !tree::there(table, k) {
         return true;
     }
-    let parent = Table::natural(table, k, Table::PARENT) as usize;
-    let class_rate = Table::natural(table, parent, Table::RATE);
-    let by = rates::division_of(table, k, class_rate, fixed[parent], weights[parent]);
-    is_part(
-        Table::natural(table, k, Table::RATE),
-        Table::natural(table, k, Table::SHARE),
-        by,
-    )
+    let rate = Table::unsigned(table, k, Table::RATE);
+    let share = Table::unsigned(table, k, Table::SHARE);
+    if tree::is_stated(table, k) {
+        return rate == share;
+    }
+    let parent = Table::unsigned(table, k, Table::PARENT) as usize;
+    let class_rate = Table::unsigned(table, parent, Table::RATE);
+    let by = rates::division_of(table, k, class_rate, sums::under(shares, parent));
+    is_part(rate, share, by)
 }
 
-// Whether every rate is that of document 01, "Rates", by the sums.
-pub fn rates_in_order(
-    table: &[i64],
-    fixed: &[u64; Table::NODES],
-    weights: &[u64; Table::NODES],
-) -> bool
-    requires { ⌜ Testable (now table) × ClassSums (now table) (now fixed) (now weights) ⌝ }
+// Whether every rate is that of document 01, "Rates", as document 02, (f), has it, by the sums.
+pub fn rates_in_order(table: &[i64], shares: &[u64; Table::SHARE_SUMS]) -> bool
+    requires { ⌜ Testable (now table) × ShareSums (now table) nodes (now shares) ⌝ }
     ensures { λ r. ⌜ r ≡ eachNode (treeOf (now (table .entry))) (rateInOrder (now (table .entry))) ⌝ }
 {
     let mut ok = true;
     let mut k: usize = 1;
     while k < Table::NODES {
-        ok = ok & rate_follows(table, fixed, weights, k);
+        ok = ok & rate_follows(table, shares, k);
         k += 1;
     }
     ok

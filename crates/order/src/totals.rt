@@ -13,24 +13,16 @@ ghost use Rattle.order.specs.Cover.{Totals};
 // Adds what node k adds to the sums of its class.
 fn add_node(
     table: &[i64],
-    fixed: &mut [u64; Table::NODES],
-    weights: &mut [u64; Table::NODES],
+    shares: &mut [u64; Table::SHARE_SUMS],
     depths: &mut [u64; Table::NODES],
     credits: &mut [u64; Table::NODES],
     debts: &mut [u64; Table::NODES],
     k: usize,
 )
-    requires { ⌜ (length (now table) ≡ tableLength) × (recordsInOrder (now table) ≡ true) × (0 < k) × (k < nodes) × Totals (now table) k (now fixed) (now weights) (now depths) (now credits) (now debts) ⌝ }
-    ensures { λ _. ⌜ Totals (now (table .entry)) (k + 1) (now (fixed .exit)) (now (weights .exit)) (now (depths .exit)) (now (credits .exit)) (now (debts .exit)) ⌝ }
+    requires { ⌜ (length (now table) ≡ tableLength) × (recordsInOrder (now table) ≡ true) × (0 < k) × (k < nodes) × Totals (now table) k (now shares) (now depths) (now credits) (now debts) ⌝ }
+    ensures { λ _. ⌜ Totals (now (table .entry)) (k + 1) (now (shares .exit)) (now (depths .exit)) (now (credits .exit)) (now (debts .exit)) ⌝ }
 {
-    sums::add_one_of(
-        table,
-        Summand::FixedShares,
-        fixed,
-        Summand::Weights,
-        weights,
-        k,
-    );
+    sums::add_share(table, shares, k);
     sums::add_node(table, Summand::Depths, depths, k);
     sums::add_one_of(table, Summand::Credits, credits, Summand::Debts, debts, k);
 }
@@ -38,18 +30,17 @@ fn add_node(
 // All sums, from sums of 0. The root is nobody's child.
 pub fn totals(
     table: &[i64],
-    fixed: &mut [u64; Table::NODES],
-    weights: &mut [u64; Table::NODES],
+    shares: &mut [u64; Table::SHARE_SUMS],
     depths: &mut [u64; Table::NODES],
     credits: &mut [u64; Table::NODES],
     debts: &mut [u64; Table::NODES],
 )
-    requires { ⌜ (length (now table) ≡ tableLength) × (recordsInOrder (now table) ≡ true) × Totals (now table) 1 (now fixed) (now weights) (now depths) (now credits) (now debts) ⌝ }
-    ensures { λ _. ⌜ Totals (now (table .entry)) nodes (now (fixed .exit)) (now (weights .exit)) (now (depths .exit)) (now (credits .exit)) (now (debts .exit)) ⌝ }
+    requires { ⌜ (length (now table) ≡ tableLength) × (recordsInOrder (now table) ≡ true) × Totals (now table) 1 (now shares) (now depths) (now credits) (now debts) ⌝ }
+    ensures { λ _. ⌜ Totals (now (table .entry)) nodes (now (shares .exit)) (now (depths .exit)) (now (credits .exit)) (now (debts .exit)) ⌝ }
 {
     let mut k: usize = 1;
     while k < Table::NODES {
-        add_node(table, fixed, weights, depths, credits, debts, k);
+        add_node(table, shares, depths, credits, debts, k);
         k += 1;
     }
 }

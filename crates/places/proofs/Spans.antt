@@ -1,7 +1,7 @@
 -- The numbers from one on, as the code looks at them, are places of the header and of a record.
 use Prim.Native.Nat.{ℕ, suc, _+_, _*_, _-_, _≤_}
 use mathlib.Core.Path.{_≡_, refl, ap, _∙_}
-use mathlib.Core.Bool.{_||_}
+use mathlib.Core.Bool.{Bool, _||_, _&&_}
 use mathlib.Core.Logic.{⊎-elim}
 use mathlib.Core.List.{List}
 use native.Mathlib.Omega.{arith}
@@ -10,7 +10,7 @@ use lib.ListN.{getD}
 use lib.Dec.{ltb}
 use lib.IntN.{ℤ, pos}
 use Rattle.numbers.specs.Below.{allBelow}
-use Rattle.numbers.proofs.Tests.{same-truth, by-test, or-cases, or-true-left, or-true-right}
+use Rattle.numbers.proofs.Tests.{same-truth, by-test, and-true, and-left, and-right, or-cases, or-true-left, or-true-right}
 use Rattle.numbers.proofs.All.{all-at, all-intro, all-cong}
 use Rattle.table.specs.Limits.{headerLength, recordLength, spareAt, spareLength, queueAt, queueLength}
 use Rattle.table.specs.Places.{place, header}
@@ -36,6 +36,27 @@ unfolding zeros place
 spare-zeros t k =
     all-cong spareLength (λ p. isZero (getD t (headerLength + recordLength * k + spareAt + p) (pos 0))) (λ p. isZero (getD t (headerLength + recordLength * k + (spareAt + p)) (pos 0)))
     (λ p hp. same-number t (headerLength + recordLength * k + spareAt + p) (headerLength + recordLength * k + (spareAt + p)) (omega arith))
+
+-- The spare places and the waiting places in one, which stand one behind the other.
+pub both-zeros : (t : List ℤ) (k : ℕ) → zeros t (headerLength + recordLength * k + spareAt) (recordLength - spareAt) ≡ (zeros t (headerLength + recordLength * k + spareAt) spareLength && zeros t (headerLength + recordLength * k + queueAt) queueLength)
+unfolding zeros
+both-zeros t k =
+    let at = headerLength + recordLength * k in
+    let zero : ℕ → ℕ → Bool = λ from p. isZero (getD t (from + p) (pos 0)) in
+    same-truth (zeros t (at + spareAt) (recordLength - spareAt)) (zeros t (at + spareAt) spareLength && zeros t (at + queueAt) queueLength)
+    (λ h.
+    and-true (zeros t (at + spareAt) spareLength) (zeros t (at + queueAt) queueLength)
+    (all-intro spareLength (zero (at + spareAt)) (λ p hp. all-at (recordLength - spareAt) (zero (at + spareAt)) h p (omega arith)))
+    (all-intro queueLength (zero (at + queueAt))
+    (λ p hp. same-number t (at + queueAt + p) (at + spareAt + (spareLength + p)) (omega arith) ∙ all-at (recordLength - spareAt) (zero (at + spareAt)) h (spareLength + p) (omega arith))))
+    (λ h.
+    all-intro (recordLength - spareAt) (zero (at + spareAt))
+    (λ p hp.
+    by-test (ltb p spareLength)
+    (λ e. all-at spareLength (zero (at + spareAt)) (and-left (zeros t (at + spareAt) spareLength) (zeros t (at + queueAt) queueLength) h) p (ltb-true p spareLength e))
+    (λ e.
+    same-number t (at + spareAt + p) (at + queueAt + (p - spareLength)) (omega (arith, ltb-false p spareLength e))
+    ∙ all-at queueLength (zero (at + queueAt)) (and-right (zeros t (at + spareAt) spareLength) (zeros t (at + queueAt) queueLength) h) (p - spareLength) (omega (arith, ltb-false p spareLength e)))))
 
 -- The waiting places from the first that holds no request on.
 pub queue-zeros : (t : List ℤ) (k n : ℕ) → n ≤ queueLength → zeros t (headerLength + recordLength * k + queueAt + n) (queueLength - n) ≡ allBelow queueLength (λ p. ltb p n || isZero (place t k (queueAt + p)))

@@ -88,33 +88,30 @@ pub fn limits_kept(table: &[i64], k: usize) -> bool
     let sort = place_within(table, k, Table::SORT, Table::CLASS, Table::CLIENT);
     let parent = place_within(table, k, Table::PARENT, 0, Table::LAST_NODE);
     let level = place_within(table, k, Table::LEVEL, 0, Table::LAST_LEVEL);
-    let kind = place_within(table, k, Table::KIND, Table::FIXED, Table::WEIGHTED);
-    let share = place_within(table, k, Table::SHARE, 1, Table::WHOLE_SHARE);
+    let kind = place_within(table, k, Table::KIND, Table::FIXED, Table::STATED);
+    let most = Table::share_limit(Table::natural(table, k, Table::KIND));
+    let share = place_within(table, k, Table::SHARE, 1, most);
     let depth = place_within(table, k, Table::DEPTH, 1, Table::GREATEST_DEPTH);
     let waiting = place_within(table, k, Table::WAITING, 0, Table::MOST_WAITING);
     sort & parent & level & kind & share & depth & waiting
 }
 
-// Whether the numbers of a queue behind the first so many are zero. Most queues are empty, and a test of a fixed length takes
-// less time.
-fn queue_zeros(table: &[i64], queue: usize, held: usize) -> bool
-    requires { ⌜ (queue + queueLength ≤ length (now table)) × (held ≤ queueLength) ⌝ }
-    ensures { λ r. ⌜ r ≡ zeros (now (table .entry)) (queue + held) (queueLength - held) ⌝ }
-{
-    if held == 0 {
-        return zeros(table, queue, Table::QUEUE_LENGTH);
-    }
-    zeros(table, queue + held, Table::QUEUE_LENGTH - held)
-}
-
-// Whether the places of node k that hold nothing are zero.
+// Whether the places of node k that hold nothing are zero. Most queues are empty, and one test of a fixed length takes less
+// time.
 pub fn spare_in_order(table: &[i64], k: usize) -> bool
     requires { ⌜ (length (now table) ≡ tableLength) × (k < nodes) × (waiting (now table) k ≤ mostWaiting) ⌝ }
     ensures { λ r. ⌜ r ≡ spareInOrder (now (table .entry)) k ⌝ }
 {
     let first = Table::HEADER + Table::RECORD * k;
     let held = Table::REQUEST * Table::natural(table, k, Table::WAITING) as usize;
+    if held == 0 {
+        return zeros(table, first + Table::SPARE, Table::RECORD - Table::SPARE);
+    }
     let spare = zeros(table, first + Table::SPARE, Table::SPARE_LENGTH);
-    let queue = queue_zeros(table, first + Table::QUEUE, held);
+    let queue = zeros(
+        table,
+        first + Table::QUEUE + held,
+        Table::QUEUE_LENGTH - held,
+    );
     spare & queue
 }

@@ -14,18 +14,18 @@ use Rattle.numbers.specs.Tests.{every}
 use Rattle.numbers.proofs.Tests.{by-test, true-false}
 use Rattle.numbers.proofs.Every.{none-left, holds-with, head-fails, rest-fail}
 use Rattle.numbers.proofs.Parts.{plus-pos, minus-pos, pos-of-within, zarith}
-use Rattle.table.specs.Limits.{recordLength, nodes, lastNode, sortAt, parentAt, levelAt, kindAt, shareAt, depthAt, rateAt, class, client, root, lastClassLevel, lastLevel, wholeShare}
-use Rattle.table.specs.Places.{place}
-use Rattle.table.specs.Tree.{Tree, treeOf, there, isClass, isClient, sumUnder}
+use Rattle.table.specs.Limits.{recordLength, nodes, lastNode, sortAt, parentAt, levelAt, kindAt, shareAt, depthAt, rateAt, class, client, fixed, stated, root, lastClassLevel, lastLevel, wholeShare}
+use Rattle.table.specs.Places.{place, rate}
+use Rattle.table.specs.Tree.{Tree, treeOf, there, isClass, isClient, isStated, sumUnder}
 use Rattle.table.specs.Rates.{fixedSum}
-use Rattle.table.specs.Calls.{joinRefusal, sharesAbove, depthsAbove}
-use Rattle.table.proofs.Facts.{InOrder, from-facts, Limits, Child}
+use Rattle.table.specs.Calls.{joinRefusal, sharesAbove, depthsAbove, statedWrong}
+use Rattle.table.proofs.Facts.{InOrder, from-facts, Limits, Child, Stated, of-stated}
 use Rattle.table.proofs.Refusals.{first-none, first-end}
 use Rattle.treelaws.specs.Joins.{Join, refusalOf, joinedBy}
 use Rattle.treelaws.proofs.Joined.{givenBy, joined-shown, joined-apart, same-there}
 use Rattle.table.proofs.Edits.{SameNode, same-node}
-use Rattle.calllaws.proofs.Nodes.{class-same}
-use Rattle.planlaws.proofs.Part.{PartOf, part-shares, part-depths}
+use Rattle.calllaws.proofs.Nodes.{there-same, class-same}
+use Rattle.planlaws.proofs.Part.{PartOf, part-kinds, part-depths}
 
 -- The join that gives node k what table t shows of it.
 unfoldable pub joinAt : List ℤ → ℕ → Join
@@ -50,11 +50,12 @@ pub limited-parent : (t : List ℤ) (k : ℕ) → Limits t k → treeOf t .paren
 unfolding treeOf
 limited-parent t k l = omega (arith, zarith, l .parent)
 
--- The node k of t, and the table v that shows a part of t.
+-- The node k of t, and the table v that shows a part of t and the same disk.
 pub record Next (t v : List ℤ) (k : ℕ) : Type 0 where
   pub whole : InOrder t
   pub order : InOrder v
   pub part : PartOf (treeOf v) (treeOf t)
+  pub disk : rate v root ≡ rate t root
   pub small : k < nodes
   pub below : k ≡ root → ⊥
   pub here : there (treeOf t) k ≡ true
@@ -118,7 +119,24 @@ module _ (t v : List ℤ) (k : ℕ) (x : Next t v k) where
       (λ e. head-fails _ _ e)
 
   shares-kept : fixedSum (treeOf (joinedBy v (joinAt t k))) (treeOf t .parent k) ≤ wholeShare
-  shares-kept = omega (arith, part-shares _ (treeOf t) joined-part (treeOf t .parent k), x .whole .class (treeOf t .parent k) parent-small (child .class) .shares)
+  shares-kept = omega (arith, part-kinds _ (treeOf t) joined-part fixed (treeOf t .parent k), x .whole .class (treeOf t .parent k) parent-small (child .class) .shares)
+
+  joined-stated : Stated (joinedBy v (joinAt t k))
+  unfolding isStated rate
+  joined-stated =
+      record {
+        under = λ j hj e s.
+            let n = joined-same j hj e in
+            n .parent ∙ x .whole .stated .under j hj (sym (there-same _ _ j (n .sort)) ∙ e) (rw (n .kind) at s);
+        fits =
+            omega (
+              arith,
+              x .whole .stated .fits,
+              part-kinds _ (treeOf t) joined-part stated root,
+              x .disk,
+              ap plus (kept root rateAt (omega arith) (λ e. x .below (sym e))),
+            );
+      }
 
   parent-apart : treeOf t .parent k ≡ k → ⊥
   parent-apart e = true-false (x .above) (rw e (x .free))
@@ -135,11 +153,11 @@ module _ (t v : List ℤ) (k : ℕ) (x : Next t v k) where
   node-limits = omega (arith, zarith, x .small, x .below, plus-pos k, minus-pos k)
 
   pub joinable : refusalOf v (joinAt t k) ≡ 0
-  unfolding refusalOf joinRefusal joinAt sharesAbove depthsAbove joinedBy treeOf plus
+  unfolding refusalOf joinRefusal joinAt sharesAbove depthsAbove statedWrong joinedBy treeOf plus
   joinable =
       first-none 1 _ _ (ap not (from-facts v (x .order)))
       (first-none 2 _ _ (ap not (holds-with _ _ node-limits (holds-with _ _ (limits .parent) (holds-with _ _ (limits .sort) (holds-with _ _ (limits .kind) (holds-with _ _ (limits .share) (holds-with _ _ (limits .depth) none-left)))))))
       (first-none 3 _ _ (ap not (x .above))
       (first-none 4 _ _ (x .free)
       (first-none 5 _ _ (no-client (treeOf v) (treeOf t .parent k) parent-class)
-      (first-none 6 _ _ not-last (first-none 7 _ _ (le-ltb _ _ shares-kept) (first-none 8 _ _ (le-ltb _ _ depths-kept) first-end)))))))
+      (first-none 6 _ _ not-last (first-none 7 _ _ (le-ltb _ _ shares-kept) (first-none 8 _ _ (le-ltb _ _ depths-kept) (first-none 16 _ _ (ap not (of-stated _ joined-stated)) first-end))))))))

@@ -7,18 +7,15 @@ use native.Mathlib.Omega.{arith}
 use Rattle.numbers.proofs.Tests.{by-test}
 use Rattle.numbers.proofs.Sums.{sum-mono}
 use Rattle.table.specs.Limits.{nodes}
-use Rattle.table.specs.Tree.{Tree, there, isFixed, childOf, countIf, sumUnder}
-use Rattle.table.specs.Rates.{fixedShare, fixedSum}
+use Rattle.table.specs.Tree.{Tree, there, childOf, countIf, sumUnder}
+use Rattle.table.specs.Rates.{kindShare, kindSum}
+use Rattle.table.proofs.ShareKinds.{same-share}
 use Rattle.treelaws.proofs.Children.{ChildOf, child-facts, child-of}
 use Rattle.table.proofs.Edits.{SameNode}
 use Rattle.calllaws.proofs.Nodes.{there-same}
 
 pub record PartOf (part whole : Tree) : Type 0 where
   pub same : (k : ℕ) → k < nodes → there part k ≡ true → SameNode part whole k
-
-same-fixed : (new old : Tree) (k : ℕ) → SameNode new old k → fixedShare new k ≡ fixedShare old k
-unfolding fixedShare isFixed
-same-fixed new old k n = rw (n .kind, n .share)
 
 module _ (part whole : Tree) (h : PartOf part whole) where
   part-child : (c k : ℕ) → k < nodes → ChildOf part c k → ChildOf whole c k
@@ -37,9 +34,11 @@ module _ (part whole : Tree) (h : PartOf part whole) where
   unfolding sumUnder
   part-sum c f g same = sum-mono nodes (λ k. countIf (childOf part c k) f k) (λ k. countIf (childOf whole c k) g k) (λ k hk. part-term c f g k hk (same k hk))
 
-  pub part-shares : (c : ℕ) → fixedSum part c ≤ fixedSum whole c
-  unfolding fixedSum
-  part-shares c = part-sum c (fixedShare part) (fixedShare whole) (λ k hk e. same-fixed part whole k (h .same k hk e))
+  -- The shares of one kind.
+  pub part-kinds : (kind c : ℕ) → kindSum part kind c ≤ kindSum whole kind c
+  unfolding kindSum
+  part-kinds kind c =
+      part-sum c (kindShare part kind) (kindShare whole kind) (λ k hk e. let n = h .same k hk e in same-share part whole kind k k (n .kind) (n .share))
 
   pub part-depths : (c : ℕ) → sumUnder part c (part .depth) ≤ sumUnder whole c (whole .depth)
   part-depths c = part-sum c (part .depth) (whole .depth) (λ k hk e. h .same k hk e .depth)

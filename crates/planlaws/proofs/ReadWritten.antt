@@ -1,39 +1,45 @@
--- Reading an accepted plan and writing the table gives the same bytes. The nodes of the table are those of the plan's
--- entries, and both the plan's order and the writer's rise by level, then by number: so they are one.
+-- Reading an accepted plan and writing the table in the edition that was met gives the same bytes. The nodes of the table are
+-- those of the plan's entries, and both the plan's order and the writer's rise by level, then by number: so they are one. No
+-- entry of the first edition asks for a stated node, so the table has none.
 use Prim.Native.Nat.{ℕ, _≤_, _<_}
 use mathlib.Core.Path.{_≡_, refl, sym, ap, ap₂, _∙_}
-use mathlib.Core.Bool.{true}
+use mathlib.Core.Bool.{true, false}
 use mathlib.Core.List.{List}
 use native.Mathlib.Omega.{arith}
-use borrow.Author.Tests.{ltb-true}
+use native.Mathlib.Decide.{ℕ-discrete}
+use borrow.Author.Tests.{ne-eqb, ltb-true}
 use lib.ListN.{length}
 use lib.IntN.{ℤ}
 use Rattle.numbers.proofs.Tests.{true-false}
 use Rattle.numbers.proofs.All.{all-at}
-use Rattle.table.specs.Tree.{Tree, treeOf, there}
+use Rattle.table.specs.Limits.{stated, root}
+use Rattle.table.specs.Tree.{Tree, treeOf, there, isStated}
 use Rattle.table.specs.Order.{inOrder}
-use Rattle.table.proofs.Facts.{from-facts}
+use Rattle.table.proofs.Facts.{root-unstated, from-facts}
 use Rattle.layout.specs.Bytes.{byteValues, byteAt}
-use Rattle.layout.specs.Kinds.{kindOf}
-use Rattle.layout.specs.Format.{Entry, Plan, lastKind, planIn}
+use Rattle.layout.specs.declared.Edition.{Edition}
+use Rattle.layout.specs.declared.Edition.the-variants.{First, Second}
+use Rattle.layout.specs.Kinds.{clientWeighted, clientStated, kindOf}
+use Rattle.layout.specs.Format.{Entry, Plan, lastKind, editionIn, planIn}
 use Rattle.planlaws.specs.Reading.{joinedFor, standing, rising, planRefusal, planTable}
-use Rattle.planlaws.specs.Writing.{order, entryOf, planOf, planBytes}
-use Rattle.layout.proofs.EachKind.{kind-again}
+use Rattle.planlaws.specs.Writing.{order, entryOf, planOf, planBytes, unwritable}
+use Rattle.layout.proofs.EachKind.{kind-again, unstated-kind}
+use Rattle.layout.proofs.Editions.{last-kind-small}
 use Rattle.layout.proofs.Codec.{SamePlan, same-entry, same-bytes, formed-facts, read-bytes}
 use Rattle.planlaws.proofs.Rising.{Rises, rises-by-steps, found-below, Within, rising-same, rising-short}
 use Rattle.planlaws.proofs.Listing.{listed, listed-node, listed-found, listed-rises, level-listed, standing-apart}
-use Rattle.planlaws.proofs.Planned.{level-small}
+use Rattle.planlaws.proofs.Planned.{level-small, Unstated, of-unstated}
 use Rattle.planlaws.proofs.Accepted.{plan-accepted, plan-table, entries-each}
 use Rattle.planlaws.proofs.Entered.{Shown, shown-there, Entered, entered}
 
 -- A node that shows an entry is written as that entry.
-shown-entry : (tree : Tree) (e : Entry) → e .kind ≤ lastKind → Shown tree e → entryOf tree (e .node) ≡ e
+shown-entry : (tree : Tree) (e : Entry) → e .kind ≤ clientStated → Shown tree e → entryOf tree (e .node) ≡ e
 unfolding entryOf
 shown-entry tree e known s =
     same-entry (entryOf tree (e .node)) e refl (s .parent) (ap₂ kindOf (s .sort) (s .kind) ∙ kind-again (e .kind) known) (s .share) (s .depth)
 
 -- A table that shows the entries of a plan, which rise and have known kinds, is written as that plan.
-module _ (p : Plan) (u : List ℤ) (known : (i : ℕ) → i < p .count → p .entry i .kind ≤ lastKind) (en : Entered p (p .count) u) (r : rising (treeOf u) p ≡ true) where
+module _ (p : Plan) (u : List ℤ) (known : (i : ℕ) → i < p .count → p .entry i .kind ≤ clientStated) (en : Entered p (p .count) u) (r : rising (treeOf u) p ≡ true) where
   -- The node of entry i.
   entered-node : ℕ → ℕ
   entered-node i = p .entry i .node
@@ -90,6 +96,24 @@ module _ (p : Plan) (u : List ℤ) (known : (i : ℕ) → i < p .count → p .en
         entry = λ i hi. ap (entryOf (treeOf u)) (same-node i hi) ∙ shown-entry (treeOf u) (p .entry i) (known i hi) (en .node i hi);
       }
 
+-- Where no kind is one of a stated node, no node of a table that shows the entries is stated.
+entered-unstated : (p : Plan) (n : ℕ) (u : List ℤ) → ((i : ℕ) → i < n → p .entry i .kind ≤ clientWeighted) → Entered p n u → Unstated (treeOf u)
+unfolding isStated
+entered-unstated p n u known en =
+    record {
+      node = λ k hk e.
+          elim (ℕ-discrete k root) [
+            | yes z ↦ rw z (root-unstated u (en .order .root))
+            | no ne ↦
+                elim (found-below n (λ i. p .entry i .node) k) [
+                  | yes w ↦
+                      ne-eqb (treeOf u .kind k) stated
+                      (λ s. omega (arith, s, ap (treeOf u .kind) (w .2), en .node (w .0) (w .1) .kind, unstated-kind (p .entry (w .0) .kind) (known (w .0) (w .1))))
+                  | no nobody ↦ absurd (true-false e (en .free k hk ne (λ i hi is. nobody (i, hi, is))))
+                ]
+          ];
+    }
+
 -- What an accepted plan leaves.
 pub plan-entered : (t : List ℤ) (s : List ℕ) → planRefusal t s ≡ 0 → Entered (planIn s) (planIn s .count) (joinedFor t (planIn s))
 unfolding joinedFor
@@ -100,13 +124,25 @@ plan-entered t s h =
 pub plan-keeps : (t : List ℤ) (s : List ℕ) → planRefusal t s ≡ 0 → inOrder (planTable t s) ≡ true
 plan-keeps t s h = rw (plan-table t s h) (from-facts _ (plan-entered t s h .order))
 
+-- Its edition has a kind for each node of the table.
+entered-writable : (e : Edition) (p : Plan) (n : ℕ) (u : List ℤ) → ((i : ℕ) → i < n → p .entry i .kind ≤ lastKind e) → Entered p n u → unwritable e (treeOf u) ≡ false
+unfolding unwritable lastKind
+entered-writable First p n u known en = of-unstated (treeOf u) (entered-unstated p n u known en)
+entered-writable Second p n u known en = refl
+
+pub plan-writable : (t : List ℤ) (s : List ℕ) → planRefusal t s ≡ 0 → unwritable (editionIn s) (treeOf (planTable t s)) ≡ false
+unfolding planIn
+plan-writable t s h =
+    rw (plan-table t s h) (entered-writable (editionIn s) _ _ _ (formed-facts s (plan-accepted t s h .formed) .kind) (plan-entered t s h))
+
 -- What is read from an accepted plan is written as that plan: as what it says, and to the byte.
 pub read-plan : (t : List ℤ) (s : List ℕ) → planRefusal t s ≡ 0 → SamePlan (planOf (planTable t s)) (planIn s)
 unfolding planIn
 read-plan t s h =
     let a = plan-accepted t s h in
-    rw (plan-table t s h) (entered-plan (planIn s) (joinedFor t (planIn s)) (formed-facts s (a .formed) .kind) (plan-entered t s h) (a .rising))
+    let f = formed-facts s (a .formed) in
+    rw (plan-table t s h) (entered-plan (planIn s) (joinedFor t (planIn s)) (λ i hi. omega (arith, f .kind i hi, last-kind-small (editionIn s))) (plan-entered t s h) (a .rising))
 
-pub read-written : (t : List ℤ) (s : List ℕ) → planRefusal t s ≡ 0 → ((i : ℕ) → i < length s → byteAt s i < byteValues) → planBytes (planTable t s) ≡ s
+pub read-written : (t : List ℤ) (s : List ℕ) → planRefusal t s ≡ 0 → ((i : ℕ) → i < length s → byteAt s i < byteValues) → planBytes (editionIn s) (planTable t s) ≡ s
 unfolding planBytes
-read-written t s h small = same-bytes (planOf (planTable t s)) (planIn s) (read-plan t s h) ∙ read-bytes s (plan-accepted t s h .formed) small
+read-written t s h small = same-bytes (editionIn s) (planOf (planTable t s)) (planIn s) (read-plan t s h) ∙ read-bytes s (plan-accepted t s h .formed) small

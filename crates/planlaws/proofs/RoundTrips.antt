@@ -1,8 +1,9 @@
--- The two round trips as the calls see them. What write leaves in a buffer is accepted by read into any table of right
--- length, and same says yes. What read accepts is written back to the byte. Tables are the same exactly when their plans are.
-use Prim.Native.Nat.{ℕ, _≤_, _<_}
+-- The two round trips as the calls see them, over the edition. What write leaves in a buffer is accepted by read into any table
+-- of right length, which says the edition that write was told, and same says yes. What read accepts is written back to the byte
+-- in the edition that read said. Tables that can be written are the same exactly when their plans are.
+use Prim.Native.Nat.{ℕ, zero, suc, _≤_, _<_}
 use mathlib.Core.Path.{_≡_, refl, sym, ap, _∙_}
-use mathlib.Core.Bool.{true, not}
+use mathlib.Core.Bool.{true, false, not}
 use mathlib.Core.Logic.{_↔_}
 use mathlib.Core.List.{List, [], _∷_, _++_}
 use native.Mathlib.Omega.{arith}
@@ -11,28 +12,31 @@ use lib.Dec.{eqb}
 use lib.ListN.{length, take, drop}
 use lib.Seq.{take-at}
 use lib.IntN.{ℤ, pos}
-use Rattle.numbers.specs.Whole.{sameℤ}
+use Rattle.numbers.specs.Whole.{plus, sameℤ, withinℤ}
 use Rattle.numbers.specs.Below.{allBelow}
 use Rattle.numbers.proofs.Tests.{cond-true}
 use Rattle.numbers.proofs.Every.{head-holds, rest-hold, none-left, holds-with}
-use Rattle.numbers.proofs.Parts.{eq-same, same-eq}
+use Rattle.numbers.proofs.Parts.{eq-same, same-eq, plus-pos, minus-pos, pos-of-within, zarith}
 use Rattle.numbers.proofs.All.{all-at, all-intro}
 use Rattle.table.specs.Limits.{tableLength, nodes, rateAt, root}
 use Rattle.table.specs.Places.{place, rate}
 use Rattle.table.specs.Tree.{treeOf}
 use Rattle.table.specs.Order.{inOrder}
 use Rattle.table.specs.Refusals.{accepted}
-use Rattle.table.specs.Calls.{done, sameTree, sameRefusal, sameAnswer}
+use Rattle.table.specs.Calls.{sameTree, sameRefusal, sameAnswer}
 use Rattle.table.proofs.Facts.{facts}
 use Rattle.table.proofs.Refusals.{none-first, first-none, first-end, outcome-accepted}
 use Rattle.treelaws.proofs.Renewed.{same-tree-below}
 use Rattle.layout.specs.Bytes.{byteValues, byteAt}
-use Rattle.layout.specs.Format.{planLength}
+use Rattle.layout.specs.declared.Edition.{Edition}
+use Rattle.layout.specs.declared.Edition.the-variants.{First, Second}
+use Rattle.layout.specs.Format.{firstEdition, secondEdition, editionNumber, editionOf, editionIn, planLength}
+use Rattle.layout.proofs.Editions.{edition-again}
 use Rattle.planlaws.specs.Reading.{planRefusal, planTable, planAnswer}
-use Rattle.planlaws.specs.Writing.{order, planOf, planBytes, writeRefusal, writeBuffer, writeAnswer}
+use Rattle.planlaws.specs.Writing.{order, planOf, planBytes, unwritable, editionTold, writeRefusal, writeBuffer, writeAnswer}
 use Rattle.layout.proofs.Codec.{length-bytes}
-use Rattle.planlaws.proofs.ReadWritten.{plan-keeps, read-written}
-use Rattle.planlaws.proofs.WrittenRead.{written-accepted, written-place, written-disk}
+use Rattle.planlaws.proofs.ReadWritten.{plan-keeps, plan-writable, read-written}
+use Rattle.planlaws.proofs.WrittenRead.{written-met, written-accepted, written-place, written-disk}
 
 -- What same compares.
 pub record SamePlaces (a b : List ℤ) : Type 0 where
@@ -60,85 +64,126 @@ same-answer a b ha hb h =
     ∙ ap (λ (z : ℤ). accepted (z ∷ [])) (cond-true (sameTree a b) (pos 1) (pos 0) h)
 
 -- A table in order and what its plan is read to are the same.
-pub written-same : (t u : List ℤ) → inOrder t ≡ true → length u ≡ tableLength → sameTree t (planTable u (planBytes t)) ≡ true
-written-same t u h long =
-    facts-same t (planTable u (planBytes t)) (record { places = λ k p hk hp. sym (written-place t u h long k p hk hp); disk = sym (written-disk t u h long) })
+module _ (e : Edition) (t u : List ℤ) (h : inOrder t ≡ true) (kinds : unwritable e (treeOf t) ≡ false) (long : length u ≡ tableLength) where
+  pub written-same : sameTree t (planTable u (planBytes e t)) ≡ true
+  written-same =
+      facts-same t (planTable u (planBytes e t)) (record { places = λ k p hk hp. sym (written-place e t u h kinds long k p hk hp); disk = sym (written-disk e t u h kinds long) })
 
-pub written-answer : (t u : List ℤ) → inOrder t ≡ true → length u ≡ tableLength → sameAnswer t (planTable u (planBytes t)) ≡ accepted (pos 1 ∷ [])
-written-answer t u h long =
-    same-answer t (planTable u (planBytes t)) h (plan-keeps u (planBytes t) (written-accepted t u h long)) (written-same t u h long)
+  pub written-answer : sameAnswer t (planTable u (planBytes e t)) ≡ accepted (pos 1 ∷ [])
+  written-answer = same-answer t (planTable u (planBytes e t)) h (plan-keeps u (planBytes e t) (written-accepted e t u h kinds long)) written-same
 
--- Two tables in order are the same exactly when their plans have the same bytes.
-pub same-plans : (a b : List ℤ) → inOrder a ≡ true → inOrder b ≡ true → (sameTree a b ≡ true) ↔ (planBytes a ≡ planBytes b)
+-- Two tables in order that are the same have the same plan bytes, and exactly then where both can be written.
+pub same-written : (e : Edition) (a b : List ℤ) → inOrder a ≡ true → inOrder b ≡ true → sameTree a b ≡ true → planBytes e a ≡ planBytes e b
 unfolding planBytes planOf rate
-same-plans a b ha hb = (there, back)
-  where
-    there : sameTree a b ≡ true → planBytes a ≡ planBytes b
-    there h =
-        let s = same-facts a b h in
-        let trees = same-tree-below a b (facts a ha .long) (facts b hb .long) (s .places) in
-        rw (trees, s .disk)
+same-written e a b ha hb h =
+    let s = same-facts a b h in
+    let trees = same-tree-below a b (facts a ha .long) (facts b hb .long) (s .places) in
+    rw (trees, s .disk)
 
-    back : planBytes a ≡ planBytes b → sameTree a b ≡ true
-    back e =
+pub same-plans : (e : Edition) (a b : List ℤ) → inOrder a ≡ true → inOrder b ≡ true → unwritable e (treeOf a) ≡ false → unwritable e (treeOf b) ≡ false → (sameTree a b ≡ true) ↔ (planBytes e a ≡ planBytes e b)
+same-plans e a b ha hb ka kb = (same-written e a b ha hb, back)
+  where
+    back : planBytes e a ≡ planBytes e b → sameTree a b ≡ true
+    back is =
         let long = facts a ha .long in
-        let same : planTable a (planBytes a) ≡ planTable a (planBytes b) = ap (planTable a) e in
+        let same : planTable a (planBytes e a) ≡ planTable a (planBytes e b) = ap (planTable a) is in
         facts-same a b
         (record {
-          places = λ k p hk hp. sym (written-place a a ha long k p hk hp) ∙ ap (λ (v : List ℤ). place v k p) same ∙ written-place b a hb long k p hk hp;
-          disk = sym (written-disk a a ha long) ∙ ap (λ (v : List ℤ). place v root rateAt) same ∙ written-disk b a hb long;
+          places = λ k p hk hp. sym (written-place e a a ha ka long k p hk hp) ∙ ap (λ (v : List ℤ). place v k p) same ∙ written-place e b a hb kb long k p hk hp;
+          disk = sym (written-disk e a a ha ka long) ∙ ap (λ (v : List ℤ). place v root rateAt) same ∙ written-disk e b a hb kb long;
         })
 
 -- What an accepted write has passed and left.
-pub length-plan : (t : List ℤ) → length (planBytes t) ≡ planLength (length (order (treeOf t)))
+pub length-plan : (e : Edition) (t : List ℤ) → length (planBytes e t) ≡ planLength e (length (order (treeOf t)))
 unfolding planBytes planOf
-length-plan t = length-bytes (planOf t)
+length-plan e t = length-bytes e (planOf t)
 
-pub record WritePassed (t : List ℤ) (buffer : List ℕ) : Type 0 where
+pub record WritePassed (t : List ℤ) (edition : ℤ) (buffer : List ℕ) : Type 0 where
   pub order : inOrder t ≡ true
-  pub room : length (planBytes t) ≤ length buffer
+  pub told : withinℤ firstEdition secondEdition edition ≡ true
+  pub room : length (planBytes (editionTold edition) t) ≤ length buffer
+  pub kinds : unwritable (editionTold edition) (treeOf t) ≡ false
 
-pub write-passed : (t : List ℤ) (buffer : List ℕ) → writeRefusal t buffer ≡ 0 → WritePassed t buffer
-unfolding writeRefusal
-write-passed t buffer h =
-    let h1 = none-first 1 _ _ (omega arith) h in
-    let h2 = none-first 13 _ _ (omega arith) (h1 .1) in
-    record { order = not-false _ (h1 .0); room = ltb-false _ _ (h2 .0) }
+module _ (t : List ℤ) (edition : ℤ) (buffer : List ℕ) where
+  pub write-passed : writeRefusal t edition buffer ≡ 0 → WritePassed t edition buffer
+  unfolding writeRefusal
+  write-passed h =
+      let h1 = none-first 1 _ _ (omega arith) h in
+      let h2 = none-first 2 _ _ (omega arith) (h1 .1) in
+      let h3 = none-first 13 _ _ (omega arith) (h2 .1) in
+      let h4 = none-first 16 _ _ (omega arith) (h3 .1) in
+      record { order = not-false _ (h1 .0); told = not-false _ (h2 .0); room = ltb-false _ _ (h3 .0); kinds = h4 .0 }
 
-pub passed-write : (t : List ℤ) (buffer : List ℕ) → WritePassed t buffer → writeRefusal t buffer ≡ 0
-unfolding writeRefusal
-passed-write t buffer w = first-none 1 _ _ (ap not (w .order)) (first-none 13 _ _ (le-ltb _ _ (w .room)) first-end)
+  pub passed-write : WritePassed t edition buffer → writeRefusal t edition buffer ≡ 0
+  unfolding writeRefusal
+  passed-write w =
+      first-none 1 _ _ (ap not (w .order))
+      (first-none 2 _ _ (ap not (w .told)) (first-none 13 _ _ (le-ltb _ _ (w .room)) (first-none 16 _ _ (w .kinds) first-end)))
 
-pub write-leaves : (t : List ℤ) (buffer : List ℕ) → writeRefusal t buffer ≡ 0 → writeBuffer t buffer ≡ planBytes t ++ drop (length (planBytes t)) buffer
-unfolding writeBuffer
-write-leaves t buffer h = cond-true (eqb (writeRefusal t buffer) 0) (planBytes t ++ drop (length (planBytes t)) buffer) buffer (eq-eqb (writeRefusal t buffer) 0 h)
+  pub write-leaves : writeRefusal t edition buffer ≡ 0 → writeBuffer t edition buffer ≡ planBytes (editionTold edition) t ++ drop (length (planBytes (editionTold edition) t)) buffer
+  unfolding writeBuffer
+  write-leaves h = cond-true (eqb (writeRefusal t edition buffer) 0) _ buffer (eq-eqb (writeRefusal t edition buffer) 0 h)
 
-pub write-front : (t : List ℤ) (buffer : List ℕ) → writeRefusal t buffer ≡ 0 → take (length (planBytes t)) (writeBuffer t buffer) ≡ planBytes t
-write-front t buffer h = ap (take (length (planBytes t))) (write-leaves t buffer h) ∙ take-at (planBytes t) (drop (length (planBytes t)) buffer) (length (planBytes t)) refl
+  pub write-front : writeRefusal t edition buffer ≡ 0 → take (length (planBytes (editionTold edition) t)) (writeBuffer t edition buffer) ≡ planBytes (editionTold edition) t
+  write-front h =
+      let plan = planBytes (editionTold edition) t in
+      ap (take (length plan)) (write-leaves h) ∙ take-at plan (drop (length plan) buffer) (length plan) refl
+
+-- The edition that is told is that of its number.
+number-again : (n : ℕ) → firstEdition ≤ n → n ≤ secondEdition → editionNumber (editionOf n) ≡ n
+unfolding editionNumber editionOf
+number-again zero low high = absurd (omega arith)
+number-again (suc zero) low high = refl
+number-again (suc (suc zero)) low high = refl
+number-again (suc (suc (suc n))) low high = absurd (omega arith)
+
+told-again : (edition : ℤ) → withinℤ firstEdition secondEdition edition ≡ true → pos (editionNumber (editionTold edition)) ≡ edition
+told-again edition h = ap pos (number-again (plus edition) (omega (arith, zarith)) (omega (arith, zarith))) ∙ pos-of-within firstEdition secondEdition edition h
 
 -- Write, then read.
-pub record ReadsBack (t u : List ℤ) (s : List ℕ) : Type 0 where
-  pub answer : planAnswer u s ≡ accepted done
+pub record ReadsBack (t u : List ℤ) (edition : ℤ) (s : List ℕ) : Type 0 where
+  pub answer : planAnswer u s ≡ accepted (edition ∷ [])
   pub same : sameAnswer t (planTable u s) ≡ accepted (pos 1 ∷ [])
 
-pub write-then-read : (t u : List ℤ) (buffer : List ℕ) → writeRefusal t buffer ≡ 0 → length u ≡ tableLength → ReadsBack t u (take (length (planBytes t)) (writeBuffer t buffer))
+pub write-then-read : (t u : List ℤ) (edition : ℤ) (buffer : List ℕ) → writeRefusal t edition buffer ≡ 0 → length u ≡ tableLength → ReadsBack t u edition (take (length (planBytes (editionTold edition) t)) (writeBuffer t edition buffer))
 unfolding planAnswer
-write-then-read t u buffer h long =
-    let order = write-passed t buffer h .order in
-    rw (write-front t buffer h)
-    (record { answer = outcome-accepted _ done (written-accepted t u order long); same = written-answer t u order long })
+write-then-read t u edition buffer h long =
+    let w = write-passed t edition buffer h in
+    let e = editionTold edition in
+    rw (write-front t edition buffer h)
+    (record {
+      answer =
+          outcome-accepted _ _ (written-accepted e t u (w .order) (w .kinds) long)
+          ∙ ap (λ (z : ℤ). accepted (z ∷ [])) (ap (λ (d : Edition). pos (editionNumber d)) (written-met e t u (w .order) (w .kinds) long) ∙ told-again edition (w .told));
+      same = written-answer e t u (w .order) (w .kinds) long;
+    })
 
--- Read, then write.
-pub record WritesBack (t : List ℤ) (s buffer : List ℕ) : Type 0 where
-  pub answer : writeAnswer t buffer ≡ accepted (pos (length s) ∷ [])
-  pub bytes : writeBuffer t buffer ≡ s ++ drop (length s) buffer
+-- Read, then write in the edition that read said.
+pub record WritesBack (t : List ℤ) (edition : ℤ) (s buffer : List ℕ) : Type 0 where
+  pub answer : writeAnswer t edition buffer ≡ accepted (pos (length s) ∷ [])
+  pub bytes : writeBuffer t edition buffer ≡ s ++ drop (length s) buffer
 
-pub read-then-write : (t : List ℤ) (s buffer : List ℕ) → planRefusal t s ≡ 0 → ((i : ℕ) → i < length s → byteAt s i < byteValues) → length s ≤ length buffer → WritesBack (planTable t s) s buffer
+said : (e : Edition) → (withinℤ firstEdition secondEdition (pos (editionNumber e)) ≡ true) × (editionTold (pos (editionNumber e)) ≡ e)
+unfolding editionNumber plus
+said First = (omega (arith, zarith, plus-pos firstEdition, minus-pos firstEdition), edition-again First)
+said Second = (omega (arith, zarith, plus-pos secondEdition, minus-pos secondEdition), edition-again Second)
+
+pub read-then-write : (t : List ℤ) (s buffer : List ℕ) → planRefusal t s ≡ 0 → ((i : ℕ) → i < length s → byteAt s i < byteValues) → length s ≤ length buffer → WritesBack (planTable t s) (pos (editionNumber (editionIn s))) s buffer
 unfolding writeAnswer
 read-then-write t s buffer h small room =
-    let same = read-written t s h small in
-    let free = passed-write (planTable t s) buffer (record { order = plan-keeps t s h; room = omega (arith, ap (λ (b : List ℕ). length b) same) }) in
+    let edition : ℤ = pos (editionNumber (editionIn s)) in
+    let told = said (editionIn s) in
+    let same : planBytes (editionTold edition) (planTable t s) ≡ s = ap (λ (e : Edition). planBytes e (planTable t s)) (told .1) ∙ read-written t s h small in
+    let free =
+    passed-write (planTable t s) edition buffer
+    (record {
+      order = plan-keeps t s h;
+      told = told .0;
+      room = omega (arith, ap (λ (b : List ℕ). length b) same);
+      kinds = ap (λ (e : Edition). unwritable e (treeOf (planTable t s))) (told .1) ∙ plan-writable t s h;
+    })
+    in
     record {
       answer = outcome-accepted _ _ free ∙ ap (λ (b : List ℕ). accepted (pos (length b) ∷ [])) same;
-      bytes = write-leaves (planTable t s) buffer free ∙ ap (λ (b : List ℕ). b ++ drop (length b) buffer) same;
+      bytes = write-leaves (planTable t s) edition buffer free ∙ ap (λ (b : List ℕ). b ++ drop (length b) buffer) same;
     }

@@ -12,7 +12,9 @@ use Rattle.table.specs.Limits.{tableLength, nodes, lastLevel}
 use Rattle.table.specs.Tree.{treeOf}
 use Rattle.table.specs.Calls.{blank, openRefusal}
 use Rattle.table.proofs.Refusals.{first-here, first-past}
-use Rattle.layout.specs.Format.{lastCount, planLength, countIn, planIn, formed}
+use Rattle.layout.specs.Format.{lastCount, startOf, shareLength, planLength, editionIn, countIn, planIn, formed}
+use Rattle.layout.specs.declared.Edition.the-variants.{Second}
+use Rattle.layout.proofs.Editions.{plan-small}
 use Rattle.layout.proofs.Codec.{formed-facts}
 use Rattle.planlaws.specs.Reading.{afterEntries, entriesRefusal, openedFor, joinedFor, rising, planRefusal, checkAnswer}
 use Rattle.planlaws.proofs.Accepted.{refusing-here, refusing-past, entries-each, plan-refusal-any}
@@ -34,10 +36,11 @@ module _ (t : List ℤ) (s : List ℕ) (long : length t ≡ tableLength) where
   wrong-form h = first-past 1 _ _ (ap not (eq-eqb (length t) tableLength long)) ∙ first-here 14 _ _ (ap not h)
 
   -- No plan is so long.
-  pub too-long : planLength lastCount < length s → planRefusal t s ≡ 14
+  pub too-long : planLength Second lastCount < length s → planRefusal t s ≡ 14
+  unfolding shareLength startOf
   too-long more =
       wrong-form
-      (by-test (formed s) (λ e. let f = formed-facts s e in absurd (omega (arith, f .long, f .count))) (λ e. e))
+      (by-test (formed s) (λ e. let f = formed-facts s e in absurd (omega (arith, f .long, f .count, plan-small (editionIn s) (countIn s) (f .count)))) (λ e. e))
 
   module _ (right : formed s ≡ true) where
     pub wrong-open : (openRefusal t (pos (planIn s .rate)) (pos (planIn s .depth)) ≡ 0 → ⊥) → planRefusal t s ≡ openRefusal t (pos (planIn s .rate)) (pos (planIn s .depth))

@@ -1,9 +1,10 @@
--- A table in order, written and read into any table of right length, gives the same tree and disk rate. The idea: after n
--- joins the table shows a part of the tree, the root and the first n nodes, so the next node can join; after all joins
--- it shows the whole.
+-- A table in order, written in an edition that has kinds for its nodes and read into any table of right length, gives the same
+-- tree and disk rate, and reading says that edition.
+-- The idea: after n joins the table shows a part of the tree, the root and the first n nodes, so the next node can join; after
+-- all joins it shows the whole.
 use Prim.Native.Nat.{ℕ, zero, suc, _-_, _≤_, _<_}
 use mathlib.Core.Path.{_≡_, sym, ap, _∙_, subst}
-use mathlib.Core.Bool.{true, not}
+use mathlib.Core.Bool.{true, false, not}
 use mathlib.Core.List.{List}
 use native.Mathlib.Omega.{arith}
 use native.Mathlib.Decide.{ℕ-discrete}
@@ -16,7 +17,7 @@ use Rattle.numbers.proofs.Tests.{by-test, true-false}
 use Rattle.numbers.proofs.Every.{none-left, holds-with}
 use Rattle.numbers.proofs.Parts.{pos-of-within}
 use Rattle.numbers.proofs.All.{below-cases, all-intro}
-use Rattle.table.specs.Limits.{tableLength, nodes, lastNode, depthAt, rateAt, class, client, fixed, weighted, root, lastLevel, wholeShare, greatestDepth, greatestRate}
+use Rattle.table.specs.Limits.{tableLength, nodes, lastNode, kindAt, depthAt, rateAt, class, client, fixed, stated, root, lastLevel, greatestDepth, greatestRate, shareLimit}
 use Rattle.table.specs.Places.{place, rate}
 use Rattle.table.specs.Tree.{treeOf, there}
 use Rattle.table.specs.Order.{inOrder}
@@ -26,10 +27,11 @@ use Rattle.table.proofs.Refusals.{first-none, first-end}
 use Rattle.treelaws.proofs.Renewed.{same-tree-below}
 use Rattle.table.proofs.Edits.{SameNode}
 use Rattle.calllaws.proofs.Nodes.{there-same}
-use Rattle.layout.specs.Format.{Entry, Plan, planIn, formed}
+use Rattle.layout.specs.declared.Edition.{Edition}
+use Rattle.layout.specs.Format.{Entry, Plan, editionIn, planIn, formed}
 use Rattle.planlaws.specs.Reading.{entryRefusal, afterEntries, openedFor, joinedFor, standing, rising, planRefusal, planTable}
-use Rattle.planlaws.specs.Writing.{standings, order, entryOf, planOf, planBytes}
-use Rattle.layout.proofs.Codec.{SamePlan, written-formed, written-plan}
+use Rattle.planlaws.specs.Writing.{standings, order, entryOf, planOf, planBytes, unwritable}
+use Rattle.layout.proofs.Codec.{SamePlan, Fits, written-edition, written-formed, written-plan}
 use Rattle.planlaws.proofs.Rising.{found-below}
 use Rattle.planlaws.proofs.Listing.{Listed, listed, listed-node, listed-found, listed-rises, level-listed}
 use Rattle.planlaws.proofs.Accepted.{accepted-plan, plan-table, each-entries}
@@ -56,8 +58,8 @@ unfolding treeOf
 shown-places v t k n a b zero hp = same-number class client _ _ (a .sort) (b .sort) (n .sort)
 shown-places v t k n a b (suc zero) hp = same-number 0 lastNode _ _ (a .parent) (b .parent) (n .parent)
 shown-places v t k n a b (suc (suc zero)) hp = same-number 0 lastLevel _ _ (a .level) (b .level) (n .level)
-shown-places v t k n a b (suc (suc (suc zero))) hp = same-number fixed weighted _ _ (a .kind) (b .kind) (n .kind)
-shown-places v t k n a b (suc (suc (suc (suc zero)))) hp = same-number 1 wholeShare _ _ (a .share) (b .share) (n .share)
+shown-places v t k n a b (suc (suc (suc zero))) hp = same-number fixed stated _ _ (a .kind) (b .kind) (n .kind)
+shown-places v t k n a b (suc (suc (suc (suc zero)))) hp = same-number 1 (shareLimit (plus (place t k kindAt))) _ _ (rw (n .kind) at (a .share)) (b .share) (n .share)
 shown-places v t k n a b (suc (suc (suc (suc (suc zero))))) hp = same-number 1 greatestDepth _ _ (a .depth) (b .depth) (n .depth)
 shown-places v t k n a b (suc (suc (suc (suc (suc (suc p)))))) hp = absurd (omega arith)
 
@@ -141,12 +143,17 @@ module _ (t : List ℤ) (f : InOrder t) (q : Plan) (same : SamePlan q (planOf t)
               ];
         }
 
+    disk : rate v root ≡ rate t root
+    unfolding planOf
+    disk = en .disk ∙ same .rate
+
     next-node : n < length (order (treeOf t)) → Next t v (listed (treeOf t) n)
     next-node hn =
         record {
           whole = f;
           order = en .order;
           part = shows-part;
+          disk = disk;
           small = x .small;
           below = x .below;
           here = x .there;
@@ -239,36 +246,43 @@ module _ (t : List ℤ) (f : InOrder t) (q : Plan) (same : SamePlan q (planOf t)
             rw (node-is i (omega (arith, count-is)), node-is (suc i) (omega (arith, count-is)))
             (lt-ltb _ _ (listed-rises (treeOf t) .up i (suc i) (omega arith) (omega (arith, count-is))))
 
--- What was written is accepted, and the table shows the same tree and disk rate.
-module _ (t u : List ℤ) (h : inOrder t ≡ true) (long : length u ≡ tableLength) where
-  says : SamePlan (planIn (planBytes t)) (planOf t)
-  unfolding planBytes
-  says = written-plan (planOf t) (plan-fits t (facts t h))
+-- What was written is accepted, it is of the edition that was asked for, and the table shows the same tree and disk rate.
+module _ (e : Edition) (t u : List ℤ) (h : inOrder t ≡ true) (kinds : unwritable e (treeOf t) ≡ false) (long : length u ≡ tableLength) where
+  fits : Fits e (planOf t)
+  fits = plan-fits t (facts t h) e kinds
 
-  well-formed : formed (planBytes t) ≡ true
+  says : SamePlan (planIn (planBytes e t)) (planOf t)
   unfolding planBytes
-  well-formed = written-formed (planOf t) (plan-fits t (facts t h))
+  says = written-plan e (planOf t) fits
 
-  pub written-accepted : planRefusal u (planBytes t) ≡ 0
+  well-formed : formed (planBytes e t) ≡ true
+  unfolding planBytes
+  well-formed = written-formed e (planOf t) fits
+
+  pub written-met : editionIn (planBytes e t) ≡ e
+  unfolding planBytes
+  written-met = written-edition e (planOf t) fits
+
+  pub written-accepted : planRefusal u (planBytes e t) ≡ 0
   written-accepted =
-      accepted-plan u (planBytes t)
+      accepted-plan u (planBytes e t)
       (record {
         long = long;
         formed = well-formed;
-        opening = opens t (facts t h) (planIn (planBytes t)) says u long;
-        joining = each-entries _ (planIn (planBytes t)) (planIn (planBytes t) .count) (each-accepted t (facts t h) (planIn (planBytes t)) says u long (planIn (planBytes t) .count) (omega (arith, count-is t (facts t h) (planIn (planBytes t)) says)));
-        rising = joined-rising t (facts t h) (planIn (planBytes t)) says u long;
+        opening = opens t (facts t h) (planIn (planBytes e t)) says u long;
+        joining = each-entries _ (planIn (planBytes e t)) (planIn (planBytes e t) .count) (each-accepted t (facts t h) (planIn (planBytes e t)) says u long (planIn (planBytes e t) .count) (omega (arith, count-is t (facts t h) (planIn (planBytes e t)) says)));
+        rising = joined-rising t (facts t h) (planIn (planBytes e t)) says u long;
       })
 
-  pub written-place : (k p : ℕ) → k < nodes → p < rateAt → place (planTable u (planBytes t)) k p ≡ place t k p
-  written-place k p hk hp = rw (plan-table u (planBytes t) written-accepted) (joined-place t (facts t h) (planIn (planBytes t)) says u long k p hk hp)
+  pub written-place : (k p : ℕ) → k < nodes → p < rateAt → place (planTable u (planBytes e t)) k p ≡ place t k p
+  written-place k p hk hp = rw (plan-table u (planBytes e t) written-accepted) (joined-place t (facts t h) (planIn (planBytes e t)) says u long k p hk hp)
 
-  pub written-disk : place (planTable u (planBytes t)) root rateAt ≡ place t root rateAt
-  written-disk = rw (plan-table u (planBytes t) written-accepted) (joined-disk t (facts t h) (planIn (planBytes t)) says u long)
+  pub written-disk : place (planTable u (planBytes e t)) root rateAt ≡ place t root rateAt
+  written-disk = rw (plan-table u (planBytes e t) written-accepted) (joined-disk t (facts t h) (planIn (planBytes e t)) says u long)
 
-  pub written-tree : treeOf (planTable u (planBytes t)) ≡ treeOf t
-  written-tree = rw (plan-table u (planBytes t) written-accepted) (joined-tree t (facts t h) (planIn (planBytes t)) says u long)
+  pub written-tree : treeOf (planTable u (planBytes e t)) ≡ treeOf t
+  written-tree = rw (plan-table u (planBytes e t) written-accepted) (joined-tree t (facts t h) (planIn (planBytes e t)) says u long)
 
-  pub written-rate : rate (planTable u (planBytes t)) root ≡ rate t root
+  pub written-rate : rate (planTable u (planBytes e t)) root ≡ rate t root
   unfolding rate
   written-rate = ap plus written-disk

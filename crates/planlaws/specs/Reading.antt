@@ -1,5 +1,5 @@
 -- Reading a plan opens a table and joins the entries in turn. Document 01, "Same tree, and the plan file" and "What is
--- turned back".
+-- turned back", and document 02, (f).
 use Prim.Native.Nat.{ℕ, zero, suc, _+_, _*_, _-_}
 use mathlib.Core.Bool.{Bool, not}
 use mathlib.Core.List.{List, [], _∷_}
@@ -10,10 +10,10 @@ use Rattle.numbers.specs.Below.{allBelow, forBelow}
 use Rattle.table.specs.Limits.{tableLength, nodes}
 use Rattle.table.specs.Tree.{Tree, treeOf}
 use Rattle.table.specs.Refusals.{Cause, cause, first, Outcome, outcome, kept}
-use Rattle.table.specs.Calls.{done, blank, openRefusal, openTable}
+use Rattle.table.specs.Calls.{blank, openRefusal, openTable}
 use Rattle.treelaws.specs.Joins.{Join, refusalOf, afterJoin}
 use Rattle.layout.specs.Kinds.{sortOf, shareKindOf}
-use Rattle.layout.specs.Format.{Entry, Plan, planIn, formed}
+use Rattle.layout.specs.Format.{Entry, Plan, editionNumber, editionIn, planIn, formed}
 
 -- The join that an entry asks for.
 unfoldable pub joinOf : Entry → Join
@@ -64,7 +64,8 @@ unfoldable pub rising : Tree → Plan → Bool
 rising tree p =
     allBelow (p .count - 1) (λ i. ltb (standing tree (p .entry i .node)) (standing tree (p .entry (suc i) .node)))
 
--- Reading plan bytes into table t: 1 for the table's length, 14, then open and the joins entry by entry, then 15.
+-- Reading plan bytes into table t: 1 for the table's length, 14, then open and the joins entry by entry, among whose causes is
+-- 16, then 15.
 unfoldable pub planRefusal : List ℤ → List ℕ → ℕ
 planRefusal t s =
     first
@@ -78,8 +79,9 @@ planRefusal t s =
 unfoldable pub planTable : List ℤ → List ℕ → List ℤ
 planTable t s = kept (planRefusal t s) (joinedFor t (planIn s)) t
 
+-- It answers the edition that it met, 1 or 2.
 unfoldable pub planAnswer : List ℤ → List ℕ → Outcome
-planAnswer t s = outcome (planRefusal t s) done
+planAnswer t s = outcome (planRefusal t s) (pos (editionNumber (editionIn s)) ∷ [])
 
 -- What the cabinet's firmware gets for plan bytes: the refusal number, or 0, that reading them into a table of right
 -- length gives.

@@ -1,18 +1,21 @@
--- Writing the plan of a table. Document 01, "Same tree, and the plan file" and "What is turned back".
+-- Writing the plan of a table. Document 01, "Same tree, and the plan file" and "What is turned back", and document 02, (f).
 use Prim.Native.Nat.{ℕ, zero, suc, _*_, _/_, _%_}
-use mathlib.Core.Bool.{Bool, not, cond}
+use mathlib.Core.Bool.{Bool, false, not, cond}
 use mathlib.Core.List.{List, [], _∷_, _++_}
 use lib.ListN.{length, getD, drop}
 use lib.Dec.{eqb, ltb}
 use lib.IntN.{ℤ, pos}
+use Rattle.numbers.specs.Whole.{plus, withinℤ}
 use Rattle.numbers.specs.Tests.{every}
 use Rattle.table.specs.Limits.{nodes, root, lastLevel}
 use Rattle.table.specs.Places.{rate}
-use Rattle.table.specs.Tree.{Tree, treeOf, there}
+use Rattle.table.specs.Tree.{Tree, treeOf, there, isStated, eachNode}
 use Rattle.table.specs.Order.{inOrder}
 use Rattle.table.specs.Refusals.{cause, first, Outcome, outcome}
 use Rattle.layout.specs.Kinds.{kindOf}
-use Rattle.layout.specs.Format.{Entry, Plan, bytesOf}
+use Rattle.layout.specs.Format.{Entry, Plan, firstEdition, secondEdition, editionOf, bytesOf}
+use Rattle.layout.specs.declared.Edition.{Edition}
+use Rattle.layout.specs.declared.Edition.the-variants.{First, Second}
 
 -- How many pairs of a level and a number there are.
 abbrev pub standings : ℕ
@@ -53,17 +56,37 @@ planOf t =
       entry = λ i. entryOf (treeOf t) (getD (order (treeOf t)) i 0);
     }
 
-unfoldable pub planBytes : List ℤ → List ℕ
-planBytes t = bytesOf (planOf t)
+unfoldable pub planBytes : Edition → List ℤ → List ℕ
+planBytes e t = bytesOf e (planOf t)
+
+-- Whether a stated node is in the tree, and whether an edition has no kind for a node of the tree: the first has none for a
+-- stated one.
+unfoldable pub anyStated : Tree → Bool
+anyStated tree = not (eachNode tree (λ k. not (isStated tree k)))
+
+unfoldable pub unwritable : Edition → Tree → Bool
+unwritable First tree = anyStated tree
+unwritable Second tree = false
+
+-- The edition that a writer is told, 1 or 2.
+abbrev pub editionTold : ℤ → Edition
+editionTold edition = editionOf (plus edition)
 
 -- Writing returns the length and touches nothing beyond it.
-unfoldable pub writeRefusal : List ℤ → List ℕ → ℕ
-writeRefusal t buffer =
-    first (cause 1 (not (inOrder t)) ∷ cause 13 (ltb (length buffer) (length (planBytes t))) ∷ [])
+unfoldable pub writeRefusal : List ℤ → ℤ → List ℕ → ℕ
+writeRefusal t edition buffer =
+    first
+    (cause 1 (not (inOrder t))
+    ∷ cause 2 (not (withinℤ firstEdition secondEdition edition))
+    ∷ cause 13 (ltb (length buffer) (length (planBytes (editionTold edition) t)))
+    ∷ cause 16 (unwritable (editionTold edition) (treeOf t))
+    ∷ [])
 
-unfoldable pub writeBuffer : List ℤ → List ℕ → List ℕ
-writeBuffer t buffer =
-    cond (eqb (writeRefusal t buffer) 0) (planBytes t ++ drop (length (planBytes t)) buffer) buffer
+unfoldable pub writeBuffer : List ℤ → ℤ → List ℕ → List ℕ
+writeBuffer t edition buffer =
+    cond (eqb (writeRefusal t edition buffer) 0)
+    (planBytes (editionTold edition) t ++ drop (length (planBytes (editionTold edition) t)) buffer)
+    buffer
 
-unfoldable pub writeAnswer : List ℤ → List ℕ → Outcome
-writeAnswer t buffer = outcome (writeRefusal t buffer) (pos (length (planBytes t)) ∷ [])
+unfoldable pub writeAnswer : List ℤ → ℤ → List ℕ → Outcome
+writeAnswer t edition buffer = outcome (writeRefusal t edition buffer) (pos (length (planBytes (editionTold edition) t)) ∷ [])

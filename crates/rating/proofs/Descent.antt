@@ -23,7 +23,8 @@ use Rattle.table.proofs.Places.{length-put, header-put, place-put-same, place-p
 use Rattle.treelaws.proofs.Renewed.{Written, same-tree}
 use Rattle.treelaws.proofs.Way.{Ways, At, above}
 use Rattle.treelaws.proofs.Below.{below-facts, below-level, below-parent, by-parent, own-rate, rate-below-child, renewing-below, renewed-below-is}
-use Rattle.rating.specs.Rated.{Placed, Rated, atLevel, ClassSums}
+use Rattle.rating.specs.Rated.{Placed, Rated, atLevel}
+use Rattle.rating.specs.Sums.{ShareSums}
 use Rattle.rating.specs.Renewal.{turn, Descent, Onward}
 use Rattle.rating.proofs.Rated.{rated-ways, level-le, rate-below-le}
 
@@ -69,8 +70,8 @@ pub onward-at : (t u : List ℤ) (c m n : ℕ) (marks : List Bool) → m ≡ n �
 onward-at t u c m n marks e o = subst (λ (i : ℕ). Onward t u c i marks) e o
 
 -- The sums under the classes stay.
-pub same-class-sums : (t u : List ℤ) (fs ws : List ℕ) → treeOf u ≡ treeOf t → ClassSums t fs ws → ClassSums u fs ws
-same-class-sums t u fs ws same f = record { fixed = rw same (f .fixed); weights = rw same (f .weights) }
+pub same-share-sums : (t u : List ℤ) (sums : List ℕ) → treeOf u ≡ treeOf t → ShareSums t nodes sums → ShareSums u nodes sums
+same-share-sums t u sums same f = record { long = f .long; at = rw same (f .at) }
 
 -- The turn of node n at level l.
 module _ (t : List ℤ) (c l n : ℕ) (marks : List Bool) (hn : n < nodes) (d : Descent t c (l * nodes + n) marks) where
@@ -221,7 +222,7 @@ module _ (t : List ℤ) (c l n : ℕ) (marks : List Bool) (d : Descent t c (l * 
     parent-le =
         by-parent (treeOf t) ways {P = rate t (treeOf t .parent n) ≤ greatestRate} (l - 1) c n a here
         (λ e. omega (arith, ap (rate t) e, d .rated .own))
-        (λ e. omega (arith, parent-rate, d .rated .own, rate-below-le t c (d .rated) (rate t c) (treeOf t .parent n) (up .low) e))
+        (λ e. omega (arith, parent-rate, rate-below-le t c (d .rated) (treeOf t .parent n) (up .low) e))
 
     pub child-renewed : childRate (treeOf t) (rate t (treeOf t .parent n)) n ≡ rateBelow (treeOf t) c (rate t c) n
     child-renewed =
@@ -229,4 +230,4 @@ module _ (t : List ℤ) (c l n : ℕ) (marks : List Bool) (d : Descent t c (l * 
         ∙ sym (rate-below-child (treeOf t) ways (l - 1) c (rate t c) n a (omega (arith, a .level, below-level (treeOf t) ways c n h here)))
 
     pub renewed-small : rateBelow (treeOf t) c (rate t c) n ≤ greatestRate
-    renewed-small = omega (arith, d .rated .own, rate-below-le t c (d .rated) (rate t c) n h here)
+    renewed-small = rate-below-le t c (d .rated) n h here

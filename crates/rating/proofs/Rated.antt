@@ -1,5 +1,5 @@
--- What a rated table satisfies: its sums can be reckoned, the rates below a class are at most the class's own. Which tables
--- are rated.
+-- What a rated table satisfies: its sums can be reckoned, the rates below a class are at most the greatest. Which tables are
+-- rated.
 use Prim.Native.Nat.{ℕ, zero, suc, _*_, _≤_, _<_}
 use mathlib.Core.Path.{_≡_, refl, sym, ap, _∙_, subst}
 use mathlib.Core.Bool.{true, false, cond}
@@ -14,77 +14,72 @@ use Rattle.numbers.specs.Whole.{plus}
 use Rattle.numbers.proofs.Tests.{by-test}
 use Rattle.numbers.proofs.Parts.{plus-pos, zarith}
 use Rattle.numbers.proofs.Sums.{sum-bound}
-use Rattle.table.specs.Limits.{tableLength, nodes, root, lastLevel, wholeShare, greatestRate}
+use Rattle.table.specs.Limits.{tableLength, nodes, root, weighted, lastLevel, wholeShare, greatestRate}
 use Rattle.table.specs.Places.{rate}
-use Rattle.table.specs.Tree.{Tree, treeOf, there, isClass, isFixed, childOf, countIf, sumUnder}
-use Rattle.table.specs.Rates.{fixedShare, weight, fixedSum, weightSum, renewed}
+use Rattle.table.specs.Tree.{Tree, treeOf, there, isClass, isFixed, isStated, childOf, countIf, sumUnder}
+use Rattle.table.specs.Rates.{kindShare, kindSum, fixedSum, weightSum, renewed}
 use Rattle.table.specs.Renewal.{below, rateBelow}
 use Rattle.table.specs.Order.{inOrder}
+use Rattle.table.proofs.ShareKinds.{limit-le, limit-unstated, weighted-kind, own-share, other-share}
 use Rattle.table.proofs.Facts.{Limits, Root, Child, facts, root-there}
 use Rattle.treelaws.proofs.Children.{child-of, child-facts, counted, uncounted}
 use Rattle.treelaws.proofs.Renewed.{renewed-tree, renewed-length}
-use Rattle.treelaws.proofs.Rounding.{child-rate-le, weight-le-sum, rate-small}
+use Rattle.treelaws.proofs.Rounding.{Shared, child-rate-le, share-le-sum, rate-small}
 use Rattle.treelaws.proofs.Way.{Ways, At, above}
 use Rattle.treelaws.proofs.Below.{below-facts, below-level, by-parent, own-rate, rate-below-child}
-use Rattle.rating.specs.declared.sums.Summand.{Summand}
-use Rattle.rating.specs.declared.sums.Summand.the-variants.{FixedShares, Weights}
-use Rattle.rating.specs.Sums.{term, Summable}
+use Rattle.rating.specs.Sums.{Shareable}
 use Rattle.rating.specs.Rated.{Placed, Rated}
 
 -- A rate times a share fits 64 bits.
-pub product-small : (r s : ℕ) → r ≤ greatestRate → s ≤ wholeShare → r * s ≤ greatestRate * wholeShare
+pub product-small : (r s : ℕ) → r ≤ greatestRate → s ≤ greatestRate → r * s ≤ greatestRate * greatestRate
 product-small r s hr hs = mul-le-mul hr hs
 
--- A share counts where it is fixed.
-pub fixed-of : (tree : Tree) (k kind share : ℕ) → tree .kind k ≡ kind → tree .share k ≡ share → fixedShare tree k ≡ cond (eqb kind 0) share 0
-unfolding fixedShare isFixed
-fixed-of tree k kind share hk hs = rw (hk, hs)
-
--- Shares that are counted are at most the share.
-pub fixed-share-le : (tree : Tree) (k : ℕ) → fixedShare tree k ≤ tree .share k
-unfolding fixedShare
-fixed-share-le tree k = by-test (isFixed tree k) (λ e. rw e (omega arith)) (λ e. rw e (omega arith))
-
-pub weight-le : (tree : Tree) (k : ℕ) → weight tree k ≤ tree .share k
-unfolding weight
-weight-le tree k = by-test (isFixed tree k) (λ e. rw e (omega arith)) (λ e. rw e (omega arith))
+-- A share counts where it is of the kind that is summed.
+pub share-of : (tree : Tree) (summed k kind share : ℕ) → tree .kind k ≡ kind → tree .share k ≡ share → kindShare tree summed k ≡ cond (eqb kind summed) share 0
+unfolding kindShare
+share-of tree summed k kind share hk hs = rw (hk, hs)
 
 -- A node that is there, but for the root, is a child of its parent.
 placed-child : (tree : Tree) (k : ℕ) → there tree k ≡ true → (k ≡ 0 → ⊥) → childOf tree (tree .parent k) k ≡ true
 placed-child tree k e ne = child-of tree (tree .parent k) k (record { there = e; below = ne; parent = refl })
 
 -- So the weights under its parent are more than nothing where it is weighted.
-pub weights-there : (tree : Tree) (k : ℕ) → k < nodes → there tree k ≡ true → (k ≡ 0 → ⊥) → Placed tree k → isFixed tree k ≡ false → 1 ≤ weightSum tree (tree .parent k)
-weights-there tree k hk e ne p weighted = omega (arith, weight-le-sum tree (tree .parent k) k hk (placed-child tree k e ne) weighted)
+pub weights-there : (tree : Tree) (k : ℕ) → k < nodes → there tree k ≡ true → (k ≡ 0 → ⊥) → Placed tree k → isStated tree k ≡ false → isFixed tree k ≡ false → 1 ≤ weightSum tree (tree .parent k)
+weights-there tree k hk e ne p s f = omega (arith, p .least, share-le-sum tree (tree .parent k) weighted k hk (placed-child tree k e ne) (weighted-kind tree k (p .kind) s f))
 
 module _ (t : List ℤ) (c : ℕ) (f : Rated t c) where
-  -- What is at most the share can be summed.
-  share-summable : (which : Summand) → ((k : ℕ) → term which t k ≤ treeOf t .share k) → Summable which t
-  share-summable which le =
+  share-small : (k : ℕ) → k < nodes → there (treeOf t) k ≡ true → (k ≡ root → ⊥) → Shared (treeOf t) greatestRate k
+  share-small k hk e ne =
+      let p = f .node k hk e ne in
+      record { kind = p .kind; share = p .most; stated = λ s. omega (arith, p .most, limit-le (treeOf t .kind k)) }
+
+  -- Its shares can be summed.
+  pub shareable : Shareable t
+  shareable =
       record {
         parent = λ k hk e ne. f .node k hk e ne .parent;
-        small = λ k hk e ne. let p = f .node k hk e ne in omega (arith, le k);
+        kind = λ k hk e ne. let p = f .node k hk e ne in omega (arith, p .kind);
+        small = λ k hk e ne. let p = f .node k hk e ne in omega (arith, p .most, limit-le (treeOf t .kind k));
       }
 
-  pub fixed-summable : Summable FixedShares t
-  unfolding term
-  fixed-summable = share-summable FixedShares (λ k. fixed-share-le (treeOf t) k)
-
-  pub weight-summable : Summable Weights t
-  unfolding term
-  weight-summable = share-summable Weights (λ k. weight-le (treeOf t) k)
-
   -- The weights under a class sum to at most 64 x 10,000.
+  weight-le : (k : ℕ) → Placed (treeOf t) k → kindShare (treeOf t) weighted k ≤ wholeShare
+  weight-le k p =
+      elim (ℕ-discrete (treeOf t .kind k) weighted) [
+        | yes e ↦ omega (arith, own-share (treeOf t) weighted k e, p .most, limit-unstated (treeOf t .kind k) (λ s. omega arith))
+        | no ne ↦ omega (arith, other-share (treeOf t) weighted k ne)
+      ]
+
   pub weights-small : (class : ℕ) → weightSum (treeOf t) class ≤ nodes * wholeShare
-  unfolding weightSum sumUnder
+  unfolding kindSum sumUnder
   weights-small class =
-      sum-bound nodes wholeShare (λ k. countIf (childOf (treeOf t) class k) (weight (treeOf t)) k)
+      sum-bound nodes wholeShare (λ k. countIf (childOf (treeOf t) class k) (kindShare (treeOf t) weighted) k)
       (λ k hk.
       by-test (childOf (treeOf t) class k)
       (λ e.
       let child = child-facts (treeOf t) class k e in
-      omega (arith, counted (childOf (treeOf t) class k) (weight (treeOf t)) k e, weight-le (treeOf t) k, f .node k hk (child .there) (child .below) .most))
-      (λ e. omega (arith, uncounted (childOf (treeOf t) class k) (weight (treeOf t)) k e)))
+      omega (arith, counted (childOf (treeOf t) class k) (kindShare (treeOf t) weighted) k e, weight-le k (f .node k hk (child .there) (child .below))))
+      (λ e. omega (arith, uncounted (childOf (treeOf t) class k) (kindShare (treeOf t) weighted) k e)))
 
   -- No node stands lower than level 4.
   pub level-le : (k : ℕ) → k < nodes → there (treeOf t) k ≡ true → treeOf t .level k ≤ lastLevel
@@ -98,23 +93,23 @@ module _ (t : List ℤ) (c : ℕ) (f : Rated t c) where
         top = f .top;
       }
 
-  -- No rate below a class exceeds the class's own.
-  rate-le : (l r k : ℕ) → At (treeOf t) l k → below (treeOf t) c k ≡ true → rateBelow (treeOf t) c r k ≤ r
-  rate-le zero r k a h = absurd (omega (arith, a .level, below-level (treeOf t) rated-ways c k (a .low) h))
-  rate-le (suc l) r k a h =
+  -- No rate below a class exceeds the greatest, where the class's own does not.
+  rate-le : (l r k : ℕ) → r ≤ greatestRate → At (treeOf t) l k → below (treeOf t) c k ≡ true → rateBelow (treeOf t) c r k ≤ greatestRate
+  rate-le zero r k small a h = absurd (omega (arith, a .level, below-level (treeOf t) rated-ways c k (a .low) h))
+  rate-le (suc l) r k small a h =
       let tree = treeOf t in
       let up = above tree rated-ways l k a in
       omega (
         arith,
         rate-below-child tree rated-ways l c r k a (omega (arith, a .level, below-level tree rated-ways c k (a .low) h)),
-        child-rate-le tree (tree .parent k) (rateBelow tree c r (tree .parent k)) k (a .low) (placed-child tree k (a .there) (up .below)) (f .node k (a .low) (a .there) (up .below) .most),
-        by-parent tree rated-ways {P = rateBelow tree c r (tree .parent k) ≤ r} l c k a h
+        child-rate-le tree (tree .parent k) (rateBelow tree c r (tree .parent k)) greatestRate k (a .low) (placed-child tree k (a .there) (up .below)) (share-small k (a .low) (a .there) (up .below))
+            (by-parent tree rated-ways {P = rateBelow tree c r (tree .parent k) ≤ greatestRate} l c k a h
             (λ e. omega (arith, ap (rateBelow tree c r) e, own-rate tree c r))
-            (λ e. rate-le l r (tree .parent k) (up .up) e),
+            (λ e. rate-le l r (tree .parent k) small (up .up) e)),
       )
 
-  pub rate-below-le : (r k : ℕ) → k < nodes → below (treeOf t) c k ≡ true → rateBelow (treeOf t) c r k ≤ r
-  rate-below-le r k hk h = rate-le (treeOf t .level k) r k (record { low = hk; there = below-facts (treeOf t) c k h .there; level = refl }) h
+  pub rate-below-le : (k : ℕ) → k < nodes → below (treeOf t) c k ≡ true → rateBelow (treeOf t) c (rate t c) k ≤ greatestRate
+  rate-below-le k hk h = rate-le (treeOf t .level k) (rate t c) k (f .own) (record { low = hk; there = below-facts (treeOf t) c k h .there; level = refl }) h
 
 -- What makes a table rated: its root, the limits of its nodes, their parents, the fixed shares under each class, and the
 -- class's own rate.
@@ -133,6 +128,7 @@ rated-of t c long root limits child shares low here own =
             class = class;
             level = child k hk e ne .level;
             deep = omega (arith, zarith);
+            kind = omega (arith, zarith);
             least = omega (arith, zarith);
             most = omega (arith, zarith);
             shares = shares (treeOf t .parent k) parent class;

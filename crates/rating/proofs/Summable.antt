@@ -11,14 +11,14 @@ use Rattle.numbers.proofs.Parts.{one-is-zero, plus-pos, minus-pos, zarith}
 use Rattle.table.specs.Limits.{nodes}
 use Rattle.table.specs.Places.{rate, balance, depthGrains}
 use Rattle.table.specs.Tree.{treeOf, there}
-use Rattle.table.specs.Rates.{fixedShare, weight}
+use Rattle.table.specs.Rates.{kindShare}
 use Rattle.table.proofs.Facts.{Limits, InOrder}
+use Rattle.table.proofs.ShareKinds.{limit-le, kind-share-le}
 use Rattle.treelaws.proofs.Rounding.{rate-small}
 use Rattle.treelaws.proofs.Floors.{grounds, node-floor}
 use Rattle.rating.specs.declared.sums.Summand.{Summand}
-use Rattle.rating.specs.declared.sums.Summand.the-variants.{FixedShares, Weights, Depths, Rates, Credits, Debts}
-use Rattle.rating.specs.Sums.{term, Summable}
-use Rattle.rating.proofs.Rated.{fixed-share-le, weight-le}
+use Rattle.rating.specs.declared.sums.Summand.the-variants.{Shares, Depths, Rates, Credits, Debts}
+use Rattle.rating.specs.Sums.{term, Summable, Shareable}
 
 -- The bounds of one node's numbers that stand in no limit: its rate and its balance.
 pub record SmallNumbers (t : List ℤ) (k : ℕ) : Type 0 where
@@ -26,15 +26,14 @@ pub record SmallNumbers (t : List ℤ) (k : ℕ) : Type 0 where
   pub credit : plus (balance t k) ≤ 2 ^ 57
   pub debt : minus (balance t k) ≤ 2 ^ 57
 
--- A summand is small where every kind of it is.
-term-le : (which : Summand) (t : List ℤ) (k : ℕ) → fixedShare (treeOf t) k ≤ 2 ^ 57 → weight (treeOf t) k ≤ 2 ^ 57 → treeOf t .depth k ≤ 2 ^ 57 → SmallNumbers t k → term which t k ≤ 2 ^ 57
+-- A summand is small where share and depth are, and these numbers.
+term-le : (which : Summand) (t : List ℤ) (k : ℕ) → treeOf t .share k ≤ 2 ^ 57 → treeOf t .depth k ≤ 2 ^ 57 → SmallNumbers t k → term which t k ≤ 2 ^ 57
 unfolding term
-term-le FixedShares t k fixed weighted depth small = fixed
-term-le Weights t k fixed weighted depth small = weighted
-term-le Depths t k fixed weighted depth small = depth
-term-le Rates t k fixed weighted depth small = small .rate
-term-le Credits t k fixed weighted depth small = small .credit
-term-le Debts t k fixed weighted depth small = small .debt
+term-le (Shares kind) t k share depth small = omega (arith, kind-share-le (treeOf t) kind k)
+term-le Depths t k share depth small = depth
+term-le Rates t k share depth small = small .rate
+term-le Credits t k share depth small = small .credit
+term-le Debts t k share depth small = small .debt
 
 pub summable-of : (which : Summand) (t : List ℤ) → ((k : ℕ) → k < nodes → there (treeOf t) k ≡ true → Limits t k) → ((k : ℕ) → k < nodes → there (treeOf t) k ≡ true → SmallNumbers t k) → Summable which t
 unfolding treeOf
@@ -43,7 +42,17 @@ summable-of which t limits numbers =
       parent = λ k hk e ne. let l = limits k hk e in omega (arith, zarith);
       small = λ k hk e ne.
           let l = limits k hk e in
-          term-le which t k (omega (arith, zarith, fixed-share-le (treeOf t) k)) (omega (arith, zarith, weight-le (treeOf t) k)) (omega (arith, zarith)) (numbers k hk e);
+          term-le which t k (omega (arith, zarith, limit-le (treeOf t .kind k))) (omega (arith, zarith)) (numbers k hk e);
+    }
+
+-- Their shares can be summed by kind.
+pub shareable-of : (t : List ℤ) → ((k : ℕ) → k < nodes → there (treeOf t) k ≡ true → Limits t k) → Shareable t
+unfolding treeOf
+shareable-of t limits =
+    record {
+      parent = λ k hk e ne. let l = limits k hk e in omega (arith, zarith);
+      kind = λ k hk e ne. let l = limits k hk e in omega (arith, zarith);
+      small = λ k hk e ne. let l = limits k hk e in omega (arith, zarith, limit-le (treeOf t .kind k));
     }
 
 pub in-order-summable : (which : Summand) (t : List ℤ) → InOrder t → Summable which t

@@ -1,7 +1,7 @@
 -- The sum under a class of the nodes below a bound, node by node.
 use Prim.Native.Nat.{ℕ, _+_, _*_, _≤_, _<_, _^_, min}
 use mathlib.Core.Path.{_≡_, refl, sym, ap, _∙_}
-use mathlib.Core.Bool.{true}
+use mathlib.Core.Bool.{true, false}
 use mathlib.Core.List.{List}
 use native.Mathlib.Omega.{arith}
 use native.Mathlib.Decide.{ℕ-discrete}
@@ -9,18 +9,18 @@ use lib.ListN.{getD, set, length-set, replicate, length-replicate, getD-replicat
 use lib.Seq.{getD-set-same, getD-set-other}
 use lib.IntN.{ℤ}
 use Rattle.numbers.specs.Below.{sumBelow}
-use Rattle.numbers.proofs.Tests.{by-test}
+use Rattle.numbers.proofs.Tests.{by-test, true-false}
 use Rattle.numbers.proofs.Parts.{one-is-zero}
 use Rattle.numbers.proofs.Sums.{sum-next, sum-bound}
-use Rattle.table.specs.Limits.{nodes}
+use Rattle.table.specs.Limits.{nodes, kinds, greatestRate}
 use Rattle.table.specs.Places.{balance}
-use Rattle.table.specs.Tree.{Tree, treeOf, there, isFixed, childOf, countIf, sumUnder}
-use Rattle.table.specs.Rates.{fixedShare, weight, fixedSum, weightSum}
+use Rattle.table.specs.Tree.{Tree, treeOf, there, childOf, countIf, sumUnder}
+use Rattle.table.specs.Rates.{kindShare, kindSum}
+use Rattle.table.proofs.ShareKinds.{own-share, other-share, kind-share-le}
 use Rattle.treelaws.proofs.Children.{child-facts, child-of, counted, uncounted}
 use Rattle.rating.specs.declared.sums.Summand.{Summand}
-use Rattle.rating.specs.declared.sums.Summand.the-variants.{FixedShares, Weights, Credits, Debts}
-use Rattle.rating.specs.Rated.{ClassSums}
-use Rattle.rating.specs.Sums.{term, Summable, underBelow, SumsBelow}
+use Rattle.rating.specs.declared.sums.Summand.the-variants.{Credits, Debts}
+use Rattle.rating.specs.Sums.{term, Summable, underBelow, SumsBelow, Shareable, sumAt, ShareSums}
 
 module _ (tree : Tree) (c : ℕ) (f : ℕ → ℕ) where
   pub under-start : underBelow 0 tree c f ≡ 0
@@ -93,16 +93,69 @@ module _ (which : Summand) (t : List ℤ) where
           ∙ f .at c hc
           ∙ sym (under-skip (treeOf t) c (term which t) k (λ e. absurd (ne (sym (child-facts (treeOf t) c k e .parent) ∙ parent))))
 
--- A share is fixed or a weight, and a balance is not on both sides of 0.
-pub one-share : (t : List ℤ) (k : ℕ) → min (term FixedShares t k) (term Weights t k) ≡ 0
-unfolding term fixedShare weight
-one-share t k = by-test (isFixed (treeOf t) k) (λ e. rw e (omega arith)) (λ e. rw e (omega arith))
-
+-- A balance is not on both sides of 0.
 pub one-side : (t : List ℤ) (k : ℕ) → min (term Credits t k) (term Debts t k) ≡ 0
 unfolding term
 one-side t k = one-is-zero (balance t k)
 
--- Both sums of shares.
-pub class-sums : (t : List ℤ) (fs ws : List ℕ) → SumsBelow FixedShares t nodes fs → SumsBelow Weights t nodes ws → ClassSums t fs ws
-unfolding term fixedSum weightSum
-class-sums t fs ws fixed weights = record { fixed = sums-end FixedShares t fs fixed; weights = sums-end Weights t ws weights }
+-- All sums of shares at once: node k's share is added to the sum of its kind under its parent.
+module _ (t : List ℤ) where
+  pub share-sums-start : ShareSums t 1 (replicate (kinds * nodes) 0)
+  share-sums-start = record { long = length-replicate {A = ℕ} (kinds * nodes) 0; at = λ c kind hc hk. getD-replicate (kinds * nodes) (sumAt c kind) 0 0 (omega arith) ∙ sym (under-root (treeOf t) c (kindShare (treeOf t) kind)) }
+
+  pub share-sums-end : (sums : List ℕ) → ShareSums t nodes sums → (c kind : ℕ) → c < nodes → kind < kinds → getD sums (sumAt c kind) 0 ≡ kindSum (treeOf t) kind c
+  unfolding kindSum
+  share-sums-end sums f c kind hc hk = f .at c kind hc hk ∙ under-end (treeOf t) c (kindShare (treeOf t) kind)
+
+  -- A share adds at most the greatest rate.
+  share-small : Shareable t → (kind c k : ℕ) → k < nodes → countIf (childOf (treeOf t) c k) (kindShare (treeOf t) kind) k ≤ greatestRate
+  share-small s kind c k hk =
+      by-test (childOf (treeOf t) c k)
+      (λ e.
+      let child = child-facts (treeOf t) c k e in
+      omega (arith, counted (childOf (treeOf t) c k) (kindShare (treeOf t) kind) k e, kind-share-le (treeOf t) kind k, s .small k hk (child .there) (child .below)))
+      (λ e. omega (arith, uncounted (childOf (treeOf t) c k) (kindShare (treeOf t) kind) k e))
+
+  pub share-sums-small : Shareable t → (n : ℕ) → n ≤ nodes → (sums : List ℕ) → ShareSums t n sums → (c kind : ℕ) → c < nodes → kind < kinds → getD sums (sumAt c kind) 0 ≤ n * greatestRate
+  unfolding underBelow
+  share-sums-small s n hn sums f c kind hc hk =
+      omega (arith, f .at c kind hc hk, sum-bound n greatestRate (λ k. countIf (childOf (treeOf t) c k) (kindShare (treeOf t) kind) k) (λ k h. share-small s kind c k (omega arith)))
+
+  -- A node that is not there leaves all sums.
+  pub share-sums-same : (sums : List ℕ) (k : ℕ) → there (treeOf t) k ≡ false → ShareSums t k sums → ShareSums t (k + 1) sums
+  share-sums-same sums k gone f =
+      record {
+        long = f .long;
+        at = λ c kind hc hk. f .at c kind hc hk ∙ sym (under-skip (treeOf t) c (kindShare (treeOf t) kind) k (λ e. absurd (true-false (child-facts (treeOf t) c k e .there) gone)));
+      }
+
+  pub share-sums-next : (sums : List ℕ) (k p d s : ℕ) → there (treeOf t) k ≡ true → (k ≡ 0 → ⊥) → treeOf t .parent k ≡ p → p < nodes → treeOf t .kind k ≡ d → d < kinds → s ≡ treeOf t .share k → ShareSums t k sums → ShareSums t (k + 1) (set sums (sumAt p d) (getD sums (sumAt p d) 0 + s))
+  share-sums-next sums k p d s here below parent hp own hd share f =
+      record {
+        long = length-set sums (sumAt p d) (getD sums (sumAt p d) 0 + s) ∙ f .long;
+        at = λ c kind hc hk.
+            elim (ℕ-discrete (sumAt c kind) (sumAt p d)) [
+              | yes e ↦ same c kind hc hk (omega arith) (omega arith)
+              | no ne ↦ getD-set-other sums (sumAt p d) (sumAt c kind) (getD sums (sumAt p d) 0 + s) 0 ne ∙ f .at c kind hc hk ∙ sym (under-skip (treeOf t) c (kindShare (treeOf t) kind) k (other c kind ne))
+            ];
+      }
+    where
+      same : (c kind : ℕ) → c < nodes → kind < kinds → c ≡ p → kind ≡ d → getD (set sums (sumAt p d) (getD sums (sumAt p d) 0 + s)) (sumAt c kind) 0 ≡ underBelow (k + 1) (treeOf t) c (kindShare (treeOf t) kind)
+      same c kind hc hk ep ed =
+          let child = child-of (treeOf t) c k (record { there = here; below = below; parent = parent ∙ sym ep }) in
+          let at : sumAt c kind ≡ sumAt p d = omega arith in
+          ap (λ (j : ℕ). getD (set sums (sumAt p d) (getD sums (sumAt p d) 0 + s)) j 0) at
+          ∙ getD-set-same sums (sumAt p d) (getD sums (sumAt p d) 0 + s) 0 (omega (arith, f .long))
+          ∙ omega (
+            arith,
+            share,
+            f .at c kind hc hk,
+            ap (λ (j : ℕ). getD sums j 0) at,
+            under-next (treeOf t) c (kindShare (treeOf t) kind) k,
+            counted (childOf (treeOf t) c k) (kindShare (treeOf t) kind) k child,
+            own-share (treeOf t) kind k (own ∙ sym ed),
+          )
+
+      -- The node adds nothing to the sum of another class or another kind.
+      other : (c kind : ℕ) → (sumAt c kind ≡ sumAt p d → ⊥) → childOf (treeOf t) c k ≡ true → kindShare (treeOf t) kind k ≡ 0
+      other c kind ne child = other-share (treeOf t) kind k (λ e. ne (omega (arith, child-facts (treeOf t) c k child .parent)))

@@ -7,22 +7,24 @@ use lib.ListN.{length}
 use lib.IntN.{ℤ}
 use Rattle.table.specs.Limits.{tableLength, nodes, wholeShare, greatestRate}
 use Rattle.table.specs.Tree.{Tree, treeOf, there}
-use Rattle.table.specs.Rates.{fixedSum, weightSum, childRate}
+use Rattle.table.specs.Rates.{fixedSum, weightSum, statedSum, childRate}
 use Rattle.rating.specs.declared.rates.Division.{Division}
+use Rattle.rating.specs.declared.sums.UnderClass.{UnderClass}
 use Rattle.rating.specs.Rated.{Placed}
 
--- Node k of a table is a child of a class that has the rate r, with sums f of fixed shares and w of weights under it, the
--- latter at most 64 x 10,000.
-pub record Divided (t : List ℤ) (k r f w : ℕ) : Type 0 where
+-- Node k of a table is a child of a class that has the rate r and these sums of shares under it, of which the weights are at
+-- most 64 x 10,000.
+pub record Divided (t : List ℤ) (k r : ℕ) (sums : UnderClass) : Type 0 where
   pub long : length t ≡ tableLength
   pub not-root : 0 < k
   pub low : k < nodes
   pub here : there (treeOf t) k ≡ true
   pub placed : Placed (treeOf t) k
   pub small : r ≤ greatestRate
-  pub fixed : f ≡ fixedSum (treeOf t) (treeOf t .parent k)
-  pub weights : w ≡ weightSum (treeOf t) (treeOf t .parent k)
-  pub few : w ≤ nodes * wholeShare
+  pub fixed : sums .fixed ≡ fixedSum (treeOf t) (treeOf t .parent k)
+  pub weights : sums .weights ≡ weightSum (treeOf t) (treeOf t .parent k)
+  pub stated : sums .stated ≡ statedSum (treeOf t) (treeOf t .parent k)
+  pub few : sums .weights ≤ nodes * wholeShare
 
 -- A division gives child k its rate, where its class has the rate r.
 pub record Divides (tree : Tree) (r k : ℕ) (by : Division) : Type 0 where

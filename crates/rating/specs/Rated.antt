@@ -4,24 +4,25 @@ use Prim.Native.Nat.{ℕ, suc, _≤_, _<_}
 use mathlib.Core.Path.{_≡_}
 use mathlib.Core.Bool.{Bool, true}
 use mathlib.Core.List.{List, [], _∷_}
-use lib.ListN.{length, getD}
+use lib.ListN.{length}
 use lib.Dec.{eqb}
 use lib.IntN.{ℤ}
 use Rattle.numbers.specs.Tests.{every}
-use Rattle.table.specs.Limits.{tableLength, nodes, root, lastLevel, wholeShare, greatestRate}
+use Rattle.table.specs.Limits.{tableLength, nodes, root, stated, lastLevel, wholeShare, greatestRate, shareLimit}
 use Rattle.table.specs.Places.{rate}
 use Rattle.table.specs.Tree.{Tree, treeOf, there, isClass}
-use Rattle.table.specs.Rates.{fixedSum, weightSum}
+use Rattle.table.specs.Rates.{fixedSum}
 
--- Node k, not the root: its parent is a class one level above it, its level and share are in their limits, and the fixed
+-- Node k, not the root: its parent is a class one level above it, its level, kind and share are in their limits, and the fixed
 -- shares under its parent sum to at most 10,000.
 pub record Placed (tree : Tree) (k : ℕ) : Type 0 where
   pub parent : tree .parent k < nodes
   pub class : isClass tree (tree .parent k) ≡ true
   pub level : tree .level k ≡ suc (tree .level (tree .parent k))
   pub deep : tree .level k ≤ lastLevel
+  pub kind : tree .kind k ≤ stated
   pub least : 1 ≤ tree .share k
-  pub most : tree .share k ≤ wholeShare
+  pub most : tree .share k ≤ shareLimit (tree .kind k)
   pub shares : fixedSum tree (tree .parent k) ≤ wholeShare
 
 pub record Rated (t : List ℤ) (c : ℕ) : Type 0 where
@@ -35,8 +36,3 @@ pub record Rated (t : List ℤ) (c : ℕ) : Type 0 where
 -- Whether node k is there at level l.
 unfoldable pub atLevel : Tree → ℕ → ℕ → Bool
 atLevel tree l k = every (there tree k ∷ eqb (tree .level k) l ∷ [])
-
--- Two lists have the sums of fixed shares and of weights under each class.
-pub record ClassSums (t : List ℤ) (fs ws : List ℕ) : Type 0 where
-  pub fixed : (c : ℕ) → c < nodes → getD fs c 0 ≡ fixedSum (treeOf t) c
-  pub weights : (c : ℕ) → c < nodes → getD ws c 0 ≡ weightSum (treeOf t) c

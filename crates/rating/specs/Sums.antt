@@ -1,5 +1,5 @@
--- What is summed over the children of a class, by kind: fixed shares, weights, depths, rates, and both parts of the balances.
-use Prim.Native.Nat.{ℕ, _≤_, _<_, _^_}
+-- What is summed over the children of a class: shares of a kind, depths, rates, and both parts of the balances.
+use Prim.Native.Nat.{ℕ, _+_, _*_, _≤_, _<_, _^_}
 use mathlib.Core.Path.{_≡_}
 use mathlib.Core.Bool.{true}
 use mathlib.Core.List.{List}
@@ -7,17 +7,16 @@ use lib.ListN.{length, getD}
 use lib.IntN.{ℤ}
 use Rattle.numbers.specs.Whole.{plus, minus}
 use Rattle.numbers.specs.Below.{sumBelow}
-use Rattle.table.specs.Limits.{nodes, root}
+use Rattle.table.specs.Limits.{nodes, root, kinds, greatestRate}
 use Rattle.table.specs.Places.{rate, balance}
 use Rattle.table.specs.Tree.{Tree, treeOf, there, childOf, countIf}
-use Rattle.table.specs.Rates.{fixedShare, weight}
+use Rattle.table.specs.Rates.{kindShare}
 use Rattle.rating.specs.declared.sums.Summand.{Summand}
-use Rattle.rating.specs.declared.sums.Summand.the-variants.{FixedShares, Weights, Depths, Rates, Credits, Debts}
+use Rattle.rating.specs.declared.sums.Summand.the-variants.{Shares, Depths, Rates, Credits, Debts}
 
 -- The summand of node k.
 unfoldable pub term : Summand → List ℤ → ℕ → ℕ
-term FixedShares t k = fixedShare (treeOf t) k
-term Weights t k = weight (treeOf t) k
+term (Shares kind) t k = kindShare (treeOf t) kind k
 term Depths t k = treeOf t .depth k
 term Rates t k = rate t k
 term Credits t k = plus (balance t k)
@@ -37,3 +36,19 @@ underBelow n tree c f = sumBelow n (λ k. countIf (childOf tree c k) f k)
 pub record SumsBelow (which : Summand) (t : List ℤ) (n : ℕ) (sums : List ℕ) : Type 0 where
   pub long : length sums ≡ nodes
   pub at : (c : ℕ) → c < nodes → getD sums c 0 ≡ underBelow n (treeOf t) c (term which t)
+
+-- Every node that is there, but for the root, has a parent below 64, one of the three kinds, and a share of at most the
+-- greatest rate.
+pub record Shareable (t : List ℤ) : Type 0 where
+  pub parent : (k : ℕ) → k < nodes → there (treeOf t) k ≡ true → (k ≡ root → ⊥) → treeOf t .parent k < nodes
+  pub kind : (k : ℕ) → k < nodes → there (treeOf t) k ≡ true → (k ≡ root → ⊥) → treeOf t .kind k < kinds
+  pub small : (k : ℕ) → k < nodes → there (treeOf t) k ≡ true → (k ≡ root → ⊥) → treeOf t .share k ≤ greatestRate
+
+-- Where the sum of one kind under class c stands in the list of all of them.
+abbrev pub sumAt : ℕ → ℕ → ℕ
+sumAt c kind = kind * nodes + c
+
+-- A list has the sums of the shares of each kind under each class, of the nodes below n.
+pub record ShareSums (t : List ℤ) (n : ℕ) (sums : List ℕ) : Type 0 where
+  pub long : length sums ≡ kinds * nodes
+  pub at : (c kind : ℕ) → c < nodes → kind < kinds → getD sums (sumAt c kind) 0 ≡ underBelow n (treeOf t) c (kindShare (treeOf t) kind)

@@ -3,8 +3,9 @@ ghost use mathlib.Core.Path.{_≡_};
 ghost use Prim.Native.Nat.{_+_, _*_, _<_};
 ghost use Rattle.table.specs.Limits.{nodes};
 ghost use Rattle.table.specs.Renewal.{renewedBelow};
-ghost use Rattle.rating.specs.Rated.{Rated, ClassSums};
+ghost use Rattle.rating.specs.Rated.{Rated};
 ghost use Rattle.rating.specs.Renewal.{Descent, Onward};
+ghost use Rattle.rating.specs.Sums.{ShareSums};
 use super::rates;
 use super::sums;
 use super::tree;
@@ -13,14 +14,13 @@ use table::Table;
 // Gives node k its rate and marks it, where it stands at this level below class c: its parent is c or is marked.
 fn renew_node(
     table: &mut [i64],
-    fixed: &[u64; Table::NODES],
-    weights: &[u64; Table::NODES],
+    shares: &[u64; Table::SHARE_SUMS],
     below: &mut [bool; Table::NODES],
     c: usize,
     level: u64,
     k: usize,
 )
-    requires { ⌜ Descent (now table) c (level * nodes + k) (now below) × ClassSums (now table) (now fixed) (now weights) × (0 < level) × (k < nodes) ⌝ }
+    requires { ⌜ Descent (now table) c (level * nodes + k) (now below) × ShareSums (now table) nodes (now shares) × (0 < level) × (k < nodes) ⌝ }
     ensures { λ _. ⌜ Onward (now (table .entry)) (now (table .exit)) c (level * nodes + k + 1) (now (below .exit)) ⌝ }
 {
     if !tree::at_level(table, k, level) {
@@ -31,7 +31,7 @@ fn renew_node(
         return;
     }
     let rate = Table::natural(table, parent, Table::RATE);
-    let renewed = rates::child_rate(table, k, rate, fixed[parent], weights[parent]);
+    let renewed = rates::child_rate(table, k, rate, sums::under(shares, parent));
     Table::put_natural(table, k, Table::RATE, renewed);
     below[k] = true;
 }
@@ -39,18 +39,17 @@ fn renew_node(
 // Renews the nodes at one level below class c, where those above have their rates.
 fn renew_level(
     table: &mut [i64],
-    fixed: &[u64; Table::NODES],
-    weights: &[u64; Table::NODES],
+    shares: &[u64; Table::SHARE_SUMS],
     below: &mut [bool; Table::NODES],
     c: usize,
     level: u64,
 )
-    requires { ⌜ Descent (now table) c (level * nodes) (now below) × ClassSums (now table) (now fixed) (now weights) × (0 < level) ⌝ }
+    requires { ⌜ Descent (now table) c (level * nodes) (now below) × ShareSums (now table) nodes (now shares) × (0 < level) ⌝ }
     ensures { λ _. ⌜ Onward (now (table .entry)) (now (table .exit)) c (level * nodes + nodes) (now (below .exit)) ⌝ }
 {
     let mut k: usize = 0;
     while k < Table::NODES {
-        renew_node(table, fixed, weights, below, c, level, k);
+        renew_node(table, shares, below, c, level, k);
         k += 1;
     }
 }
@@ -60,13 +59,12 @@ pub fn renew_below(table: &mut [i64], c: usize)
     requires { ⌜ Rated (now table) c ⌝ }
     ensures { λ _. ⌜ now (table .exit) ≡ renewedBelow (now (table .entry)) c ⌝ }
 {
-    let mut fixed: [u64; Table::NODES] = [0; Table::NODES];
-    let mut weights: [u64; Table::NODES] = [0; Table::NODES];
-    sums::share_sums(table, &mut fixed, &mut weights);
+    let mut shares: [u64; Table::SHARE_SUMS] = [0; Table::SHARE_SUMS];
+    sums::share_sums(table, &mut shares);
     let mut below: [bool; Table::NODES] = [false; Table::NODES];
     let mut level = Table::natural(table, c, Table::LEVEL) + 1;
     while level <= Table::LAST_LEVEL {
-        renew_level(table, &fixed, &weights, &mut below, c, level);
+        renew_level(table, &shares, &mut below, c, level);
         level += 1;
     }
 }

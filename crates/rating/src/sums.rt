@@ -4,45 +4,40 @@ ghost use mathlib.Core.Bool.{cond};
 ghost use Prim.Native.Nat.{_+_, _-_, _^_, _≤_, _<_, min};
 ghost use lib.ListN.{length, getD, set};
 ghost use lib.Dec.{eqb, ltb};
-ghost use Rattle.table.specs.Limits.{tableLength, nodes, wholeShare};
+ghost use Rattle.table.specs.Limits.{tableLength, nodes, root, fixed, weighted, stated, wholeShare, greatestRate};
 ghost use Rattle.table.specs.Tree.{treeOf, childOf, countIf, sumUnder};
-ghost use Rattle.table.specs.Rates.{fixedShare, weight, fixedSum};
-ghost use Rattle.rating.specs.Sums.{term, Summable, SumsBelow};
+ghost use Rattle.table.specs.Rates.{kindShare, kindSum, fixedSum, statedSum};
+ghost use Rattle.treelaws.specs.Stated.{statedWrongWith};
+ghost use Rattle.rating.specs.Sums.{term, Summable, SumsBelow, Shareable, sumAt, ShareSums};
 use super::tree;
 use table::Table;
 
-// What is summed. Credits are the natural parts of the balances, debts the negative parts.
+// What is summed. Shares are those of one kind; credits are the natural parts of the balances, debts the negative parts.
 pub enum Summand {
-    FixedShares,
-    Weights,
+    Shares(u64),
     Depths,
     Rates,
     Credits,
     Debts,
 }
 
-// The share of node k where it is fixed, else 0.
-pub fn fixed_share(table: &[i64], k: usize) -> u64
+// The sums of the shares under one class, by kind.
+pub struct UnderClass {
+    pub fixed: u64,
+    pub weights: u64,
+    pub stated: u64,
+}
+
+// The share of node k where it is of this kind, else 0.
+pub fn kind_share(table: &[i64], kind: u64, k: usize) -> u64
     requires { ⌜ (length (now table) ≡ tableLength) × (k < nodes) ⌝ }
-    ensures { λ r. ⌜ r ≡ fixedShare (treeOf (now (table .entry))) k ⌝ }
+    ensures { λ r. ⌜ r ≡ kindShare (treeOf (now (table .entry))) kind k ⌝ }
 {
     let share = Table::natural(table, k, Table::SHARE);
-    if tree::is_fixed(table, k) {
+    if Table::natural(table, k, Table::KIND) == kind {
         return share;
     }
     0
-}
-
-// The share of node k where it is weighted, else 0.
-pub fn weight(table: &[i64], k: usize) -> u64
-    requires { ⌜ (length (now table) ≡ tableLength) × (k < nodes) ⌝ }
-    ensures { λ r. ⌜ r ≡ weight (treeOf (now (table .entry))) k ⌝ }
-{
-    let share = Table::natural(table, k, Table::SHARE);
-    if tree::is_fixed(table, k) {
-        return 0;
-    }
-    share
 }
 
 // The summand of node k.
@@ -51,8 +46,7 @@ pub fn term(table: &[i64], which: Summand, k: usize) -> u64
     ensures { λ r. ⌜ r ≡ term which (now (table .entry)) k ⌝ }
 {
     match which {
-        Summand::FixedShares => fixed_share(table, k),
-        Summand::Weights => weight(table, k),
+        Summand::Shares(kind) => kind_share(table, kind, k),
         Summand::Depths => Table::natural(table, k, Table::DEPTH),
         Summand::Rates => Table::natural(table, k, Table::RATE),
         Summand::Credits => Table::natural(table, k, Table::BALANCE),
@@ -85,16 +79,37 @@ pub fn sum_under(table: &[i64], which: Summand, c: usize) -> u64
     sum
 }
 
+// The sum of the shares of one kind under class c, with a share of any kind in the place of an old one of that kind.
+fn sum_with(table: &[i64], summed: u64, c: usize, old: u64, kind: u64, share: u64) -> u64
+    requires { ⌜ (length (now table) ≡ tableLength) × (Summable (Summand.Shares summed) (now table)) × (old ≤ kindSum (treeOf (now table)) summed c) × (share ≤ greatestRate) ⌝ }
+    ensures { λ r. ⌜ r ≡ kindSum (treeOf (now (table .entry))) summed c + cond (eqb kind summed) share 0 - old ⌝ }
+{
+    let sum = sum_under(table, Summand::Shares(summed), c);
+    if kind == summed {
+        return sum + share - old;
+    }
+    sum - old
+}
+
 // Whether the fixed shares under class c would be above 10,000 with a share of this kind in the place of an old fixed share.
 pub fn shares_above(table: &[i64], c: usize, old: u64, kind: u64, share: u64) -> bool
-    requires { ⌜ (length (now table) ≡ tableLength) × (Summable Summand.FixedShares (now table)) × (old ≤ fixedSum (treeOf (now table)) c) × (share ≤ wholeShare) × (fixedSum (treeOf (now table)) c ≤ wholeShare) ⌝ }
-    ensures { λ r. ⌜ r ≡ ltb wholeShare (fixedSum (treeOf (now (table .entry))) c + cond (eqb kind 0) share 0 - old) ⌝ }
+    requires { ⌜ (length (now table) ≡ tableLength) × (Summable (Summand.Shares fixed) (now table)) × (old ≤ fixedSum (treeOf (now table)) c) × (share ≤ greatestRate) ⌝ }
+    ensures { λ r. ⌜ r ≡ ltb wholeShare (fixedSum (treeOf (now (table .entry))) c + cond (eqb kind fixed) share 0 - old) ⌝ }
 {
-    let sum = sum_under(table, Summand::FixedShares, c);
-    if kind == Table::FIXED {
-        return Table::WHOLE_SHARE < sum + share - old;
+    Table::WHOLE_SHARE < sum_with(table, Table::FIXED, c, old, kind, share)
+}
+
+// Whether a share of this kind under class c, in the place of an old stated rate, would be stated elsewhere than under the root
+// or make the stated rates exceed the disk's.
+pub fn stated_wrong(table: &[i64], c: usize, old: u64, kind: u64, share: u64) -> bool
+    requires { ⌜ (length (now table) ≡ tableLength) × (Summable (Summand.Shares stated) (now table)) × (old ≤ statedSum (treeOf (now table)) root) × (share ≤ greatestRate) ⌝ }
+    ensures { λ r. ⌜ r ≡ statedWrongWith (now (table .entry)) c old kind share ⌝ }
+{
+    if kind != Table::STATED {
+        return false;
     }
-    Table::WHOLE_SHARE < sum - old
+    let sum = sum_with(table, Table::STATED, 0, old, kind, share);
+    (c != 0) | (Table::natural(table, 0, Table::RATE) < sum)
 }
 
 // Adds an amount to the sum of class c.
@@ -142,21 +157,40 @@ pub fn add_one_of(
     }
 }
 
-// The sums of fixed shares and of weights under all classes, in one pass from sums of 0. The root is nobody's child.
-pub fn share_sums(table: &[i64], fixed: &mut [u64; Table::NODES], weights: &mut [u64; Table::NODES])
-    requires { ⌜ (length (now table) ≡ tableLength) × (Summable Summand.FixedShares (now table)) × (Summable Summand.Weights (now table)) × (SumsBelow Summand.FixedShares (now table) 1 (now fixed)) × (SumsBelow Summand.Weights (now table) 1 (now weights)) ⌝ }
-    ensures { λ _. ⌜ (SumsBelow Summand.FixedShares (now (table .entry)) nodes (now (fixed .exit))) × (SumsBelow Summand.Weights (now (table .entry)) nodes (now (weights .exit))) ⌝ }
+// Adds the share of node k, where it is there, to the sum of its kind under its class.
+pub fn add_share(table: &[i64], shares: &mut [u64; Table::SHARE_SUMS], k: usize)
+    requires { ⌜ (length (now table) ≡ tableLength) × Shareable (now table) × (0 < k) × (k < nodes) × ShareSums (now table) k (now shares) ⌝ }
+    ensures { λ _. ⌜ ShareSums (now (table .entry)) (k + 1) (now (shares .exit)) ⌝ }
+{
+    if !tree::there(table, k) {
+        return;
+    }
+    let c = Table::natural(table, k, Table::PARENT) as usize;
+    let kind = Table::natural(table, k, Table::KIND) as usize;
+    let at = kind * Table::NODES + c;
+    shares[at] = shares[at] + Table::natural(table, k, Table::SHARE);
+}
+
+// The sums of the shares of each kind under all classes, in one pass from sums of 0. The root is nobody's child.
+pub fn share_sums(table: &[i64], shares: &mut [u64; Table::SHARE_SUMS])
+    requires { ⌜ (length (now table) ≡ tableLength) × Shareable (now table) × ShareSums (now table) 1 (now shares) ⌝ }
+    ensures { λ _. ⌜ ShareSums (now (table .entry)) nodes (now (shares .exit)) ⌝ }
 {
     let mut k: usize = 1;
     while k < Table::NODES {
-        add_one_of(
-            table,
-            Summand::FixedShares,
-            fixed,
-            Summand::Weights,
-            weights,
-            k,
-        );
+        add_share(table, shares, k);
         k += 1;
+    }
+}
+
+// Those under class c.
+pub fn under(shares: &[u64; Table::SHARE_SUMS], c: usize) -> UnderClass
+    requires { ⌜ c < nodes ⌝ }
+    ensures { λ r. ⌜ (r .fixed ≡ getD (now (shares .entry)) (sumAt c fixed) 0) × (r .weights ≡ getD (now (shares .entry)) (sumAt c weighted) 0) × (r .stated ≡ getD (now (shares .entry)) (sumAt c stated) 0) ⌝ }
+{
+    UnderClass {
+        fixed: shares[Table::FIXED as usize * Table::NODES + c],
+        weights: shares[Table::WEIGHTED as usize * Table::NODES + c],
+        stated: shares[Table::STATED as usize * Table::NODES + c],
     }
 }

@@ -3,7 +3,7 @@ ghost use mathlib.Core.Path.{_≡_};
 ghost use Prim.Native.Nat.{_<_};
 ghost use lib.ListN.{length};
 ghost use Rattle.table.specs.Limits.{tableLength, nodes};
-ghost use Rattle.table.specs.Tree.{treeOf, there, isClass, isClient, isFixed, childOf, childless};
+ghost use Rattle.table.specs.Tree.{treeOf, there, isClass, isClient, isFixed, isStated, childOf, childless};
 ghost use Rattle.rating.specs.Rated.{atLevel};
 use table::Table;
 
@@ -35,6 +35,14 @@ pub fn is_fixed(table: &[i64], k: usize) -> bool
     ensures { λ r. ⌜ r ≡ isFixed (treeOf (now (table .entry))) k ⌝ }
 {
     Table::natural(table, k, Table::KIND) == Table::FIXED
+}
+
+// Whether the share of node k is stated.
+pub fn is_stated(table: &[i64], k: usize) -> bool
+    requires { ⌜ (length (now table) ≡ tableLength) × (k < nodes) ⌝ }
+    ensures { λ r. ⌜ r ≡ isStated (treeOf (now (table .entry))) k ⌝ }
+{
+    Table::natural(table, k, Table::KIND) == Table::STATED
 }
 
 // Whether node k is there at a level.

@@ -1,13 +1,15 @@
-// Reading a plan opens a table and joins the entries in turn. Document 01, "Same tree, and the plan file".
+// Reading a plan opens a table and joins the entries in turn. Document 01, "Same tree, and the plan file", and document 02, (f).
 ghost use mathlib.Core.Path.{_≡_};
-ghost use Prim.Native.Nat.{_≤_, _<_};
+ghost use Prim.Native.Nat.{_+_, _≤_, _<_};
 ghost use lib.ListN.{length, getD};
 ghost use lib.IntN.{pos};
 ghost use Rattle.table.specs.Limits.{tableLength};
+ghost use Rattle.table.specs.Refusals.{lastRefusal};
 ghost use Rattle.table.specs.Answers.{told};
 ghost use Rattle.table.specs.Calls.{openRefusal};
-ghost use Rattle.layout.specs.Format.{headLength, planIn, formed};
+ghost use Rattle.layout.specs.Format.{startOf, headLength, editionIn, planIn, formed};
 ghost use Rattle.planlaws.specs.Reading.{openedFor, joinedFor, rising, planRefusal, planTable, planAnswer, checkAnswer};
+use layout::Edition;
 use layout::Format;
 use layout::bytes;
 use layout::forms;
@@ -15,14 +17,15 @@ use table::Answer;
 use table::Table;
 
 // Opens the table of a plan; the number of the refusal, or 0.
-fn open_plan(table: &mut [i64], s: &[u8]) -> u64
-    requires { ⌜ headLength ≤ length (now s) ⌝ }
+fn open_plan(table: &mut [i64], s: &[u8], edition: Edition) -> u64
+    requires { ⌜ (edition ≡ editionIn (now s)) × (startOf edition + headLength ≤ length (now s)) ⌝ }
     ensures number { λ r. ⌜ r ≡ openRefusal (now (table .entry)) (pos (planIn (now (s .entry)) .rate)) (pos (planIn (now (s .entry)) .depth)) ⌝ }
-    ensures small { λ r. ⌜ r ≤ 15 ⌝ }
+    ensures small { λ r. ⌜ r ≤ lastRefusal ⌝ }
     ensures table { λ _. ⌜ now (table .exit) ≡ openedFor (now (table .entry)) (planIn (now (s .entry))) ⌝ }
 {
-    let rate = numbers::whole(bytes::four(s, Format::DISK_RATE));
-    let depth = numbers::whole(bytes::four(s, Format::ROOT_DEPTH));
+    let head = forms::start_of(edition);
+    let rate = numbers::whole(bytes::four(s, head + Format::DISK_RATE));
+    let depth = numbers::whole(bytes::four(s, head + Format::ROOT_DEPTH));
     table::number_told(Table::open(table, rate, depth))
 }
 
@@ -30,28 +33,33 @@ fn open_plan(table: &mut [i64], s: &[u8]) -> u64
 fn build(table: &mut [i64], s: &[u8]) -> u64
     requires { ⌜ length (now table) ≡ tableLength ⌝ }
     ensures number { λ r. ⌜ r ≡ planRefusal (now (table .entry)) (now (s .entry)) ⌝ }
-    ensures small { λ r. ⌜ r ≤ 15 ⌝ }
+    ensures small { λ r. ⌜ r ≤ lastRefusal ⌝ }
     ensures table { λ r. ⌜ (r ≡ 0 → now (table .exit) ≡ joinedFor (now (table .entry)) (planIn (now (s .entry)))) ⌝ }
 {
     if !forms::formed(s) {
         return 14;
     }
-    let opening = open_plan(table, s);
+    let edition = forms::edition_in(s);
+    let opening = open_plan(table, s, edition);
     if opening != 0 {
         return opening;
     }
-    let n = forms::count_in(s);
-    let joining = entering::join_entries(table, s, n);
+    let n = forms::count_in(s, edition);
+    let joining = entering::join_entries(table, s, edition, n);
     if joining != 0 {
         return joining;
     }
-    if entering::rising(table, s, n) { 0 } else { 15 }
+    if entering::rising(table, s, edition, n) {
+        0
+    } else {
+        15
+    }
 }
 
 // The refusal number, or 0, that reading a plan into a table of right length gives.
 pub fn check(s: &[u8]) -> u64
     ensures number { λ r. ⌜ r ≡ checkAnswer (now (s .entry)) ⌝ }
-    ensures small { λ r. ⌜ r ≤ 15 ⌝ }
+    ensures small { λ r. ⌜ r ≤ lastRefusal ⌝ }
 {
     let mut built = [0i64; Table::LENGTH];
     build(&mut built, s)
@@ -78,8 +86,8 @@ fn copy(table: &mut [i64], from: &[i64])
     }
 }
 
-// Reads a plan into a table. It is built in a table of its own and copied at the end, so that a refused one leaves the lent
-// table as it came. Document 01, "Same tree, and the plan file".
+// Reads a plan into a table and answers its edition. It is built in a table of its own and copied at the end, so that a refused
+// one leaves the lent table as it came. Document 01, "Same tree, and the plan file", and document 02, (f).
 pub fn read(table: &mut [i64], s: &[u8]) -> Answer
     ensures answer { λ r. ⌜ told r ≡ planAnswer (now (table .entry)) (now (s .entry)) ⌝ }
     ensures table { λ _. ⌜ now (table .exit) ≡ planTable (now (table .entry)) (now (s .entry)) ⌝ }
@@ -93,5 +101,5 @@ pub fn read(table: &mut [i64], s: &[u8]) -> Answer
         return table::answered(refusal, 0);
     }
     copy(table, &built);
-    Answer::Accepted(0)
+    Answer::Accepted(numbers::whole(forms::edition_number(forms::edition_in(s))))
 }

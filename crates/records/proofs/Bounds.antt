@@ -6,7 +6,7 @@ use mathlib.Core.List.{List}
 use native.Mathlib.Omega.{arith}
 use lib.IntN.{ℤ}
 use Rattle.numbers.proofs.Parts.{zarith}
-use Rattle.table.specs.Limits.{nodes, lastLevel, wholeShare, greatestDepth, mostWaiting}
+use Rattle.table.specs.Limits.{nodes, lastLevel, greatestDepth, mostWaiting}
 use Rattle.table.specs.Places.{waiting}
 use Rattle.table.specs.Tree.{treeOf}
 use Rattle.table.specs.Order.{limitsKept}
@@ -15,9 +15,6 @@ use Rattle.table.proofs.Facts.{limits-of}
 pub record Bounds (t : List ℤ) (k : ℕ) : Type 0 where
   pub parent : treeOf t .parent k < nodes
   pub level : treeOf t .level k ≤ lastLevel
-  pub kind : treeOf t .kind k ≤ 1
-  pub share : treeOf t .share k ≤ wholeShare
-  pub weight : 1 ≤ treeOf t .share k
   pub depth : treeOf t .depth k ≤ greatestDepth
   pub waiting : waiting t k ≤ mostWaiting
 

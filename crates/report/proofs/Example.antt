@@ -9,20 +9,20 @@ use lib.IntN.{ℤ, pos}
 use Rattle.numbers.specs.Whole.{plus, withinℤ}
 use Rattle.numbers.specs.Tests.{every}
 use Rattle.numbers.specs.Below.{sumBelow, allBelow}
-use Rattle.table.specs.Limits.{tableLength, nodes, root}
+use Rattle.table.specs.Limits.{tableLength, nodes, root, shareLimit}
 use Rattle.table.specs.Places.{place, put, rate}
-use Rattle.table.specs.Order.{inOrder}
+use Rattle.table.specs.Order.{statedPlaced, statedInOrder, inOrder}
 use Rattle.table.specs.Refusals.{first}
-use Rattle.table.specs.Tree.{treeOf, there, isClass, isClient, isFixed, childOf, countIf, sumUnder}
-use Rattle.table.specs.Rates.{fixedShare, weight, fixedSum, weightSum, fixedRate, leftRate, weightedRate, childRate, rateAtLevel, rateIn, renewed}
-use Rattle.table.specs.Calls.{blank, opened, openRefusal, joined, joinRefusal, sharesAbove, depthsAbove}
+use Rattle.table.specs.Tree.{treeOf, there, isClass, isClient, isFixed, isStated, childOf, countIf, testIf, sumUnder, eachNode}
+use Rattle.table.specs.Rates.{kindShare, kindSum, fixedRate, leftRate, weightedRate, dividedRate, unstatedRate, childRate, rateAtLevel, rateIn, renewed}
+use Rattle.table.specs.Calls.{blank, opened, openRefusal, joined, joinRefusal, sharesAbove, depthsAbove, statedWrong}
 use Rattle.table.proofs.Refusals.{first-none, first-end}
 use Rattle.treelaws.specs.Joins.{Join, refusalOf, joinedBy}
 use Rattle.treelaws.proofs.Joined.{after-join}
 use Rattle.calllaws.proofs.Open.{opened-in-order}
 use Rattle.layout.specs.Bytes.{byteAt, le2, le4, bytesBelow}
 use Rattle.layout.specs.Kinds.{sortOf, shareKindOf}
-use Rattle.layout.specs.Format.{countIn, entryIn, planIn, entryFormed, formed}
+use Rattle.layout.specs.Format.{startOf, shareLength, lastKind, editionIn, countIn, shareFrom, entryIn, planIn, entryFormed, formed}
 use Rattle.planlaws.specs.Reading.{joinOf, entryRefusal, afterEntry, afterEntries, entriesRefusal, openedFor, joinedFor, rising, planRefusal, planTable, checkAnswer}
 use Rattle.planlaws.proofs.Accepted.{after-none, after-suc, entries-none, entries-suc, accepted-plan, plan-table, opened-for}
 use Rattle.text.specs.Text.{ascii, decimalWithin, decimal, refusedLine}
@@ -32,7 +32,7 @@ use Rattle.report.proofs.Renewed.{lineIn, lines-renewed}
 
 -- Empty input.
 pub empty-input : reportOf [] ≡ ascii "refused 14\n"
-unfolding reportOf refusedLine decimal decimalWithin ascii checkAnswer planRefusal formed every countIn byteAt first blank
+unfolding reportOf refusedLine decimal decimalWithin ascii checkAnswer planRefusal formed every countIn byteAt first blank startOf editionIn allBelow shareLength
 empty-input = refl
 
 -- Document 01's plan: disk 1000, root depth 40, client 5 alone, weight 4, depth 16.
@@ -50,16 +50,16 @@ after : List ℤ
 after = joinedBy before five
 
 join-is : joinOf (planIn sample .entry 0) ≡ five
-unfolding five joinOf sortOf shareKindOf planIn entryIn countIn le4 le2 byteAt
+unfolding five joinOf sortOf shareKindOf planIn entryIn countIn le4 le2 byteAt startOf shareFrom editionIn allBelow shareLength
 join-is = refl
 
 -- Open is accepted, and the join.
 open-accepted : openRefusal blank (pos (planIn sample .rate)) (pos (planIn sample .depth)) ≡ 0
-unfolding planIn le4 le2 byteAt openRefusal first every withinℤ plus blank
+unfolding planIn le4 le2 byteAt openRefusal first every withinℤ plus blank startOf editionIn allBelow
 open-accepted = refl
 
 opened-is : openedFor blank (planIn sample) ≡ before
-unfolding before planIn le4 le2 byteAt
+unfolding before planIn le4 le2 byteAt startOf editionIn allBelow
 opened-is = opened-for blank (planIn sample) open-accepted
 
 in-order : inOrder before ≡ true
@@ -67,13 +67,13 @@ unfolding before withinℤ plus
 in-order = opened-in-order (pos 1000) (pos 40) (record { rates = refl; depths = refl })
 
 no-cause : joinRefusal before (pos 5) (pos 0) (pos 2) (pos 1) (pos 4) (pos 16) ≡ 0
-unfolding before joinRefusal sharesAbove depthsAbove joined opened blank fixedSum fixedShare sumUnder childOf countIf there isClient isFixed treeOf place put sumBelow every plus withinℤ
+unfolding before joinRefusal sharesAbove depthsAbove statedWrong statedInOrder statedPlaced eachNode testIf allBelow joined opened blank shareLimit kindSum kindShare sumUnder childOf countIf there isClient isStated rate treeOf place put sumBelow every plus withinℤ
 no-cause =
     first-none 1 _ _ (ap not in-order)
     (first-none 2 _ _ refl
     (first-none 3 _ _ refl
     (first-none 4 _ _ refl
-    (first-none 5 _ _ refl (first-none 6 _ _ refl (first-none 7 _ _ refl (first-none 8 _ _ refl first-end)))))))
+    (first-none 5 _ _ refl (first-none 6 _ _ refl (first-none 7 _ _ refl (first-none 8 _ _ refl (first-none 16 _ _ refl first-end))))))))
 
 join-accepted : refusalOf before five ≡ 0
 unfolding five refusalOf
@@ -87,14 +87,14 @@ unfolding entryRefusal
 joins-accepted = entries-suc _ _ 0 (entries-none _ _) ∙ rw (first-join, join-is) join-accepted
 
 accepted : checkAnswer sample ≡ 0
-unfolding checkAnswer planIn entryIn countIn le4 le2 byteAt formed entryFormed every allBelow rising blank
+unfolding checkAnswer planIn entryIn countIn le4 le2 byteAt formed entryFormed every allBelow rising blank startOf editionIn shareLength lastKind
 accepted =
     accepted-plan blank sample
     (record { long = length-replicate tableLength (pos 0); formed = refl; opening = open-accepted; joining = joins-accepted; rising = refl })
 
 -- The table that it makes.
 all-joined : joinedFor blank (planIn sample) ≡ afterEntries (openedFor blank (planIn sample)) (planIn sample) 1
-unfolding joinedFor planIn countIn byteAt
+unfolding joinedFor planIn countIn byteAt startOf editionIn allBelow
 all-joined = refl
 
 table-is : planTable blank sample ≡ renewed after
@@ -107,7 +107,7 @@ table-is =
 
 -- Its lines.
 lines : bytesBelow nodes (lineIn (treeOf after) (rate after root)) ≡ ascii "0 class 1000\n5 client 1000\n"
-unfolding after before five joinedBy joined opened blank lineIn nodeLine sortText decimal decimalWithin ascii bytesBelow there isClass isFixed childOf countIf sumUnder sumBelow every rate treeOf place put plus fixedShare weight fixedSum weightSum fixedRate leftRate weightedRate childRate rateAtLevel rateIn
+unfolding after before five joinedBy joined opened blank lineIn nodeLine sortText decimal decimalWithin ascii bytesBelow there isClass isFixed isStated childOf countIf sumUnder sumBelow every rate treeOf place put plus kindShare kindSum dividedRate unstatedRate fixedRate leftRate weightedRate childRate rateAtLevel rateIn
 lines = refl
 
 long : length after ≡ tableLength

@@ -13,6 +13,7 @@ use Rattle.table.specs.Limits.{tableLength}
 use Rattle.table.specs.Refusals.{numberTold}
 use Rattle.table.specs.Calls.{blank}
 use Rattle.table.proofs.Refusals.{number-outcome}
+use Rattle.layout.specs.Format.{startOf, shareLength}
 use Rattle.planlaws.specs.Reading.{planTable, planAnswer, checkAnswer}
 use Rattle.planlaws.proofs.Stages.{too-long}
 use Rattle.text.specs.Text.{inputLength, refusedLine}
@@ -33,7 +34,7 @@ refused-report s h = sym (cond-false (eqb (checkAnswer s) 0) _ _ (ne-eqb (checkA
 
 -- It is enough to read the first bytes of an input: no plan is so long.
 pub first-bytes : (s : List ℕ) → inputLength ≤ length s → reportOf (take inputLength s) ≡ reportOf s
-unfolding reportOf checkAnswer blank
+unfolding reportOf checkAnswer blank startOf shareLength
 first-bytes s long =
     let cut = take inputLength s in
     let size : length cut ≡ inputLength = length-take-le inputLength s long in

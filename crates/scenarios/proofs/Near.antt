@@ -13,14 +13,15 @@ use lib.Dec.{eqb, ltb}
 use lib.IntN.{ℤ, pos}
 use Rattle.numbers.specs.Whole.{plus}
 use Rattle.numbers.specs.Tests.{every}
-use Rattle.numbers.specs.Below.{allBelow, forBelow}
+use Rattle.numbers.specs.Below.{sumBelow, allBelow, forBelow}
 use Rattle.numbers.proofs.Tests.{and-left, and-right, or-false-left, or-false-right}
 use Rattle.numbers.proofs.Parts.{same-eq, eq-same}
 use Rattle.numbers.proofs.All.{below-cases, all-suc, all-intro}
 use Rattle.numbers.proofs.Steps.{for-suc}
-use Rattle.table.specs.Limits.{headerLength, recordLength, nodes, sortAt, parentAt, levelAt, kindAt, shareAt, depthAt, waitingAt}
+use Rattle.numbers.proofs.Sums.{sum-suc}
+use Rattle.table.specs.Limits.{headerLength, recordLength, nodes, unused, sortAt, parentAt, levelAt, kindAt, shareAt, depthAt, waitingAt}
 use Rattle.table.specs.Places.{place, put, waiting}
-use Rattle.table.specs.Tree.{Tree, treeOf, there, testIf}
+use Rattle.table.specs.Tree.{Tree, treeOf, there, isClass, isClient, childOf, countIf, testIf, sumUnder, eachNode, eachClass, eachClient}
 use Rattle.table.specs.Order.{isZero, unusedInOrder}
 use Rattle.table.specs.Tick.{State, nobody, dispatched, supplier, supplied, choice, next, lent}
 use Rattle.table.proofs.Places.{put-same}
@@ -117,7 +118,8 @@ tree-is t =
       depth = λ k. plus (place-is t k depthAt i);
     }
 
--- A test that holds from c on need not look there, and steps that change nothing from c on need not be taken there.
+-- A test that holds from c on need not look there, steps that change nothing from c on need not be taken there, and zeros from c
+-- on need not be added.
 all-from : (c : ℕ) (p : ℕ → Bool) → ((k : ℕ) → c ≤ k → p k ≡ true) → (n : ℕ) → c ≤ n → allBelow n p ≡ allBelow c p
 all-from c p h zero l = ap (λ (j : ℕ). allBelow j p) (omega arith)
 all-from c p h (suc n) l =
@@ -135,6 +137,60 @@ for-from c f a h (suc n) l =
     below-cases (suc n) c (omega arith)
     (λ m. for-suc n f a ∙ ap (f n) (for-from c f a h n (omega arith)) ∙ h n (omega arith))
     (λ e. ap (λ (j : ℕ). forBelow j f a) (sym e))
+
+sum-from : (c : ℕ) (f : ℕ → ℕ) → ((k : ℕ) → c ≤ k → f k ≡ 0) → (n : ℕ) → c ≤ n → sumBelow n f ≡ sumBelow c f
+sum-from c f h zero l = ap (λ (j : ℕ). sumBelow j f) (omega arith)
+sum-from c f h (suc n) l =
+    below-cases (suc n) c (omega arith)
+    (λ m. omega (arith, sum-suc n f, h n (omega arith), sum-from c f h n (omega arith)))
+    (λ e. ap (λ (j : ℕ). sumBelow j f) (sym e))
+
+-- How many nodes there are to look at.
+unfoldable pub nearNodes : List ℤ → ℕ
+nearNodes t = cond (few t) fewNodes nodes
+
+near-cases : (t : List ℤ) (P : ℕ → Type 0) → (few t ≡ true → P fewNodes) → P nodes → P (nearNodes t)
+unfolding nearNodes
+near-cases t P f p = cases (few t) f
+  where
+    cases : (b : Bool) → (b ≡ true → P fewNodes) → P (cond b fewNodes nodes)
+    cases true f = f refl
+    cases false f = p
+
+-- A sum over the children of a class, and tests of each node, of each class and of each client: a far node is of sort 0.
+far-sort : (t : List ℤ) (k : ℕ) → few t ≡ true → fewNodes ≤ k → treeNear t .sort k ≡ unused
+unfolding treeNear plus
+far-sort t k h far = rw (sym (place-is t k sortAt) ∙ far-place t k sortAt h far)
+
+unfoldable pub sumNear : List ℤ → ℕ → (ℕ → ℕ) → ℕ
+sumNear t c f = sumBelow (nearNodes t) (λ k. countIf (childOf (treeNear t) c k) f k)
+
+pub sum-is : (t : List ℤ) (c : ℕ) (f : ℕ → ℕ) → sumUnder (treeNear t) c f ≡ sumNear t c f
+unfolding sumNear sumUnder countIf childOf there every
+sum-is t c f =
+    let g : ℕ → ℕ = λ k. countIf (childOf (treeNear t) c k) f k in
+    near-cases t (λ n. sumBelow nodes g ≡ sumBelow n g) (λ h. sum-from fewNodes g (λ k far. rw (far-sort t k h far)) nodes (omega arith)) refl
+
+unfoldable pub eachNear : List ℤ → (ℕ → Bool) → (ℕ → Bool) → Bool
+eachNear t test p = allBelow (nearNodes t) (λ k. testIf (test k) p k)
+
+near-each : (t : List ℤ) (test p : ℕ → Bool) → (few t ≡ true → (k : ℕ) → fewNodes ≤ k → test k ≡ false) → allBelow nodes (λ k. testIf (test k) p k) ≡ eachNear t test p
+unfolding eachNear testIf
+near-each t test p none =
+    let q : ℕ → Bool = λ k. testIf (test k) p k in
+    near-cases t (λ n. allBelow nodes q ≡ allBelow n q) (λ h. all-from fewNodes q (λ k far. rw (none h k far)) nodes (omega arith)) refl
+
+pub nodes-are : (t : List ℤ) (p : ℕ → Bool) → eachNode (treeNear t) p ≡ eachNear t (there (treeNear t)) p
+unfolding eachNode there
+nodes-are t p = near-each t (there (treeNear t)) p (λ h k far. rw (far-sort t k h far))
+
+pub classes-are : (t : List ℤ) (p : ℕ → Bool) → eachClass (treeNear t) p ≡ eachNear t (isClass (treeNear t)) p
+unfolding eachClass isClass
+classes-are t p = near-each t (isClass (treeNear t)) p (λ h k far. rw (far-sort t k h far))
+
+pub clients-are : (t : List ℤ) (p : ℕ → Bool) → eachClient (treeNear t) p ≡ eachNear t (isClient (treeNear t)) p
+unfolding eachClient isClient
+clients-are t p = near-each t (isClient (treeNear t)) p (λ h k far. rw (far-sort t k h far))
 
 -- Whether node k is there or its record is zero; whether that is so of every node.
 unfoldable pub unusedAt : List ℤ → ℕ → Bool

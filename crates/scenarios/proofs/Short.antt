@@ -1,18 +1,18 @@
 -- Short forms of what a scenario's steps give. `simp` finds each: it rewrites the definition by the laws of Near and by
 -- the short forms found before, and what comes out is the value that antt computes.
-use Prim.Native.Nat.{ℕ}
-use mathlib.Core.Path.{_≡_, refl, fun-ext}
+use Prim.Native.Nat.{ℕ, zero, suc}
+use mathlib.Core.Path.{_≡_, refl, ap, _∙_, fun-ext}
 use mathlib.Core.Bool.{Bool, _&&_}
 use mathlib.Core.List.{List}
 use lib.IntN.{ℤ, pos}
 use Rattle.table.specs.Places.{rate, balance, waiting, depthGrains}
-use Rattle.table.specs.Rates.{renewed}
-use Rattle.table.specs.Order.{limitsKept, spareInOrder, classInOrder, rateInOrder, childBalance, childBalances, balanceInOrder, arrivalsDiffer, inOrder}
-use Rattle.table.specs.Calls.{sharesAbove, depthsAbove, joinRefusal, joinTable, joinAnswer, leaveRefusal, leaveTable, leaveAnswer, changeShareRefusal, changeShareTable, changeShareAnswer, changeRateRefusal, changeRateTable, changeRateAnswer, requestRefusal, requestTable, requestAnswer, lostGrains, lookRefusal, lookAnswer, sameTree, sameRefusal, sameAnswer}
+use Rattle.table.specs.Rates.{kindSum, dividedRate, childRate, rateAtLevel, rateIn, renewed}
+use Rattle.table.specs.Order.{limitsKept, spareInOrder, classInOrder, rateInOrder, childBalance, childBalances, balanceInOrder, arrivalsDiffer, statedInOrder, inOrder}
+use Rattle.table.specs.Calls.{sharesAbove, depthsAbove, statedWrong, joinRefusal, joinTable, joinAnswer, leaveRefusal, leaveTable, leaveAnswer, changeShareRefusal, changeShareTable, changeShareAnswer, changeRateRefusal, changeRateTable, changeRateAnswer, requestRefusal, requestTable, requestAnswer, lostGrains, lookRefusal, lookAnswer, sameTree, sameRefusal, sameAnswer}
 use Rattle.table.specs.Tick.{State, grown, servedAll, cut, allWaiting, stepTwo, stepThree, ticked, tickRefusal, tickTable, tickList, tickAnswer}
 use Rattle.scenarios.specs.Scenario.{openℤ, joinℤ, leaveℤ, changeShareℤ, changeRateℤ, requestℤ, lookℤ, same, Step, _gives_, _answers_leaving_, keep, fits, spoils, lentTo, answer, called, changed, after, keptAfter}
 use Rattle.scenarios.proofs.Judge.{holds}
-use Rattle.scenarios.proofs.Near.{place-is, put-is, tree-is, unused-is, lent-is}
+use Rattle.scenarios.proofs.Near.{treeNear, place-is, put-is, tree-is, sum-is, nodes-are, classes-are, clients-are, unused-is, lent-is}
 
 -- A short form of x: a value that is equal to it.
 pub record Short {A : Type 0} (x : A) : Type 0 where
@@ -34,6 +34,32 @@ each s = record { value = λ a. s a .value; same = fun-ext (λ a. s a .same) }
 pub is : {A B : Type 0} {f : A → B} (s : (a : A) → Short (f a)) (a : A) → f a ≡ s a .value
 is s a = s a .same
 
+-- Rates.
+unfoldable pub shortChildRate : (t : List ℤ) (r k : ℕ) → Short (childRate (treeNear t) r k)
+unfolding childRate dividedRate kindSum
+shortChildRate t r k = by (λ y e. simp sum-is at e)
+
+unfoldable pub rateNear : List ℤ → ℕ → ℕ → ℕ → ℕ
+rateNear t disk zero k = disk
+rateNear t disk (suc l) k = shortChildRate t (rateNear t disk l (treeNear t .parent k)) k .value
+
+rate-near : (t : List ℤ) (disk l k : ℕ) → rateAtLevel (treeNear t) disk l k ≡ rateNear t disk l k
+unfolding rateAtLevel rateNear
+rate-near t disk zero k = refl
+rate-near t disk (suc l) k =
+    ap (λ (r : ℕ). childRate (treeNear t) r k) (rate-near t disk l (treeNear t .parent k))
+    ∙ shortChildRate t (rateNear t disk l (treeNear t .parent k)) k .same
+
+unfoldable pub ratesNear : List ℤ → ℕ → ℕ → ℕ
+ratesNear t disk k = rateNear t disk (treeNear t .level k) k
+
+pub rate-is : (t : List ℤ) (disk k : ℕ) → rateIn (treeNear t) disk k ≡ ratesNear t disk k
+unfolding rateIn ratesNear
+rate-is t disk k = rate-near t disk (treeNear t .level k) k
+
+pub rates-are : (t : List ℤ) (disk : ℕ) → rateIn (treeNear t) disk ≡ ratesNear t disk
+rates-are t disk = fun-ext (rate-is t disk)
+
 -- In order.
 unfoldable pub shortLimits : (t : List ℤ) → Short (limitsKept t)
 unfolding limitsKept
@@ -44,12 +70,12 @@ unfolding spareInOrder waiting
 shortSpare t = each (λ k. by (λ y e. simp place-is at e))
 
 unfoldable pub shortClass : (t : List ℤ) → Short (classInOrder t)
-unfolding classInOrder
-shortClass t = each (λ c. by (λ y e. simp tree-is at e))
+unfolding classInOrder kindSum
+shortClass t = each (λ c. by (λ y e. simp (tree-is, sum-is) at e))
 
 unfoldable pub shortRate : (t : List ℤ) → Short (rateInOrder t)
 unfolding rateInOrder
-shortRate t = each (λ k. by (λ y e. simp tree-is at e))
+shortRate t = each (λ k. by (λ y e. simp (tree-is, rate-is) at e))
 
 unfoldable pub shortChild : (t : List ℤ) (c : ℕ) → Short (childBalance t c)
 unfolding childBalance
@@ -63,29 +89,33 @@ unfoldable pub shortArrivals : (t : List ℤ) → Short (arrivalsDiffer t)
 unfolding arrivalsDiffer waiting
 shortArrivals t = each (λ k. by (λ y e. simp place-is at e))
 
+unfoldable pub shortStated : (t : List ℤ) → Short (statedInOrder t)
+unfolding statedInOrder rate kindSum
+shortStated t = by (λ y e. simp (tree-is, place-is, sum-is, nodes-are) at e)
+
 unfoldable pub shortInOrder : (t : List ℤ) → Short (inOrder t)
 unfolding inOrder
 shortInOrder t =
     by
     (λ y e.
-    simp (unused-is, tree-is, is shortLimits, is shortSpare, is shortClass, is shortRate, is shortBalance, is shortArrivals) at e)
+    simp (unused-is, tree-is, nodes-are, classes-are, clients-are, is shortLimits, is shortSpare, is shortClass, is shortRate, is shortBalance, is shortArrivals, is shortStated) at e)
 
 -- The refusals.
 unfoldable pub shortJoinRefusal : (t : List ℤ) (node parent sort kind share depth : ℤ) → Short (joinRefusal t node parent sort kind share depth)
-unfolding joinRefusal sharesAbove depthsAbove
-shortJoinRefusal t node parent sort kind share depth = by (λ y e. simp (is shortInOrder, tree-is) at e)
+unfolding joinRefusal sharesAbove depthsAbove statedWrong kindSum
+shortJoinRefusal t node parent sort kind share depth = by (λ y e. simp (is shortInOrder, is shortStated, tree-is, sum-is) at e)
 
 unfoldable pub shortLeaveRefusal : (t : List ℤ) (node : ℤ) → Short (leaveRefusal t node)
 unfolding leaveRefusal
 shortLeaveRefusal t node = by (λ y e. simp (is shortInOrder, tree-is) at e)
 
 unfoldable pub shortChangeShareRefusal : (t : List ℤ) (node kind share : ℤ) → Short (changeShareRefusal t node kind share)
-unfolding changeShareRefusal sharesAbove
-shortChangeShareRefusal t node kind share = by (λ y e. simp (is shortInOrder, tree-is) at e)
+unfolding changeShareRefusal sharesAbove statedWrong kindSum
+shortChangeShareRefusal t node kind share = by (λ y e. simp (is shortInOrder, is shortStated, tree-is, sum-is) at e)
 
 unfoldable pub shortChangeRateRefusal : (t : List ℤ) (rate : ℤ) → Short (changeRateRefusal t rate)
-unfolding changeRateRefusal
-shortChangeRateRefusal t rate = by (λ y e. simp (is shortInOrder) at e)
+unfolding changeRateRefusal statedWrong
+shortChangeRateRefusal t rate = by (λ y e. simp (is shortInOrder, is shortStated) at e)
 
 unfoldable pub shortSameRefusal : (a b : List ℤ) → Short (sameRefusal a b)
 unfolding sameRefusal
@@ -106,7 +136,7 @@ shortRates t = each (λ k. by (λ y e. simp place-is at e))
 
 unfoldable pub shortLost : (t : List ℤ) (k : ℕ) → Short (lostGrains t k)
 unfolding lostGrains
-shortLost t k = by (λ y e. simp (tree-is, shortRates t .same) at e)
+shortLost t k = by (λ y e. simp (tree-is, sum-is, shortRates t .same) at e)
 
 unfoldable pub shortWaiting : (t : List ℤ) → Short (waiting t)
 unfolding waiting
@@ -150,12 +180,12 @@ unfoldable pub shortStep : (step : Step) (rest : (kept t : List ℤ) → Bool) (
 unfolding holds after keptAfter answer called changed joinTable joinAnswer leaveTable leaveAnswer changeShareTable changeShareAnswer changeRateTable changeRateAnswer requestTable requestAnswer lookAnswer sameTree sameAnswer tickTable tickList tickAnswer renewed
 shortStep (openℤ rate depth gives o) rest kept t = record { value = _; same = refl }
 shortStep (joinℤ node parent sort kind share depth gives o) rest kept t =
-    with (shortJoinRefusal t node parent sort kind share depth) (λ n h. by (λ y e. simp (h, tree-is) at e))
-shortStep (leaveℤ node gives o) rest kept t = with (shortLeaveRefusal t node) (λ n h. by (λ y e. simp (h, tree-is) at e))
+    with (shortJoinRefusal t node parent sort kind share depth) (λ n h. by (λ y e. simp (h, tree-is, rates-are) at e))
+shortStep (leaveℤ node gives o) rest kept t = with (shortLeaveRefusal t node) (λ n h. by (λ y e. simp (h, tree-is, rates-are) at e))
 shortStep (changeShareℤ node kind share gives o) rest kept t =
-    with (shortChangeShareRefusal t node kind share) (λ n h. by (λ y e. simp (h, tree-is) at e))
+    with (shortChangeShareRefusal t node kind share) (λ n h. by (λ y e. simp (h, tree-is, rates-are) at e))
 shortStep (changeRateℤ rate gives o) rest kept t =
-    with (shortChangeRateRefusal t rate) (λ n h. by (λ y e. simp (h, tree-is) at e))
+    with (shortChangeRateRefusal t rate) (λ n h. by (λ y e. simp (h, tree-is, rates-are) at e))
 shortStep (requestℤ client tag size gives o) rest kept t =
     with (shortRequestRefusal t client tag size) (λ n h. by (λ y e. simp h at e))
 shortStep (lookℤ node gives o) rest kept t = with (shortLookRefusal t node) (λ n h. by (λ y e. simp (h, is (shortLost t)) at e))

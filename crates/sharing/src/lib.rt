@@ -2,13 +2,16 @@
 ghost use mathlib.Core.Path.{_≡_};
 ghost use mathlib.Core.Bool.{true};
 ghost use Prim.Native.Nat.{_≤_, _<_};
+ghost use lib.Dec.{ltb};
 ghost use lib.IntN.{pos};
 ghost use lib.ListN.{length};
-ghost use Rattle.table.specs.Limits.{tableLength, nodes, root, wholeShare};
+ghost use Rattle.table.specs.Limits.{tableLength, nodes, root, greatestRate};
 ghost use Rattle.table.specs.Tree.{treeOf, there};
+ghost use Rattle.table.specs.Rates.{statedSum};
 ghost use Rattle.table.specs.Order.{inOrder};
+ghost use Rattle.table.specs.Refusals.{lastRefusal};
 ghost use Rattle.table.specs.Answers.{told};
-ghost use Rattle.table.specs.Calls.{sharesAbove, reshared, changeShareRefusal, changeShareTable, changeShareAnswer, changeRateRefusal, changeRateTable, changeRateAnswer};
+ghost use Rattle.table.specs.Calls.{sharesAbove, statedWrong, reshared, changeShareRefusal, changeShareTable, changeShareAnswer, changeRateRefusal, changeRateTable, changeRateAnswer};
 ghost use Rattle.sharing.specs.Limits.{shareLimits};
 use table::Answer;
 use table::Table;
@@ -17,26 +20,37 @@ fn change_share_limits(node: i64, kind: i64, share: i64) -> bool
     ensures { λ r. ⌜ r ≡ shareLimits node kind share ⌝ }
 {
     let node_fits = numbers::within(node, 0, Table::LAST_NODE);
-    let kind_fits = numbers::within(kind, 0, Table::WEIGHTED);
-    let share_fits = numbers::within(share, 1, Table::WHOLE_SHARE);
+    let kind_fits = numbers::within(kind, Table::FIXED, Table::STATED);
+    let most = Table::share_limit(numbers::natural(kind));
+    let share_fits = numbers::within(share, 1, most);
     node_fits & kind_fits & share_fits
 }
 
 // Whether the fixed shares beside node k would be above 10,000.
 fn shares_above(table: &[i64], k: usize, kind: u64, share: u64) -> bool
-    requires { ⌜ (inOrder (now table) ≡ true) × (k < nodes) × (there (treeOf (now table)) k ≡ true) × (k ≡ root → ⊥) × (share ≤ wholeShare) ⌝ }
+    requires { ⌜ (inOrder (now table) ≡ true) × (k < nodes) × (there (treeOf (now table)) k ≡ true) × (k ≡ root → ⊥) × (share ≤ greatestRate) ⌝ }
     ensures { λ r. ⌜ r ≡ sharesAbove (reshared (now (table .entry)) k (pos kind) (pos share)) (treeOf (now (table .entry)) .parent k) ⌝ }
 {
     let c = Table::natural(table, k, Table::PARENT) as usize;
-    let old = rating::sums::fixed_share(table, k);
+    let old = rating::sums::kind_share(table, Table::FIXED, k);
     rating::sums::shares_above(table, c, old, kind, share)
+}
+
+// Whether node k would be stated elsewhere than under the root, or the stated rates would be above the disk's.
+fn stated_wrong(table: &[i64], k: usize, kind: u64, share: u64) -> bool
+    requires { ⌜ (inOrder (now table) ≡ true) × (k < nodes) × (there (treeOf (now table)) k ≡ true) × (k ≡ root → ⊥) × (share ≤ greatestRate) ⌝ }
+    ensures { λ r. ⌜ r ≡ statedWrong (reshared (now (table .entry)) k (pos kind) (pos share)) ⌝ }
+{
+    let c = Table::natural(table, k, Table::PARENT) as usize;
+    let old = rating::sums::kind_share(table, Table::STATED, k);
+    rating::sums::stated_wrong(table, c, old, kind, share)
 }
 
 // The number of the first cause in the tree that turns change share of node k back, or 0.
 fn tree_refusal(table: &[i64], k: usize, kind: u64, share: u64) -> u64
     requires { ⌜ (inOrder (now table) ≡ true) × (shareLimits (pos k) (pos kind) (pos share) ≡ true) ⌝ }
     ensures first { λ r. ⌜ r ≡ changeShareRefusal (now (table .entry)) (pos k) (pos kind) (pos share) ⌝ }
-    ensures small { λ r. ⌜ r ≤ 7 ⌝ }
+    ensures small { λ r. ⌜ r ≤ lastRefusal ⌝ }
 {
     if !rating::tree::there(table, k) {
         return 3;
@@ -47,13 +61,16 @@ fn tree_refusal(table: &[i64], k: usize, kind: u64, share: u64) -> u64
     if shares_above(table, k, kind, share) {
         return 7;
     }
+    if stated_wrong(table, k, kind, share) {
+        return 16;
+    }
     0
 }
 
 // The number of the first cause that turns change share back, or 0.
 fn change_share_refusal(table: &[i64], node: i64, kind: i64, share: i64) -> u64
     ensures first { λ r. ⌜ r ≡ changeShareRefusal (now (table .entry)) node kind share ⌝ }
-    ensures small { λ r. ⌜ r ≤ 7 ⌝ }
+    ensures small { λ r. ⌜ r ≤ lastRefusal ⌝ }
 {
     if !order::in_order(table) {
         return 1;
@@ -94,16 +111,27 @@ pub fn change_share(table: &mut [i64], node: i64, kind: i64, share: i64) -> Answ
     Answer::Accepted(0)
 }
 
+// Whether the stated rates are above a rate of the disk.
+fn stated_above(table: &[i64], rate: u64) -> bool
+    requires { ⌜ inOrder (now table) ≡ true ⌝ }
+    ensures { λ r. ⌜ r ≡ ltb rate (statedSum (treeOf (now (table .entry))) root) ⌝ }
+{
+    rate < rating::sums::sum_under(table, rating::sums::Summand::Shares(Table::STATED), 0)
+}
+
 // The number of the first cause that turns change rate back, or 0.
 fn change_rate_refusal(table: &[i64], rate: i64) -> u64
     ensures first { λ r. ⌜ r ≡ changeRateRefusal (now (table .entry)) rate ⌝ }
-    ensures small { λ r. ⌜ r ≤ 2 ⌝ }
+    ensures small { λ r. ⌜ r ≤ lastRefusal ⌝ }
 {
     if !order::in_order(table) {
         return 1;
     }
     if !numbers::within(rate, 1, Table::GREATEST_RATE) {
         return 2;
+    }
+    if stated_above(table, numbers::natural(rate)) {
+        return 16;
     }
     0
 }

@@ -17,20 +17,20 @@ use Rattle.numbers.proofs.Tests.{by-test, or-cases, or-true-left, or-true-right
 use Rattle.numbers.proofs.Every.{head-holds, rest-hold, none-left, holds-with}
 use Rattle.numbers.proofs.Parts.{same-eq, eq-same, zarith}
 use Rattle.numbers.proofs.All.{all-at, all-intro}
-use Rattle.table.specs.Limits.{tableLength, headerLength, recordLength, nodes, lastNode, sortAt, parentAt, levelAt, kindAt, shareAt, depthAt, rateAt, waitingAt, spareAt, spareLength, queueAt, queueLength, requestLength, sizeAt, arrivalAt, class, client, fixed, weighted, root, lastClassLevel, lastLevel, wholeShare, greatestDepth, greatestRate, greatestCount, mostWaiting}
+use Rattle.table.specs.Limits.{tableLength, headerLength, recordLength, nodes, lastNode, sortAt, parentAt, levelAt, kindAt, shareAt, depthAt, rateAt, waitingAt, spareAt, spareLength, queueAt, queueLength, requestLength, sizeAt, arrivalAt, class, client, fixed, stated, root, lastClassLevel, lastLevel, wholeShare, greatestDepth, greatestRate, shareLimit, greatestCount, mostWaiting}
 use Rattle.table.specs.Places.{queuePlace, place, header, count, rate, balance, waiting, depthGrains, arrival}
-use Rattle.table.specs.Tree.{Tree, treeOf, there, isClass, isClient, sumUnder, testIf, eachNode, eachClass, eachClient}
-use Rattle.table.specs.Rates.{fixedSum, rateIn}
+use Rattle.table.specs.Tree.{Tree, treeOf, there, isClass, isClient, isStated, sumUnder, testIf, eachNode, eachClass, eachClient}
+use Rattle.table.specs.Rates.{fixedSum, statedSum, rateIn}
 use Rattle.table.specs.Cost.{sizeWithin}
-use Rattle.table.specs.Order.{isZero, headerInOrder, unusedInOrder, limitsKept, spareInOrder, rootInOrder, parentInOrder, classInOrder, rateInOrder, childBalances, balanceInOrder, requestInOrder, queueInOrder, differsAt, arrivalsDiffer, inOrder}
+use Rattle.table.specs.Order.{isZero, headerInOrder, unusedInOrder, limitsKept, spareInOrder, rootInOrder, parentInOrder, classInOrder, rateInOrder, childBalances, balanceInOrder, requestInOrder, queueInOrder, differsAt, arrivalsDiffer, statedPlaced, statedInOrder, inOrder}
 
 -- The limits of node k's places.
 pub record Limits (t : List ℤ) (k : ℕ) : Type 0 where
   pub sort : withinℤ class client (place t k sortAt) ≡ true
   pub parent : withinℤ 0 lastNode (place t k parentAt) ≡ true
   pub level : withinℤ 0 lastLevel (place t k levelAt) ≡ true
-  pub kind : withinℤ fixed weighted (place t k kindAt) ≡ true
-  pub share : withinℤ 1 wholeShare (place t k shareAt) ≡ true
+  pub kind : withinℤ fixed stated (place t k kindAt) ≡ true
+  pub share : withinℤ 1 (shareLimit (plus (place t k kindAt))) (place t k shareAt) ≡ true
   pub depth : withinℤ 1 greatestDepth (place t k depthAt) ≡ true
   pub waiting : withinℤ 0 mostWaiting (place t k waitingAt) ≡ true
 
@@ -56,6 +56,10 @@ pub root-level : (t : List ℤ) → Root t → treeOf t .level 0 ≡ 0
 unfolding treeOf plus
 root-level t f = rw (f .level)
 
+pub root-unstated : (t : List ℤ) → Root t → isStated (treeOf t) root ≡ false
+unfolding isStated treeOf plus
+root-unstated t f = rw (f .kind)
+
 pub record Child (tree : Tree) (k : ℕ) : Type 0 where
   pub class : isClass tree (tree .parent k) ≡ true
   pub level : tree .level k ≡ suc (tree .level (tree .parent k))
@@ -76,6 +80,11 @@ pub record Request (t : List ℤ) (k i : ℕ) : Type 0 where
   pub number : withinℤ 1 (count t) (place t k (queuePlace i + arrivalAt)) ≡ true
   pub rising : (i ≡ 0 → ⊥) → arrival t k (i - 1) < arrival t k i
 
+-- Stated nodes stand under the root, and their rates are within the disk's.
+pub record Stated (t : List ℤ) : Type 0 where
+  pub under : (k : ℕ) → k < nodes → there (treeOf t) k ≡ true → isStated (treeOf t) k ≡ true → treeOf t .parent k ≡ root
+  pub fits : statedSum (treeOf t) root ≤ rate t root
+
 pub record InOrder (t : List ℤ) : Type 0 where
   pub long : length t ≡ tableLength
   pub counted : withinℤ 0 greatestCount (header t 0) ≡ true
@@ -90,6 +99,7 @@ pub record InOrder (t : List ℤ) : Type 0 where
   pub balances : (k : ℕ) → k < nodes → there (treeOf t) k ≡ true → Balance t k
   pub requests : (k : ℕ) → k < nodes → isClient (treeOf t) k ≡ true → (i : ℕ) → i < waiting t k → Request t k i
   pub differ : (k : ℕ) → k < nodes → (i : ℕ) → i < waiting t k → (j : ℕ) → j < k → (l : ℕ) → l < waiting t j → arrival t k i ≡ arrival t j l → ⊥
+  pub stated : Stated t
 
 -- A test made only where another holds.
 pub test-at : (b : Bool) (p : ℕ → Bool) (k : ℕ) → testIf b p k ≡ true → b ≡ true → p k ≡ true
@@ -244,6 +254,37 @@ of-request t k i f =
     (λ e. or-true-right (eqb i 0) (ltb (arrival t k (i - 1)) (arrival t k i)) (lt-ltb _ _ (f .rising (eqb-false i 0 e)))))
     none-left))
 
+placed-of : (tree : Tree) (k : ℕ) → statedPlaced tree k ≡ true → isStated tree k ≡ true → tree .parent k ≡ root
+unfolding statedPlaced
+placed-of tree k h e =
+    ⊎-elim (λ other. absurd (true-false e (not-true _ other))) (λ under. eqb-true (tree .parent k) root under)
+    (or-cases (not (isStated tree k)) _ h)
+
+of-placed : (tree : Tree) (k : ℕ) → (isStated tree k ≡ true → tree .parent k ≡ root) → statedPlaced tree k ≡ true
+unfolding statedPlaced
+of-placed tree k h =
+    by-test (isStated tree k)
+    (λ e. or-true-right (not (isStated tree k)) _ (eq-eqb (tree .parent k) root (h e)))
+    (λ e. or-true-left (not (isStated tree k)) _ (ap not e))
+
+pub stated-of : (t : List ℤ) → statedInOrder t ≡ true → Stated t
+unfolding statedInOrder eachNode
+stated-of t h =
+    record {
+      under = λ k hk e. placed-of (treeOf t) k (each-at (there (treeOf t)) (statedPlaced (treeOf t)) (head-holds _ _ h) k hk e);
+      fits = leb-true (statedSum (treeOf t) root) (rate t root) (head-holds _ _ (rest-hold _ _ h));
+    }
+
+pub of-stated : (t : List ℤ) → Stated t → statedInOrder t ≡ true
+unfolding statedInOrder eachNode
+of-stated t f =
+    holds-with _ _ (at-each (there (treeOf t)) (statedPlaced (treeOf t)) (λ k hk e. of-placed (treeOf t) k (f .under k hk e)))
+    (holds-with _ _ (le-leb (statedSum (treeOf t) root) (rate t root) (f .fits)) none-left)
+
+-- Kept where the tree and the disk's rate stay.
+pub stated-kept : (t u : List ℤ) → treeOf u ≡ treeOf t → rate u root ≡ rate t root → Stated t → Stated u
+stated-kept t u trees disk f = record { under = rw trees (f .under); fits = rw (trees, disk) (f .fits) }
+
 pub facts : (t : List ℤ) → inOrder t ≡ true → InOrder t
 unfolding inOrder headerInOrder unusedInOrder eachNode eachClass eachClient rateInOrder queueInOrder arrivalsDiffer differsAt
 facts t h =
@@ -277,6 +318,7 @@ facts t h =
           (all-at (waiting t k) (λ i. allBelow k (differsAt t (arrival t k i)))
           (all-at nodes (arrivalsDiffer t) (head-holds _ _ (rest-hold _ _ h10)) k hk) i hi) j hj) l hl)
           (ap not (eq-eqb _ _ e));
+      stated = stated-of t (head-holds _ _ (rest-hold _ _ (rest-hold _ _ h10)));
     }
 
 pub from-facts : (t : List ℤ) → InOrder t → inOrder t ≡ true
@@ -303,7 +345,7 @@ from-facts t f =
     (λ i hi. all-intro k (differsAt t (arrival t k i))
     (λ j hj. all-intro (waiting t j) (λ l. not (eqb (arrival t k i) (arrival t j l)))
     (λ l hl. ap not (ne-eqb _ _ (f .differ k hk i hi j hj l hl)))))))
-    none-left)))))))))))
+    (holds-with _ _ (of-stated t (f .stated)) none-left))))))))))))
 
 -- A node of a table in order that is no client is a class.
 pub class-or-client : (t : List ℤ) (k : ℕ) → InOrder t → k < nodes → there (treeOf t) k ≡ true → isClient (treeOf t) k ≡ false → isClass (treeOf t) k ≡ true

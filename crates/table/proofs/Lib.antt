@@ -6,6 +6,7 @@ pub mod Passed
 pub mod Edits
 pub mod Zeros
 pub mod Open
+pub mod ShareKinds
 pub mod Rates
 pub mod Look
 pub mod Cost

@@ -14,14 +14,14 @@ use Rattle.numbers.specs.Tests.{every}
 use Rattle.numbers.proofs.Tests.{by-test, true-false, or-false-left, or-false-right}
 use Rattle.numbers.proofs.Every.{head-holds, rest-hold, holds-with, none-left}
 use Rattle.numbers.proofs.Parts.{zarith, one-is-zero, within-parts}
-use Rattle.table.specs.Limits.{tableLength, nodes, lastNode, class, client, fixed, weighted, root, lastClassLevel, wholeShare, greatestDepth, greatestRate, greatestCount, mostWaiting}
-use Rattle.table.specs.Places.{count, balance, waiting}
+use Rattle.table.specs.Limits.{tableLength, nodes, lastNode, rateAt, class, client, fixed, stated, root, lastClassLevel, wholeShare, greatestDepth, greatestRate, shareLimit, greatestCount, mostWaiting}
+use Rattle.table.specs.Places.{put, count, balance, waiting}
 use Rattle.table.specs.Tree.{treeOf, there, isClass, isClient, childless, sumUnder}
 use Rattle.table.specs.Rates.{fixedSum}
 use Rattle.table.specs.Cost.{cost}
 use Rattle.table.specs.Order.{inOrder}
-use Rattle.table.specs.Calls.{sharesAbove, depthsAbove, openRefusal, joined, joinRefusal, leaveRefusal, reshared, changeShareRefusal, changeRateRefusal, requestRefusal}
-use Rattle.table.proofs.Facts.{facts}
+use Rattle.table.specs.Calls.{sharesAbove, depthsAbove, statedWrong, openRefusal, joined, joinRefusal, leaveRefusal, reshared, changeShareRefusal, changeRateRefusal, requestRefusal}
+use Rattle.table.proofs.Facts.{Stated, facts, stated-of}
 use Rattle.table.proofs.Refusals.{none-first}
 
 -- The first tests: the table is in order, and a number is that of a node.
@@ -51,8 +51,8 @@ pub record JoinPassed (t : List ℤ) (k c : ℕ) (sort kind share depth : ℤ) :
   pub below : k ≡ 0 → ⊥
   pub parent : c < nodes
   pub sorts : withinℤ class client sort ≡ true
-  pub kinds : withinℤ fixed weighted kind ≡ true
-  pub within : withinℤ 1 wholeShare share ≡ true
+  pub kinds : withinℤ fixed stated kind ≡ true
+  pub within : withinℤ 1 (shareLimit (plus kind)) share ≡ true
   pub deep : withinℤ 1 greatestDepth depth ≡ true
   pub unused : there (treeOf t) k ≡ false
   pub there : there (treeOf t) c ≡ true
@@ -60,9 +60,10 @@ pub record JoinPassed (t : List ℤ) (k c : ℕ) (sort kind share depth : ℤ) :
   pub levels : plus sort ≡ class → treeOf t .level c ≡ lastClassLevel → ⊥
   pub shares : fixedSum (treeOf (joined t k c sort kind share depth)) c ≤ wholeShare
   pub depths : sumUnder (treeOf (joined t k c sort kind share depth)) c (treeOf (joined t k c sort kind share depth) .depth) ≤ treeOf (joined t k c sort kind share depth) .depth c
+  pub stated : Stated (joined t k c sort kind share depth)
 
 pub join-passed : (t : List ℤ) (node parent sort kind share depth : ℤ) → joinRefusal t node parent sort kind share depth ≡ 0 → JoinPassed t (plus node) (plus parent) sort kind share depth
-unfolding joinRefusal sharesAbove depthsAbove
+unfolding joinRefusal sharesAbove depthsAbove statedWrong
 join-passed t node parent sort kind share depth h =
     let p1 = none-first 1 _ _ (omega arith) h in
     let p2 = none-first 2 _ _ (omega arith) (p1 .1) in
@@ -72,6 +73,7 @@ join-passed t node parent sort kind share depth h =
     let p6 = none-first 6 _ _ (omega arith) (p5 .1) in
     let p7 = none-first 7 _ _ (omega arith) (p6 .1) in
     let p8 = none-first 8 _ _ (omega arith) (p7 .1) in
+    let p16 = none-first 16 _ _ (omega arith) (p8 .1) in
     let l1 = not-false _ (p2 .0) in
     let l2 = rest-hold _ _ l1 in
     let l3 = rest-hold _ _ l2 in
@@ -92,6 +94,7 @@ join-passed t node parent sort kind share depth h =
       levels = λ class last. true-false (holds-with _ _ (eq-eqb (plus sort) 1 class) (holds-with _ _ (eq-eqb (treeOf t .level (plus parent)) lastClassLevel last) none-left)) (p6 .0);
       shares = ltb-false wholeShare _ (p7 .0);
       depths = ltb-false _ _ (p8 .0);
+      stated = stated-of _ (not-false _ (p16 .0));
     }
 
 -- Of two tests that do not both hold, the second fails where the first holds.
@@ -137,20 +140,22 @@ leave-passed t node h =
 pub record ChangeSharePassed (t : List ℤ) (k : ℕ) (kind share : ℤ) : Type 0 where
   pub order : inOrder t ≡ true
   pub node : k < nodes
-  pub kinds : withinℤ fixed weighted kind ≡ true
-  pub within : withinℤ 1 wholeShare share ≡ true
+  pub kinds : withinℤ fixed stated kind ≡ true
+  pub within : withinℤ 1 (shareLimit (plus kind)) share ≡ true
   pub there : there (treeOf t) k ≡ true
   pub below : k ≡ 0 → ⊥
   pub shares : fixedSum (treeOf (reshared t k kind share)) (treeOf t .parent k) ≤ wholeShare
+  pub stated : Stated (reshared t k kind share)
 
 pub change-share-passed : (t : List ℤ) (node kind share : ℤ) → changeShareRefusal t node kind share ≡ 0 → ChangeSharePassed t (plus node) kind share
-unfolding changeShareRefusal sharesAbove
+unfolding changeShareRefusal sharesAbove statedWrong
 change-share-passed t node kind share h =
     let p1 = none-first 1 _ _ (omega arith) h in
     let p2 = none-first 2 _ _ (omega arith) (p1 .1) in
     let p3 = none-first 3 _ _ (omega arith) (p2 .1) in
     let p5 = none-first 5 _ _ (omega arith) (p3 .1) in
     let p7 = none-first 7 _ _ (omega arith) (p5 .1) in
+    let p16 = none-first 16 _ _ (omega arith) (p7 .1) in
     let limits = not-false _ (p2 .0) in
     let limits' = rest-hold _ _ limits in
     record {
@@ -161,19 +166,22 @@ change-share-passed t node kind share h =
       there = not-false _ (p3 .0);
       below = eqb-false (plus node) 0 (p5 .0);
       shares = ltb-false wholeShare _ (p7 .0);
+      stated = stated-of _ (not-false _ (p16 .0));
     }
 
 -- Change rate.
 pub record ChangeRatePassed (t : List ℤ) (rate : ℤ) : Type 0 where
   pub order : inOrder t ≡ true
   pub within : withinℤ 1 greatestRate rate ≡ true
+  pub stated : Stated (put t root rateAt rate)
 
 pub change-rate-passed : (t : List ℤ) (rate : ℤ) → changeRateRefusal t rate ≡ 0 → ChangeRatePassed t rate
-unfolding changeRateRefusal
+unfolding changeRateRefusal statedWrong
 change-rate-passed t rate h =
     let p1 = none-first 1 _ _ (omega arith) h in
     let p2 = none-first 2 _ _ (omega arith) (p1 .1) in
-    record { order = not-false _ (p1 .0); within = not-false _ (p2 .0) }
+    let p16 = none-first 16 _ _ (omega arith) (p2 .1) in
+    record { order = not-false _ (p1 .0); within = not-false _ (p2 .0); stated = stated-of _ (not-false _ (p16 .0)) }
 
 -- Request, of client k.
 pub record RequestPassed (t : List ℤ) (k : ℕ) (size : ℤ) : Type 0 where

@@ -1,7 +1,7 @@
 -- The first cause that is there: a call is accepted exactly when no cause is there, and then it leaves the new contents
 -- and its values; refused, it leaves the contents as they came and the number only.
 use Prim.Native.Nat.{ℕ, zero, suc, _≤_, _<_}
-use mathlib.Core.Path.{_≡_, refl, sym, ap, _∙_}
+use mathlib.Core.Path.{_≡_, refl, sym, ap, ap₂, _∙_}
 use mathlib.Core.Bool.{Bool, true, false, not, _&&_, and-true}
 use mathlib.Core.List.{List, [], _∷_}
 use native.Mathlib.Decide.{ℕ-discrete}
@@ -17,6 +17,7 @@ use Rattle.numbers.specs.Whole.{plus, minus, withinℤ}
 use Rattle.numbers.specs.Tests.{every}
 use Rattle.numbers.proofs.Parts.{zarith, one-is-zero, pos-plus, pos-of-within}
 use Rattle.numbers.proofs.Tests.{by-test, cond-true, cond-false}
+use Rattle.table.specs.Limits.{shareLimit}
 use Rattle.table.specs.Refusals.{Cause, cause, first, accepted, refused, outcome, numberTold, kept}
 
 pub first-here : (n : ℕ) (b : Bool) (cs : List Cause) → b ≡ true → first (cause n b ∷ cs) ≡ n
@@ -63,7 +64,8 @@ number-outcome n values =
     elim (ℕ-discrete n 0) [ yes e ↦ ap numberTold (outcome-accepted n values e) ∙ sym e | no ne ↦ ap numberTold (outcome-refused n values ne) ]
 
 -- Code goes through a list of causes by tests of its own. A Boolean r is what code has of a cause's test b, a number k what it
--- has of a number i that is compared. `search causes` finds the way through them from what is known at a return.
+-- has of a number i that is compared. `search causes` finds the way through them from what is known at a return. The rest of
+-- the causes may be another function's matter.
 pub data Finds : List Cause → ℕ → Type 0 where
   here : {n : ℕ} {r b : Bool} {cs : List Cause} → r ≡ b → r ≡ true → Finds (cause n b ∷ cs) n
   here-not : {n : ℕ} {r b : Bool} {cs : List Cause} → r ≡ b → not r ≡ true → Finds (cause n (not b) ∷ cs) n
@@ -77,6 +79,7 @@ pub data Finds : List Cause → ℕ → Type 0 where
   past-is : (i j : ℕ) {m n : ℕ} {cs : List Cause} → (i ≡ j → ⊥) → Finds cs m → Finds (cause n (eqb i j) ∷ cs) m
   past-known : {m n : ℕ} {b : Bool} {cs : List Cause} → b ≡ true → Finds cs m → Finds (cause n (not b) ∷ cs) m
   none : Finds [] 0
+  handed-on : {m : ℕ} {cs : List Cause} → m ≡ first cs → Finds cs m
 
 pub ruleset causes =
     (here, here-not, here-below, here-equal, here-is, past, past-not, past-below, past-equal, past-is, past-known, none)
@@ -94,6 +97,7 @@ found cs m (past-equal i j e h f) = found _ _ f ∙ sym (first-past _ _ _ (ne-eq
 found cs m (past-is i j h f) = found _ _ f ∙ sym (first-past _ _ _ (ne-eqb i j h))
 found cs m (past-known h f) = found _ _ f ∙ sym (first-past _ _ _ (ap not h))
 found cs m none = sym first-end
+found cs m (handed-on e) = e
 
 -- What such a test says of the cause.
 pub holds : {r b : Bool} → r ≡ b → not r ≡ false → b ≡ true
@@ -107,9 +111,10 @@ fails e h = sym e ∙ h
 pub data Tested : Bool → List Bool → Bool → Type 0 where
   within : (low high : ℕ) (z : ℤ) {a b r : Bool} {bs : List Bool} → b ≡ withinℤ low high (toZ w64 (ofZ w64 z)) → SFits w64 z → Tested (a && b) bs r → Tested a (withinℤ low high z ∷ bs) r
   least : (low : ℕ) (z : ℤ) {a b r : Bool} {bs : List Bool} → b ≡ leZ (pos low) (toZ w64 (ofZ w64 z)) → SFits w64 z → Tested (a && b) bs r → Tested a (leZ (pos low) z ∷ bs) r
+  by-kind : (low : ℕ) (kind z : ℤ) {a b r : Bool} {bs : List Bool} {n most : ℕ} → n ≡ plus (toZ w64 (ofZ w64 kind)) → SFits w64 kind → most ≡ shareLimit n → b ≡ withinℤ low most (toZ w64 (ofZ w64 z)) → SFits w64 z → Tested (a && b) bs r → Tested a (withinℤ low (shareLimit (plus kind)) z ∷ bs) r
   last : {a : Bool} → Tested a [] a
 
-pub ruleset limits = (within, least, last)
+pub ruleset limits = (within, least, by-kind, last)
 
 next-test : (a b c : Bool) (bs : List Bool) → b ≡ c → (a && b && every bs) ≡ (a && every (c ∷ bs))
 unfolding every
@@ -120,6 +125,8 @@ tested-after : (a : Bool) (bs : List Bool) (r : Bool) → Tested a bs r → r �
 unfolding every
 tested-after a bs r (within low high z {b = b} {bs = rest} e f t) = tested-after _ _ _ t ∙ next-test a b _ rest (e ∙ ap (withinℤ low high) (toZ-ofZ f))
 tested-after a bs r (least low z {b = b} {bs = rest} e f t) = tested-after _ _ _ t ∙ next-test a b _ rest (e ∙ ap (leZ (pos low)) (toZ-ofZ f))
+tested-after a bs r (by-kind low kind z {b = b} {bs = rest} e f l w g t) =
+    tested-after _ _ _ t ∙ next-test a b _ rest (w ∙ ap₂ (withinℤ low) (l ∙ ap shareLimit (e ∙ ap plus (toZ-ofZ f))) (toZ-ofZ g))
 tested-after a bs r last = sym (and-true a)
 
 pub tested : (bs : List Bool) (r : Bool) → Tested true bs r → r ≡ every bs

@@ -1,10 +1,10 @@
--- The numbers and values of document 01 for every case of the answers.
+-- The numbers and values of documents 01 and 02 for every case of the answers.
 use Prim.Native.Nat.{ℕ}
 use mathlib.Core.List.{[], _∷_}
 use lib.IntN.{pos}
 use Rattle.table.specs.Refusals.{Outcome, accepted, refused}
 use Rattle.table.specs.declared.Refusal.{Refusal}
-use Rattle.table.specs.declared.Refusal.the-variants.{NotInOrder, OutsideLimits, NotThere, InUse, WrongNode, LevelTooLow, SharesAbove, DepthAbove, NotEmpty, InDebt, QueueFull, CountAtEnd, BufferShort, PlanWrong, PlanOutOfOrder}
+use Rattle.table.specs.declared.Refusal.the-variants.{NotInOrder, OutsideLimits, NotThere, InUse, WrongNode, LevelTooLow, SharesAbove, DepthAbove, NotEmpty, InDebt, QueueFull, CountAtEnd, BufferShort, PlanWrong, PlanOutOfOrder, StatedWrong}
 use Rattle.table.specs.declared.Answer.{Answer}
 use Rattle.table.specs.declared.Answer.the-variants as answer
 use Rattle.table.specs.declared.Seen.{Seen}
@@ -29,6 +29,7 @@ numberOf CountAtEnd = 12
 numberOf BufferShort = 13
 numberOf PlanWrong = 14
 numberOf PlanOutOfOrder = 15
+numberOf StatedWrong = 16
 
 -- What a call tells its caller.
 unfoldable pub told : Answer → Outcome

@@ -1,4 +1,5 @@
--- The calls but for tick: their refusals, the table after and the answer. Document 01, "Calls" and "What is turned back".
+-- The calls but for tick: their refusals, the table after and the answer. Document 01, "Calls" and "What is turned back", and
+-- document 02, (f).
 -- Arguments are any whole numbers. A node number that is in its limits is read by its natural part.
 use Prim.Native.Nat.{ℕ, suc, _+_}
 use mathlib.Core.Bool.{Bool, not, cond, _||_}
@@ -10,21 +11,24 @@ use lib.Signed.{ltZ, leZ}
 use Rattle.numbers.specs.Whole.{plus, sameℤ, withinℤ}
 use Rattle.numbers.specs.Tests.{every}
 use Rattle.numbers.specs.Below.{allBelow, forBelow}
-use Rattle.table.specs.Limits.{tableLength, recordLength, nodes, lastNode, sortAt, parentAt, levelAt, kindAt, shareAt, depthAt, rateAt, balanceAt, waitingAt, tagAt, sizeAt, arrivalAt, class, client, fixed, weighted, root, lastClassLevel, wholeShare, greatestDepth, greatestRate, greatestCount, mostWaiting}
+use Rattle.table.specs.Limits.{tableLength, recordLength, nodes, lastNode, sortAt, parentAt, levelAt, kindAt, shareAt, depthAt, rateAt, balanceAt, waitingAt, tagAt, sizeAt, arrivalAt, class, client, fixed, stated, root, lastClassLevel, wholeShare, greatestDepth, greatestRate, shareLimit, greatestCount, mostWaiting}
 use Rattle.table.specs.Places.{place, put, header, putHeader, count, rate, balance, waiting, queuePlace}
 use Rattle.table.specs.Tree.{treeOf, there, isClass, isClient, childless, sumUnder}
 use Rattle.table.specs.Rates.{fixedSum, renewed}
 use Rattle.table.specs.Cost.{cost}
-use Rattle.table.specs.Order.{inOrder}
+use Rattle.table.specs.Order.{statedInOrder, inOrder}
 use Rattle.table.specs.Refusals.{Cause, cause, first, Outcome, outcome, kept}
 
 -- Cause 7 under class c of a table as the call would leave it: the fixed shares are above 10,000. Cause 8: the children's
--- depths are above the class's.
+-- depths are above the class's. Cause 16: the stated rates are not in order.
 unfoldable pub sharesAbove : List ℤ → ℕ → Bool
 sharesAbove t c = ltb wholeShare (fixedSum (treeOf t) c)
 
 unfoldable pub depthsAbove : List ℤ → ℕ → Bool
 depthsAbove t c = ltb (treeOf t .depth c) (sumUnder (treeOf t) c (treeOf t .depth))
+
+unfoldable pub statedWrong : List ℤ → Bool
+statedWrong t = not (statedInOrder t)
 
 -- The answer of an accepted call that has no other.
 abbrev pub done : List ℤ
@@ -67,8 +71,8 @@ joinRefusal t node parent sort kind share depth =
     (withinℤ 1 lastNode node
     ∷ withinℤ 0 lastNode parent
     ∷ withinℤ class client sort
-    ∷ withinℤ fixed weighted kind
-    ∷ withinℤ 1 wholeShare share
+    ∷ withinℤ fixed stated kind
+    ∷ withinℤ 1 (shareLimit (plus kind)) share
     ∷ withinℤ 1 greatestDepth depth
     ∷ [])))
     ∷ cause 3 (not (there (treeOf t) (plus parent)))
@@ -77,6 +81,7 @@ joinRefusal t node parent sort kind share depth =
     ∷ cause 6 (every (eqb (plus sort) class ∷ eqb (treeOf t .level (plus parent)) lastClassLevel ∷ []))
     ∷ cause 7 (sharesAbove (joined t (plus node) (plus parent) sort kind share depth) (plus parent))
     ∷ cause 8 (depthsAbove (joined t (plus node) (plus parent) sort kind share depth) (plus parent))
+    ∷ cause 16 (statedWrong (joined t (plus node) (plus parent) sort kind share depth))
     ∷ [])
 
 unfoldable pub joinTable : List ℤ → ℤ → ℤ → ℤ → ℤ → ℤ → ℤ → List ℤ
@@ -117,10 +122,11 @@ unfoldable pub changeShareRefusal : List ℤ → ℤ → ℤ → ℤ → ℕ
 changeShareRefusal t node kind share =
     first
     (cause 1 (not (inOrder t))
-    ∷ cause 2 (not (every (withinℤ 0 lastNode node ∷ withinℤ fixed weighted kind ∷ withinℤ 1 wholeShare share ∷ [])))
+    ∷ cause 2 (not (every (withinℤ 0 lastNode node ∷ withinℤ fixed stated kind ∷ withinℤ 1 (shareLimit (plus kind)) share ∷ [])))
     ∷ cause 3 (not (there (treeOf t) (plus node)))
     ∷ cause 5 (eqb (plus node) root)
     ∷ cause 7 (sharesAbove (reshared t (plus node) kind share) (treeOf t .parent (plus node)))
+    ∷ cause 16 (statedWrong (reshared t (plus node) kind share))
     ∷ [])
 
 unfoldable pub changeShareTable : List ℤ → ℤ → ℤ → ℤ → List ℤ
@@ -132,7 +138,12 @@ changeShareAnswer t node kind share = outcome (changeShareRefusal t node kind sh
 
 -- Change rate (rate) is for the root.
 unfoldable pub changeRateRefusal : List ℤ → ℤ → ℕ
-changeRateRefusal t rate = first (cause 1 (not (inOrder t)) ∷ cause 2 (not (withinℤ 1 greatestRate rate)) ∷ [])
+changeRateRefusal t rate =
+    first
+    (cause 1 (not (inOrder t))
+    ∷ cause 2 (not (withinℤ 1 greatestRate rate))
+    ∷ cause 16 (statedWrong (put t root rateAt rate))
+    ∷ [])
 
 unfoldable pub changeRateTable : List ℤ → ℤ → List ℤ
 changeRateTable t rate = kept (changeRateRefusal t rate) (renewed (put t root rateAt rate)) t

@@ -1,5 +1,8 @@
--- The figures of document 01: lengths, places, kinds and limits. No other file writes them as figures.
+-- The figures of document 01, and the third kind of document 02, (f): lengths, places, kinds and limits. No other file writes them
+-- as figures.
 use Prim.Native.Nat.{ℕ}
+use mathlib.Core.Bool.{cond}
+use lib.Dec.{eqb}
 
 -- The table: 8 numbers of header, then 64 records of 40.
 abbrev pub tableLength : ℕ
@@ -72,7 +75,7 @@ sizeAt = 1
 abbrev pub arrivalAt : ℕ
 arrivalAt = 2
 
--- Sorts and share kinds. A record of sort 0 is unused.
+-- Sorts and share kinds. A record of sort 0 is unused. A stated share is a rate.
 abbrev pub unused : ℕ
 unused = 0
 
@@ -87,6 +90,13 @@ fixed = 0
 
 abbrev pub weighted : ℕ
 weighted = 1
+
+abbrev pub stated : ℕ
+stated = 2
+
+-- How many kinds there are.
+abbrev pub kinds : ℕ
+kinds = 3
 
 -- Limits.
 abbrev pub root : ℕ
@@ -108,6 +118,10 @@ greatestDepth = 1000000
 
 abbrev pub greatestRate : ℕ
 greatestRate = 1000000000
+
+-- The greatest share of a kind: of a stated one it is the greatest rate.
+unfoldable pub shareLimit : ℕ → ℕ
+shareLimit kind = cond (eqb kind stated) greatestRate wholeShare
 
 abbrev pub greatestCount : ℕ
 greatestCount = 9000000000000000000

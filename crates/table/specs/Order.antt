@@ -1,4 +1,4 @@
--- When a table is in order, clause by clause. Document 01, "The table".
+-- When a table is in order, clause by clause. Document 01, "The table", and document 02, (f).
 use Prim.Native.Nat.{ℕ, suc, _+_, _*_, _-_}
 use mathlib.Core.Bool.{Bool, not, cond, _||_}
 use mathlib.Core.List.{List, [], _∷_}
@@ -6,13 +6,13 @@ use lib.ListN.{length}
 use lib.Dec.{eqb, leb, ltb}
 use lib.IntN.{ℤ, pos, _+ℤ_}
 use lib.Signed.{leZ}
-use Rattle.numbers.specs.Whole.{sameℤ, withinℤ}
+use Rattle.numbers.specs.Whole.{plus, sameℤ, withinℤ}
 use Rattle.numbers.specs.Tests.{every}
 use Rattle.numbers.specs.Below.{allBelow, sumℤBelow}
-use Rattle.table.specs.Limits.{tableLength, headerLength, recordLength, nodes, lastNode, sortAt, parentAt, levelAt, kindAt, shareAt, depthAt, rateAt, waitingAt, spareAt, spareLength, queueAt, queueLength, requestLength, sizeAt, arrivalAt, class, client, fixed, weighted, root, lastClassLevel, lastLevel, wholeShare, greatestDepth, greatestRate, greatestCount, mostWaiting}
+use Rattle.table.specs.Limits.{tableLength, headerLength, recordLength, nodes, lastNode, sortAt, parentAt, levelAt, kindAt, shareAt, depthAt, rateAt, waitingAt, spareAt, spareLength, queueAt, queueLength, requestLength, sizeAt, arrivalAt, class, client, fixed, stated, root, lastClassLevel, lastLevel, wholeShare, greatestDepth, greatestRate, shareLimit, greatestCount, mostWaiting}
 use Rattle.table.specs.Places.{place, header, count, rate, balance, waiting, depthGrains, queuePlace, arrival}
-use Rattle.table.specs.Tree.{Tree, treeOf, there, isClass, childOf, sumUnder, eachNode, eachClass, eachClient, testIf}
-use Rattle.table.specs.Rates.{fixedSum, rateIn}
+use Rattle.table.specs.Tree.{Tree, treeOf, there, isClass, isStated, childOf, sumUnder, eachNode, eachClass, eachClient, testIf}
+use Rattle.table.specs.Rates.{fixedSum, statedSum, rateIn}
 use Rattle.table.specs.Cost.{sizeWithin}
 
 unfoldable pub isZero : ℤ → Bool
@@ -33,8 +33,8 @@ limitsKept t k =
     (withinℤ class client (place t k sortAt)
     ∷ withinℤ 0 lastNode (place t k parentAt)
     ∷ withinℤ 0 lastLevel (place t k levelAt)
-    ∷ withinℤ fixed weighted (place t k kindAt)
-    ∷ withinℤ 1 wholeShare (place t k shareAt)
+    ∷ withinℤ fixed stated (place t k kindAt)
+    ∷ withinℤ 1 (shareLimit (plus (place t k kindAt))) (place t k shareAt)
     ∷ withinℤ 1 greatestDepth (place t k depthAt)
     ∷ withinℤ 0 mostWaiting (place t k waitingAt)
     ∷ [])
@@ -114,6 +114,13 @@ differsAt t a j = allBelow (waiting t j) (λ i. not (eqb a (arrival t j i)))
 unfoldable pub arrivalsDiffer : List ℤ → ℕ → Bool
 arrivalsDiffer t k = allBelow (waiting t k) (λ i. allBelow k (differsAt t (arrival t k i)))
 
+-- A stated node stands under the root only, and the stated rates sum to at most the disk's rate.
+unfoldable pub statedPlaced : Tree → ℕ → Bool
+statedPlaced tree k = not (isStated tree k) || eqb (tree .parent k) root
+
+unfoldable pub statedInOrder : List ℤ → Bool
+statedInOrder t = every (eachNode (treeOf t) (statedPlaced (treeOf t)) ∷ leb (statedSum (treeOf t) root) (rate t root) ∷ [])
+
 unfoldable pub inOrder : List ℤ → Bool
 inOrder t =
     every
@@ -129,4 +136,5 @@ inOrder t =
     ∷ eachNode (treeOf t) (balanceInOrder t)
     ∷ eachClient (treeOf t) (queueInOrder t)
     ∷ allBelow nodes (arrivalsDiffer t)
+    ∷ statedInOrder t
     ∷ [])

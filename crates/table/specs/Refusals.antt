@@ -5,6 +5,10 @@ use mathlib.Core.List.{List, [], _∷_}
 use lib.Dec.{eqb}
 use lib.IntN.{ℤ}
 
+-- The greatest number of a cause.
+abbrev pub lastRefusal : ℕ
+lastRefusal = 16
+
 -- A cause: its number, and whether it is there.
 pub data Cause : Type 0 where
   cause : ℕ → Bool → Cause

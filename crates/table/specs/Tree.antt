@@ -7,7 +7,7 @@ use lib.IntN.{ℤ}
 use Rattle.numbers.specs.Whole.{plus}
 use Rattle.numbers.specs.Tests.{every}
 use Rattle.numbers.specs.Below.{sumBelow, allBelow}
-use Rattle.table.specs.Limits.{nodes, root, unused, class, client, fixed, sortAt, parentAt, levelAt, kindAt, shareAt, depthAt}
+use Rattle.table.specs.Limits.{nodes, root, unused, class, client, fixed, stated, sortAt, parentAt, levelAt, kindAt, shareAt, depthAt}
 use Rattle.table.specs.Places.{place}
 
 pub record Tree : Type 0 where
@@ -39,9 +39,12 @@ isClass tree k = eqb (tree .sort k) class
 unfoldable pub isClient : Tree → ℕ → Bool
 isClient tree k = eqb (tree .sort k) client
 
--- Whether the share of node k is fixed; else it is weighted.
+-- Whether the share of node k is fixed, and whether it is stated; else it is weighted.
 unfoldable pub isFixed : Tree → ℕ → Bool
 isFixed tree k = eqb (tree .kind k) fixed
+
+unfoldable pub isStated : Tree → ℕ → Bool
+isStated tree k = eqb (tree .kind k) stated
 
 -- Whether node k is a child of class c. The root is its own parent and nobody's child.
 unfoldable pub childOf : Tree → ℕ → ℕ → Bool

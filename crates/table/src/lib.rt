@@ -4,11 +4,11 @@ ghost use mathlib.Core.List.{[], _∷_};
 ghost use Prim.Native.Nat.{_+_, _*_, _<_, _≤_, _^_};
 ghost use lib.ListN.{length};
 ghost use lib.IntN.{pos};
-ghost use Rattle.numbers.specs.Whole.{plus, withinℤ};
+ghost use Rattle.numbers.specs.Whole.{plus, minus, withinℤ};
 ghost use Rattle.numbers.specs.Tests.{every};
-ghost use Rattle.table.specs.Limits.{tableLength, headerLength, recordLength, nodes, depthAt, greatestRate, greatestDepth, grainScale};
+ghost use Rattle.table.specs.Limits.{tableLength, headerLength, recordLength, nodes, depthAt, greatestRate, shareLimit, greatestDepth, grainScale};
 ghost use Rattle.table.specs.Places.{place, put, header, putHeader, count, depthGrains};
-ghost use Rattle.table.specs.Refusals.{outcome, numberTold};
+ghost use Rattle.table.specs.Refusals.{lastRefusal, outcome, numberTold};
 ghost use Rattle.table.specs.Calls.{blank, opened, openRefusal, openTable, openAnswer};
 ghost use Rattle.table.specs.Answers.{numberOf, told};
 
@@ -29,9 +29,10 @@ pub enum Refusal {
     BufferShort,
     PlanWrong,
     PlanOutOfOrder,
+    StatedWrong,
 }
 
-// What a call answers: 0 or the arrival number, or why it is refused.
+// What a call answers: its number, 0 where it has no other, or why it is refused.
 pub enum Answer {
     Accepted(i64),
     Refused(Refusal),
@@ -142,6 +143,23 @@ impl Table {
 
     pub const WEIGHTED: u64 = 1;
 
+    pub const STATED: u64 = 2;
+
+    // How many kinds there are, and how many sums: of each kind one under each class.
+    pub const KINDS: usize = 3;
+
+    pub const SHARE_SUMS: usize = Table::KINDS * Table::NODES;
+
+    // The greatest share of a kind.
+    pub fn share_limit(kind: u64) -> u64
+        ensures { λ r. ⌜ r ≡ shareLimit kind ⌝ }
+    {
+        if kind == Table::STATED {
+            return Table::GREATEST_RATE;
+        }
+        Table::WHOLE_SHARE
+    }
+
     // What stands at place p of node k.
     pub fn get(table: &[i64], k: usize, p: usize) -> i64
         requires { ⌜ (length (now table) ≡ tableLength) × (k < nodes) × (p < recordLength) ⌝ }
@@ -156,6 +174,14 @@ impl Table {
         ensures { λ r. ⌜ r ≡ plus (place (now (table .entry)) k p) ⌝ }
     {
         numbers::natural(Table::get(table, k, p))
+    }
+
+    // It as a natural number, where it is not negative.
+    pub fn unsigned(table: &[i64], k: usize, p: usize) -> u64
+        requires { ⌜ (length (now table) ≡ tableLength) × (k < nodes) × (p < recordLength) × (minus (place (now table) k p) ≡ 0) ⌝ }
+        ensures { λ r. ⌜ r ≡ plus (place (now (table .entry)) k p) ⌝ }
+    {
+        numbers::unsigned(Table::get(table, k, p))
     }
 
     // Writes v there.
@@ -250,7 +276,7 @@ impl Table {
     // The number of the first cause that turns open back, or 0.
     fn open_refusal(table: &[i64], rate: i64, depth: i64) -> u64
         ensures first { λ r. ⌜ r ≡ openRefusal (now (table .entry)) rate depth ⌝ }
-        ensures small { λ r. ⌜ r ≤ 2 ⌝ }
+        ensures small { λ r. ⌜ r ≤ lastRefusal ⌝ }
     {
         if table.len() != Table::LENGTH {
             return 1;
@@ -278,7 +304,7 @@ impl Table {
 
 // The refusal of a number.
 pub fn refusal_of(number: u64) -> Refusal
-    requires { ⌜ (1 ≤ number) × (number ≤ 15) ⌝ }
+    requires { ⌜ (1 ≤ number) × (number ≤ lastRefusal) ⌝ }
     ensures { λ r. ⌜ numberOf r ≡ number ⌝ }
 {
     match number {
@@ -296,13 +322,14 @@ pub fn refusal_of(number: u64) -> Refusal
         12 => Refusal::CountAtEnd,
         13 => Refusal::BufferShort,
         14 => Refusal::PlanWrong,
-        _ => Refusal::PlanOutOfOrder,
+        15 => Refusal::PlanOutOfOrder,
+        _ => Refusal::StatedWrong,
     }
 }
 
 // The answer of a call: its value where the number of the refusal is 0.
 pub fn answered(number: u64, value: i64) -> Answer
-    requires { ⌜ number ≤ 15 ⌝ }
+    requires { ⌜ number ≤ lastRefusal ⌝ }
     ensures { λ r. ⌜ told r ≡ outcome number (value ∷ []) ⌝ }
 {
     if number == 0 {
@@ -315,7 +342,7 @@ pub fn answered(number: u64, value: i64) -> Answer
 // The number of a refusal.
 pub fn number_of(why: Refusal) -> u64
     ensures number { λ r. ⌜ r ≡ numberOf why ⌝ }
-    ensures small { λ r. ⌜ r ≤ 15 ⌝ }
+    ensures small { λ r. ⌜ r ≤ lastRefusal ⌝ }
 {
     match why {
         Refusal::NotInOrder => 1,
@@ -333,13 +360,14 @@ pub fn number_of(why: Refusal) -> u64
         Refusal::BufferShort => 13,
         Refusal::PlanWrong => 14,
         Refusal::PlanOutOfOrder => 15,
+        Refusal::StatedWrong => 16,
     }
 }
 
 // The number of the refusal in an answer, or 0.
 pub fn number_told(answer: Answer) -> u64
     ensures number { λ r. ⌜ r ≡ numberTold (told answer) ⌝ }
-    ensures small { λ r. ⌜ r ≤ 15 ⌝ }
+    ensures small { λ r. ⌜ r ≤ lastRefusal ⌝ }
 {
     match answer {
         Answer::Accepted(_) => 0,

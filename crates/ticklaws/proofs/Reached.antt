@@ -9,10 +9,10 @@ use lib.ListN.{length}
 use lib.IntN.{ℤ, pos}
 use Rattle.numbers.specs.Whole.{plus, minus}
 use Rattle.numbers.proofs.Parts.{zarith}
-use Rattle.table.specs.Limits.{tableLength, recordLength, nodes, sortAt, parentAt, levelAt, kindAt, shareAt, depthAt, rateAt, balanceAt, spareAt}
+use Rattle.table.specs.Limits.{tableLength, recordLength, nodes, sortAt, parentAt, levelAt, kindAt, shareAt, depthAt, rateAt, balanceAt, spareAt, root}
 use Rattle.table.specs.Places.{place, count, balance, waiting, depthGrains, arrival}
 use Rattle.table.specs.Tree.{Tree, treeOf, there, isClass}
-use Rattle.table.proofs.Facts.{InOrder, Limits, Root, Class, Balance, Request}
+use Rattle.table.proofs.Facts.{InOrder, Limits, Root, Class, Balance, Request, stated-kept}
 use Rattle.treelaws.proofs.Floors.{Floor, Under, grounds, floor-of, room-balance}
 use Rattle.ticklaws.proofs.Frame.{by-place, Frame, OnlyBalances, only-frame, frame-refl, frame-trans, frame-tree, frame-rate, frame-count, frame-depth}
 use Rattle.treelaws.proofs.Sorts.{unused-client, class-client}
@@ -57,7 +57,7 @@ module _ (t u : List ℤ) (f : InOrder t) (r : Reached t u) (most : Under (treeO
         parent = rw (e parentAt (omega arith)) (l .parent);
         level = rw (e levelAt (omega arith)) (l .level);
         kind = rw (e kindAt (omega arith)) (l .kind);
-        share = rw (e shareAt (omega arith)) (l .share);
+        share = rw (e kindAt (omega arith), e shareAt (omega arith)) (l .share);
         depth = rw (e depthAt (omega arith)) (l .depth);
         waiting = r .queues .few k hk;
       }
@@ -116,6 +116,7 @@ module _ (t u : List ℤ) (f : InOrder t) (r : Reached t u) (most : Under (treeO
         balances = rw same balance-again;
         requests = λ k hk e. request-again k hk;
         differ = r .queues .differ;
+        stated = stated-kept t u same (frame-rate t u (r .frame) root) (f .stated);
       }
 
 pub reached-first : (t : List ℤ) → InOrder t → Reached t t

@@ -1,6 +1,6 @@
 -- A function that takes a view and an index, and hands out what a function of `parts` finds in the view's bytes: one walk of the MIR, by hand, over the type R of what is handed out and over the promise P on it.
--- The view is taken apart, and the callee is called on the bytes, the count and the index. All that the proof knows of the callee is that it meets its contract.
--- The view is Copy: what it owns is had twice, one copy is kept whole for the exit, and of the other what the bytes own goes to the callee, beside the lifetime's token, which comes back. What the numbers own is made anew.
+-- The view is taken apart, and the callee is called on the bytes, the edition, the count and the index. All that the proof knows of the callee is that it meets its contract.
+-- The view is Copy: what it owns is had twice, one copy is kept whole for the exit, and of the other what the bytes own goes to the callee, beside the lifetime's token, which comes back. What the edition and the numbers own is made anew.
 use mathlib.Core.Path.{_≡_, refl}
 use Prim.Native.Nat.{ℕ, _<_, _^_}
 use mathlib.Core.List.{List, [], _∷_}
@@ -27,6 +27,7 @@ use denote.Ref.{now}
 use denote.Signature.{plain, namedLft}
 use denote.Slice.{sliceTy, sliceVal, ShrSlice}
 use denote.Steps.{owned, peeks, heard, nothing}
+use denote.Enum.Laws as EL
 use denote.Struct.Declared.{Declared}
 use denote.Struct.Laws as LL
 use denote.Struct.Rest.{all-own, own-open}
@@ -38,6 +39,10 @@ use denote.Triple.Entry.{onEntry}
 use denote.Triple.Spec.{Meets, tripleOf}
 use denote.Triple.Walked.{says, needs, Stays, stay-none, walkOf, goes-none, Walks, ends-at, walked, walk-meets}
 use denote.Exit.{yes}
+use Rattle.layout.specs.declared.Edition.{Edition}
+use Rattle.layout.specs.declared.Edition.the-variants.{First, Second}
+use Rattle.layout.proofs.Edition as Ed
+use Rattle.layout.proofs.Edition.Laws as Ed′
 use Rattle.view.specs.Views.{Views}
 use Rattle.view.specs.declared.View.{View}
 use Rattle.view.proofs.View as T
@@ -47,20 +52,28 @@ use Rattle.view.proofs.View.Laws as T′
 abbrev pub B : Lfts 1 → RattleType
 B κs = T.the-row (namedLft 1 0 tt κs)
 
+-- the machine value of an edition, and that the edition has it
+abbrev pub valᵉ : Edition → Val
+valᵉ = EL.val Ed.the-type Ed′.the-laws
+
+pub edition-is : (e : Edition) → Is Ed.the-row e (valᵉ e ∷ [])
+edition-is First = EL.owes Ed.the-type Ed′.the-laws First tt
+edition-is Second = EL.owes Ed.the-type Ed′.the-laws Second tt
+
 -- the signatures of a function that hands out an R and of its callee
 abbrev pub handing : RattleType → Ended
 handing R = record { signature = record { lifetimes = 1; outlives = []; params = plain B ∷ plain (λ _. usize) ∷ []; result = plain (λ _. R) }; kept = (yes, (yes, tt)) }
 
 abbrev pub finding : RattleType → Ended
-finding R = record { signature = record { lifetimes = 1; outlives = []; params = SliceRefOf (0 ∷ []) tt (plain (λ _. u8)) (λ _. tt) ∷ plain (λ _. usize) ∷ plain (λ _. usize) ∷ []; result = plain (λ _. R) }; kept = (yes, (yes, (yes, tt))) }
+finding R = record { signature = record { lifetimes = 1; outlives = []; params = SliceRefOf (0 ∷ []) tt (plain (λ _. u8)) (λ _. tt) ∷ plain (λ _. Ed.the-row) ∷ plain (λ _. usize) ∷ plain (λ _. usize) ∷ []; result = plain (λ _. R) }; kept = (yes, (yes, (yes, (yes, tt)))) }
 
--- their contracts: for the bytes of a plan, its count and an index below it, the result is as P says
+-- their contracts: for the bytes of a plan, its edition, its count and an index below it, the result is as P says
 module _ {M : Type 1} (𝓤 : URA M) (R : RattleType) (P : List ℕ → ℕ → R .Denot → Type 0) where
   abbrev pub handed : Clauses 𝓤 (handing R)
-  handed κs a = record { ghost = Unit {0}; requires = λ _. fact 𝓤 (Views (now (a .0 .bytes)) (a .0 .count) × (a .1 .0 < a .0 .count)); ensures = λ _ r _. fact 𝓤 (P (now (a .0 .bytes)) (a .1 .0) r) }
+  handed κs a = record { ghost = Unit {0}; requires = λ _. fact 𝓤 (Views (now (a .0 .bytes)) (a .0 .edition) (a .0 .count) × (a .1 .0 < a .0 .count)); ensures = λ _ r _. fact 𝓤 (P (now (a .0 .bytes)) (a .1 .0) r) }
 
   abbrev pub found : Clauses 𝓤 (finding R)
-  found κs a = record { ghost = Unit {0}; requires = λ _. fact 𝓤 (Views (now (a .0)) (a .1 .0) × (a .1 .1 .0 < a .1 .0)); ensures = λ _ r _. fact 𝓤 (P (now (a .0)) (a .1 .1 .0) r) }
+  found κs a = record { ghost = Unit {0}; requires = λ _. fact 𝓤 (Views (now (a .0)) (a .1 .0) (a .1 .1 .0) × (a .1 .1 .1 .0 < a .1 .1 .0)); ensures = λ _ r _. fact 𝓤 (P (now (a .0)) (a .1 .1 .1 .0) r) }
 
   module _ (H : Heap 𝓤) (A : Atoms 𝓤) where
     abbrev pub Hands : Contract 𝓤
@@ -76,24 +89,32 @@ function callee ty =
       lifetimes = 1;
       outlives = [];
       params = 2;
-      locals = local ty valueLocal ∷ local (T′.mir (named 0)) valueLocal ∷ local (tyInt w64) valueLocal ∷ local (sliceTy (tyRef erased imm (tyInt w8))) valueLocal ∷ local (tyInt w64) valueLocal ∷ [];
+      locals = local ty valueLocal ∷ local (T′.mir (named 0)) valueLocal ∷ local (tyInt w64) valueLocal ∷ local (sliceTy (tyRef erased imm (tyInt w8))) valueLocal ∷ local Ed′.mir valueLocal ∷ local (tyInt w64) valueLocal ∷ [];
       body =
           seq (assign (place 3 []) (rvOpd (copy (place 1 (field 0 ∷ [])))))
           (seq (assign (place 4 []) (rvOpd (copy (place 1 (field 1 ∷ [])))))
-          (seq (call callee (copy (place 3 []) ∷ copy (place 4 []) ∷ copy (place 2 []) ∷ []) (place 0 []))
-          return));
+          (seq (assign (place 5 []) (rvOpd (copy (place 1 (field 2 ∷ [])))))
+          (seq (call callee (copy (place 3 []) ∷ copy (place 4 []) ∷ copy (place 5 []) ∷ copy (place 2 []) ∷ []) (place 0 []))
+          return)));
     }
 
 abbrev stayed : (R : RattleType) → Stays (handing R .signature .params) (handing R .kept)
 stayed R = (stay-none B yes, (stay-none (λ _. usize) yes, tt))
 
 module _ {M : Type 1} (𝓤 : URA M) (H : Heap 𝓤) (A : Atoms 𝓤) (W : Given 𝓤 H A) (R : RattleType) (P : List ℕ → ℕ → R .Denot → Type 0) (ty : Ty) (typed : (r : R .Denot) (u : Val) → Is R r (u ∷ []) → Holds (hasTy ty u) × WT u) (callee : Name) where
-  module _ (κ : Lft) (q : Share) (d : View) (i : ℕ) (i-fits : i < 2 ^ 64) (asks : Views (now (d .bytes)) (d .count) × (i < d .count)) where
+  module _ (κ : Lft) (q : Share) (d : View) (i : ℕ) (i-fits : i < 2 ^ 64) (asks : Views (now (d .bytes)) (d .edition) (d .count) × (i < d .count)) where
     abbrev a : View × (ℕ × Unit {0})
     a = (d, (i, tt))
 
+    -- the view's type and laws, and d's machine value
+    abbrev D : Declared
+    D = T.the-type (namedLft 1 0 tt (κ, tt))
+
+    abbrev L : LL.Laws D
+    L = T′.the-laws (namedLft 1 0 tt (κ, tt))
+
     abbrev mach : Val
-    mach = T′.lowered d
+    mach = LL.val D L d
 
     abbrev at : List Val × (List Val × Unit {0})
     at = (mach ∷ [], (vint w64 i ∷ [], tt))
@@ -101,28 +122,22 @@ module _ {M : Type 1} (𝓤 : URA M) (H : Heap 𝓤) (A : Atoms 𝓤) (W : Given
     abbrev Post : Val → SProp 𝓤
     Post = walkOf 𝓤 H A (handing R) (stayed R) (handed 𝓤 R P) .post (((κ, tt), (q, tt), tt, a, at), tt)
 
-    -- the view's type and laws, d's fields' values, and what d owns
-    abbrev D : Declared
-    D = T.the-type (namedLft 1 0 tt (κ, tt))
-
-    abbrev L : LL.Laws D
-    L = T′.the-laws (namedLft 1 0 tt (κ, tt))
-
+    -- d's fields' values, and what d owns
     abbrev vd : Values (D .parts)
-    vd = (d .bytes, (d .count, tt))
+    vd = (d .bytes, (d .edition, (d .count, tt)))
 
     abbrev Own : Fml
     Own = B (κ, tt) .own d (mach ∷ [])
 
     -- what the callee is passed
-    abbrev passed : List Val × (List Val × (List Val × Unit {0}))
-    passed = (sliceVal (d .bytes .ptr) (length (d .bytes .now)) ∷ [], (vint w64 (d .count) ∷ [], (vint w64 i ∷ [], tt)))
+    abbrev passed : List Val × (List Val × (List Val × (List Val × Unit {0})))
+    passed = (sliceVal (d .bytes .ptr) (length (d .bytes .now)) ∷ [], (valᵉ (d .edition) ∷ [], (vint w64 (d .count) ∷ [], (vint w64 i ∷ [], tt))))
 
     abbrev to : Finds 𝓤 R P H A .Ghost
-    to = (((κ, tt), (q, tt), tt, (d .bytes, (d .count, (i, tt))), passed), tt)
+    to = (((κ, tt), (q, tt), tt, (d .bytes, (d .edition, (d .count, (i, tt)))), passed), tt)
 
-    asked : ent 𝓤 (onEntry 𝓤 H A (finding R .signature) (κ, tt) (q, tt) (d .bytes, (d .count, (i, tt))) passed) (Finds 𝓤 R P H A .pre to)
-    asked = qed W ((‵ (flft κ q) ⊛ ‵ ftrue) ∷ ‵ (owns (ShrSlice (named 0) κ u8 ∷ usize ∷ usize ∷ []) (d .bytes, (d .count, (i, tt))) passed) ∷ []) ∵ says ! asks $ frame ! $ done !
+    asked : ent 𝓤 (onEntry 𝓤 H A (finding R .signature) (κ, tt) (q, tt) (d .bytes, (d .edition, (d .count, (i, tt)))) passed) (Finds 𝓤 R P H A .pre to)
+    asked = qed W ((‵ (flft κ q) ⊛ ‵ ftrue) ∷ ‵ (owns (ShrSlice (named 0) κ u8 ∷ Ed.the-row ∷ usize ∷ usize ∷ []) (d .bytes, (d .edition, (d .count, (i, tt)))) passed) ∷ []) ∵ says ! asks $ frame ! $ done !
 
     -- what the view owns gives what the callee asks, and is kept
     apart : d .count < 2 ^ 64 → ent 𝓤 (onEntry 𝓤 H A (handing R .signature) (κ, tt) (q, tt) a at) (sep 𝓤 (Finds 𝓤 R P H A .pre to) (sem 𝓤 H A Own))
@@ -130,14 +145,15 @@ module _ {M : Type 1} (𝓤 : URA M) (H : Heap 𝓤) (A : Atoms 𝓤) (W : Given
         qed W ((‵ (flft κ q) ⊛ ‵ ftrue) ∷ ‵ (owns (B (κ, tt) ∷ usize ∷ []) a at) ∷ []) ∵
         move ! (1 ∷ []) $ fsplit ! $ move ! (1 ∷ []) $ drop ! $ use1 W (‵ Own ⊛ ‵ Own) (LL.copy D (T′.the-copy (namedLft 1 0 tt (κ, tt))) 𝓤 H A W .twice d (mach ∷ [])) $ split ! $
         use1 W (given (mach ∷ [] ≡ mach ∷ []) (‵ (all-own (D .parts) L vd))) (own-open 𝓤 H A W D L vd mach) $ learn ! (λ _. fsplit ! $
-        -- [what the bytes own; what the count owns; what the view owns; the token]
+        -- [what the bytes own; what the edition and the count own; what the view owns; the token]
         move ! (1 ∷ []) $ drop ! $ nothing ! $ owned ! usize (Is usize) (uint-makes 𝓤 H A W w64) i _ (refl, i-fits) $ fjoin ! $
-        owned ! usize (Is usize) (uint-makes 𝓤 H A W w64) (d .count) _ (refl, fits) $ fjoin ! $ move ! (1 ∷ 0 ∷ []) $ fjoin ! $
+        owned ! usize (Is usize) (uint-makes 𝓤 H A W w64) (d .count) _ (refl, fits) $ fjoin ! $
+        owned ! Ed.the-row (Is Ed.the-row) (EL.makes Ed.the-type Ed′.the-plain 𝓤 H A) (d .edition) _ (edition-is (d .edition)) $ fjoin ! $ move ! (1 ∷ 0 ∷ []) $ fjoin ! $
         move ! (2 ∷ 0 ∷ []) $ use2 W (raw (Finds 𝓤 R P H A .pre to)) asked $ frame ! $ done !)
 
     -- of the callee's `ensured`, the clause alone: it has no `&mut`, so what is said of last values is dropped
-    said : (r : R .Denot) → ent 𝓤 (ensured 𝓤 H A (finding R) (found 𝓤 R P) (κ, tt) (d .bytes, (d .count, (i, tt))) tt r) (fact 𝓤 (P (now (d .bytes)) i r))
-    said r = exE 𝓤 _ (λ ws. snd∗ 𝓤 (sem 𝓤 H A (lasts (finding R) (κ, tt) (d .bytes, (d .count, (i, tt))) ws)) (fact 𝓤 (P (now (d .bytes)) i r)))
+    said : (r : R .Denot) → ent 𝓤 (ensured 𝓤 H A (finding R) (found 𝓤 R P) (κ, tt) (d .bytes, (d .edition, (d .count, (i, tt)))) tt r) (fact 𝓤 (P (now (d .bytes)) i r))
+    said r = exE 𝓤 _ (λ ws. snd∗ 𝓤 (sem 𝓤 H A (lasts (finding R) (κ, tt) (d .bytes, (d .edition, (d .count, (i, tt)))) ws)) (fact 𝓤 (P (now (d .bytes)) i r)))
 
     exits : (r : R .Denot) (u : Val) → P (now (d .bytes)) i r → ent 𝓤 (⋆ 𝓤 H A (‵ (R .own r (u ∷ [])) ∷ (‵ (flft κ q) ⊛ ‵ ftrue) ∷ ‵ Own ∷ [])) (Post u)
     exits r u e =
@@ -149,19 +165,20 @@ module _ {M : Type 1} (𝓤 : URA M) (H : Heap 𝓤) (A : Atoms 𝓤) (W : Given
       walk : Holds (hasTy (T′.mir (named 0)) mach) × WT mach → ent 𝓤 (onEntry 𝓤 H A (handing R .signature) (κ, tt) (q, tt) a at) (WpFn 𝓤 H C Λ (function callee ty) (mach ∷ vint w64 i ∷ []) Post)
       walk wt =
           qed W (raw (onEntry 𝓤 H A (handing R .signature) (κ, tt) (q, tt) a at) ∷ []) ∵ enter ! C Λ (function callee ty) (mach ∷ vint w64 i ∷ []) _ $
-          alloc1 ! (λ l₀. alloc1 ! (λ l₁. alloc1 ! (λ l₂. alloc1 ! (λ l₃. alloc1 ! (λ l₄. alloc0 ! $ params1 ! $ pass1 ! (init ! 6 refl wt) $ pass1 ! (init ! 4 refl (tt, record { fits = i-fits })) $ pass0 ! $
-          -- [_4; …; _3; …; _2; …; _1; …; room for _0; …; the token and what is passed owns]
-          assigns ! (of-opd ! (load ! (from ! (fld ! refl (stop !))) (look-in ! 6 (sub ! 0 refl (whole !))))) (from ! (stop !)) (init ! 2 refl (tt, wt .1 .0)) $
-          assigns ! (of-opd ! (load ! (from ! (fld ! refl (stop !))) (look-in ! 6 (sub ! 1 refl (whole !))))) (from ! (stop !)) (init ! 0 refl (tt, wt .1 .1 .0)) $
-          move ! (10 ∷ []) $ use1 W (raw (Finds 𝓤 R P H A .pre to) ⊛ ‵ Own) (apart (wt .1 .1 .0 .fits)) $ split ! $
-          calls-at ! fm (Finds 𝓤 R P H A) known to (and-then ! (load ! (from ! (stop !)) (look ! 4 refl)) (and-then ! (load ! (from ! (stop !)) (look ! 2 refl)) (and-then ! (load ! (from ! (stop !)) (look ! 6 refl)) (no-more !)))) (λ u.
-          use1 W (later (some (λ (r : R .Denot). ((‵ (flft κ q) ⊛ ‵ ftrue) ⊛ ‵ (R .own r (u ∷ []))) ⊛ raw (ensured 𝓤 H A (finding R) (found 𝓤 R P) (κ, tt) (d .bytes, (d .count, (i, tt))) tt r)))) (id⊢ 𝓤 _) $ await ! tt $ pick ! (λ r.
+          alloc1 ! (λ l₀. alloc1 ! (λ l₁. alloc1 ! (λ l₂. alloc1 ! (λ l₃. alloc1 ! (λ l₄. alloc1 ! (λ l₅. alloc0 ! $ params1 ! $ pass1 ! (init ! 8 refl wt) $ pass1 ! (init ! 6 refl (tt, record { fits = i-fits })) $ pass0 ! $
+          -- [_5; …; _4; …; _3; …; _2; …; _1; …; room for _0; …; the token and what is passed owns]
+          assigns ! (of-opd ! (load ! (from ! (fld ! refl (stop !))) (look-in ! 8 (sub ! 0 refl (whole !))))) (from ! (stop !)) (init ! 4 refl (tt, wt .1 .0)) $
+          assigns ! (of-opd ! (load ! (from ! (fld ! refl (stop !))) (look-in ! 8 (sub ! 1 refl (whole !))))) (from ! (stop !)) (init ! 2 refl (EL.lawful Ed.the-type Ed′.the-laws 𝓤 H A W tt .typed (d .edition) _ (edition-is (d .edition)) .0)) $
+          assigns ! (of-opd ! (load ! (from ! (fld ! refl (stop !))) (look-in ! 8 (sub ! 2 refl (whole !))))) (from ! (stop !)) (init ! 0 refl (tt, wt .1 .1 .1 .0)) $
+          move ! (12 ∷ []) $ use1 W (raw (Finds 𝓤 R P H A .pre to) ⊛ ‵ Own) (apart (wt .1 .1 .1 .0 .fits)) $ split ! $
+          calls-at ! fm (Finds 𝓤 R P H A) known to (and-then ! (load ! (from ! (stop !)) (look ! 6 refl)) (and-then ! (load ! (from ! (stop !)) (look ! 4 refl)) (and-then ! (load ! (from ! (stop !)) (look ! 2 refl)) (and-then ! (load ! (from ! (stop !)) (look ! 8 refl)) (no-more !))))) (λ u.
+          use1 W (later (some (λ (r : R .Denot). ((‵ (flft κ q) ⊛ ‵ ftrue) ⊛ ‵ (R .own r (u ∷ []))) ⊛ raw (ensured 𝓤 H A (finding R) (found 𝓤 R P) (κ, tt) (d .bytes, (d .edition, (d .count, (i, tt)))) tt r)))) (id⊢ 𝓤 _) $ await ! tt $ pick ! (λ r.
           split ! $ move ! (1 ∷ []) $ use1 W (raw (fact 𝓤 (P (now (d .bytes)) i r))) (said r) $ heard ! (P (now (d .bytes)) i r) (λ e. split ! $ move ! (1 ∷ []) $
-          -- [the result; the token; what the view owns; _4; …; _3; …; _2; …; _1; …; room for _0; …]
+          -- [the result; the token; what the view owns; _5; …; _4; …; _3; …; _2; …; _1; …; room for _0; …]
           peeks ! R (Is R) (shows 𝓤 H A R) r (u ∷ []) (λ is.
-          land ! (from ! (stop !)) (init ! 11 refl (typed r u is)) $
-          returns ! (look ! 11 refl) $ forget ! 3 refl $ forget ! 5 refl $ forget ! 7 refl $ forget ! 9 refl $ forget ! 11 refl $
-          move ! (11 ∷ 12 ∷ []) $ free1 ! $ move ! (9 ∷ 10 ∷ []) $ free1 ! $ move ! (7 ∷ 8 ∷ []) $ free1 ! $ move ! (5 ∷ 6 ∷ []) $ free1 ! $ move ! (3 ∷ 4 ∷ []) $ free1 ! $ free0 ! $ by ! (exits r u e))))))))))
+          land ! (from ! (stop !)) (init ! 13 refl (typed r u is)) $
+          returns ! (look ! 13 refl) $ forget ! 3 refl $ forget ! 5 refl $ forget ! 7 refl $ forget ! 9 refl $ forget ! 11 refl $ forget ! 13 refl $
+          move ! (13 ∷ 14 ∷ []) $ free1 ! $ move ! (11 ∷ 12 ∷ []) $ free1 ! $ move ! (9 ∷ 10 ∷ []) $ free1 ! $ move ! (7 ∷ 8 ∷ []) $ free1 ! $ move ! (5 ∷ 6 ∷ []) $ free1 ! $ move ! (3 ∷ 4 ∷ []) $ free1 ! $ free0 ! $ by ! (exits r u e)))))))))))
 
   walks : (C : Calls 𝓤 H) (Λ : Loops 𝓤 H) → FmC 𝓤 H (W .laws) C → Triple 𝓤 (C callee) (Finds 𝓤 R P H A) → Walks 𝓤 H A (handing R) (stayed R) (WpFn 𝓤 H C Λ (function callee ty)) (handed 𝓤 R P)
   walks C Λ fm known = walked 𝓤 H A (handing R) (stayed R) (handed 𝓤 R P) (WpFn 𝓤 H C Λ (function callee ty))

@@ -1,3 +1,4 @@
+pub mod Viewed
 pub mod Listing
 pub mod Handed
 pub mod Sample

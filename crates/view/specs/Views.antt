@@ -3,14 +3,16 @@ use Prim.Native.Nat.{ℕ}
 use mathlib.Core.Path.{_≡_}
 use mathlib.Core.Bool.{true}
 use mathlib.Core.List.{List}
-use Rattle.layout.specs.Format.{countIn, entryIn, formed}
+use Rattle.layout.specs.declared.Edition.{Edition}
+use Rattle.layout.specs.Format.{editionIn, countIn, entryIn, formed}
 use Rattle.layout.specs.Nodes.{shareIn, heldBy, kindIn}
 use Rattle.view.specs.declared.Entry.{Entry}
 use Rattle.view.specs.declared.Body.{Body}
 
--- The bytes s are a plan's, and n is how many entries they have.
-pub record Views (s : List ℕ) (n : ℕ) : Type 0 where
+-- The bytes s are a plan's, e is their edition, and n is how many entries they have.
+pub record Views (s : List ℕ) (e : Edition) (n : ℕ) : Type 0 where
   pub right : formed s ≡ true
+  pub edition : e ≡ editionIn s
   pub counted : n ≡ countIn s
 
 -- e is what stands in entry i, and b what stands in its body.

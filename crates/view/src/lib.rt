@@ -1,19 +1,20 @@
-// The view of a plan. Document 01, "Same tree, and the plan file": a plan has its contents first, then the bodies.
-// Few functions are over the view, and each leaves the work to `parts`, which takes plain bytes. `listed_at` and `body_of`
-// take plain bytes too, and serve all other callers.
+// The view of a plan. Document 01, "Same tree, and the plan file", and document 02, (f): a plan of either edition has its
+// contents first, then the bodies. Few functions are over the view, and each leaves the work to `parts`, which takes plain
+// bytes. `listed_at` and `body_of` take plain bytes too, and serve all other callers.
 ghost use mathlib.Core.Path.{_≡_};
 ghost use mathlib.Core.Bool.{true};
 ghost use Prim.Native.Nat.{_<_};
-ghost use Rattle.layout.specs.Format.{countIn, formed};
+ghost use Rattle.layout.specs.Format.{editionIn, countIn, formed};
 ghost use Rattle.view.specs.Views.{Views, EntryAt, BodyAt};
 ghost use Rattle.view.specs.Answer.{bodyAnswer, toldFound};
 
 mod parts;
 
+use layout::Edition;
 use layout::Sort;
 use layout::forms;
 
-// What an entry says: a node and its parent. Where its body stands follows from the count of entries.
+// What an entry says: a node and its parent. Where its body stands follows from the edition and the count of entries.
 pub struct Entry {
     pub number: u64,
     pub parent: u64,
@@ -38,9 +39,10 @@ pub enum Found {
     NotAPlan,
 }
 
-// A plan's bytes, and how many entries they have.
+// A plan's bytes, their edition, and how many entries they have.
 pub struct View<'a> {
     pub bytes: &'a [u8],
+    pub edition: Edition,
     pub count: usize,
 }
 
@@ -48,28 +50,30 @@ impl<'a> View<'a> {
     // The view of a plan's bytes.
     pub fn of(bytes: &'a [u8]) -> View<'a>
         requires { ⌜ formed (now bytes) ≡ true ⌝ }
-        ensures { λ r. ⌜ (r .bytes ≡ bytes .entry) × (r .count ≡ countIn (now (bytes .entry))) ⌝ }
+        ensures { λ r. ⌜ (r .bytes ≡ bytes .entry) × (r .edition ≡ editionIn (now (bytes .entry))) × (r .count ≡ countIn (now (bytes .entry))) ⌝ }
     {
+        let edition = forms::edition_in(bytes);
         View {
             bytes,
-            count: forms::count_in(bytes),
+            edition,
+            count: forms::count_in(bytes, edition),
         }
     }
 
     // Entry i.
     pub fn entry(self, i: usize) -> Entry
-        requires { ⌜ Views (now (self .bytes)) (self .count) × (i < self .count) ⌝ }
+        requires { ⌜ Views (now (self .bytes)) (self .edition) (self .count) × (i < self .count) ⌝ }
         ensures { λ r. ⌜ EntryAt (now (self .entry .bytes)) i r ⌝ }
     {
-        parts::entry_in(self.bytes, self.count, i)
+        parts::entry_in(self.bytes, self.edition, self.count, i)
     }
 
     // The body of entry i.
     pub fn body(self, i: usize) -> Body
-        requires { ⌜ Views (now (self .bytes)) (self .count) × (i < self .count) ⌝ }
+        requires { ⌜ Views (now (self .bytes)) (self .edition) (self .count) × (i < self .count) ⌝ }
         ensures { λ r. ⌜ BodyAt (now (self .entry .bytes)) i r ⌝ }
     {
-        parts::body_in(self.bytes, self.count, i)
+        parts::body_in(self.bytes, self.edition, self.count, i)
     }
 }
 
@@ -91,7 +95,7 @@ pub fn body_of(bytes: &[u8], number: u64) -> Found
     if !forms::formed(bytes) {
         return Found::NotAPlan;
     }
-    let n = forms::count_in(bytes);
+    let n = forms::count_in(bytes, forms::edition_in(bytes));
     let mut i: usize = 0;
     while i < n {
         let here = listed_at(bytes, i);

@@ -3,26 +3,27 @@ ghost use Prim.Native.Nat.{_<_};
 ghost use Rattle.view.specs.Views.{Views, EntryAt, BodyAt};
 use crate::Body;
 use crate::Entry;
+use layout::Edition;
 use layout::forms;
 
-// Entry i of a plan of n entries.
-pub fn entry_in(s: &[u8], n: usize, i: usize) -> Entry
-    requires { ⌜ Views (now s) n × (i < n) ⌝ }
+// Entry i of a plan of n entries, of the given edition.
+pub fn entry_in(s: &[u8], edition: Edition, n: usize, i: usize) -> Entry
+    requires { ⌜ Views (now s) edition n × (i < n) ⌝ }
     ensures { λ r. ⌜ EntryAt (now (s .entry)) i r ⌝ }
 {
-    let listed = forms::node_at(s, n, i);
+    let listed = forms::node_at(s, edition, n, i);
     Entry {
         number: listed.number,
         parent: listed.parent,
     }
 }
 
-// Body i of a plan of n entries.
-pub fn body_in(s: &[u8], n: usize, i: usize) -> Body
-    requires { ⌜ Views (now s) n × (i < n) ⌝ }
+// Body i of a plan of n entries, of the given edition.
+pub fn body_in(s: &[u8], edition: Edition, n: usize, i: usize) -> Body
+    requires { ⌜ Views (now s) edition n × (i < n) ⌝ }
     ensures { λ r. ⌜ BodyAt (now (s .entry)) i r ⌝ }
 {
-    let node = forms::node_at(s, n, i);
+    let node = forms::node_at(s, edition, n, i);
     let sort = node.sort;
     let depth = node.depth;
     Body { sort, depth }

@@ -9,9 +9,10 @@ use lib.IntN.{ℤ}
 use Rattle.table.specs.Limits.{tableLength}
 use Rattle.table.specs.Tree.{treeOf}
 use Rattle.table.proofs.Facts.{Limits, facts}
+use Rattle.layout.specs.declared.Edition.{Edition}
 use Rattle.layout.specs.declared.Node.{Node}
 use Rattle.layout.specs.Bytes.{bytes2, bytes4}
-use Rattle.layout.specs.Format.{Entry, lastCount, entryAt, bodyAt, entryBytes, bodyBytes}
+use Rattle.layout.specs.Format.{Entry, lastCount, entryAt, bodyAt, entryBytes, shareBytes, bodyBytes}
 use Rattle.layout.specs.Nodes.{shareIn, heldBy, kindIn, entryBy}
 use Rattle.layout.specs.Written.{written}
 use Rattle.planlaws.specs.Writing.{entryOf, planOf}
@@ -50,18 +51,19 @@ module _ (t : List ℤ) (xs : List ℕ) (n : ℕ) (h : Listed t xs n) where
   listed-count = h .count
 
   -- A node that stands for entry i has the bytes of the entry, and of the body.
-  node-entry : (i : ℕ) (node : Node) → i < n → entryBy node ≡ entryOf (treeOf t) (getD xs i 0) → node .number ∷ node .parent ∷ bytes2 (bodyAt n i) ≡ entryBytes (planOf t) i
-  unfolding entryBy entryBytes
-  node-entry i node hi e =
-      ap (λ (x : Entry). x .node ∷ x .parent ∷ bytes2 (bodyAt n i)) (e ∙ listed-entry i hi)
-      ∙ ap (λ (m : ℕ). planOf t .entry i .node ∷ planOf t .entry i .parent ∷ bytes2 (bodyAt m i)) listed-count
+  module _ (e : Edition) where
+    node-entry : (i : ℕ) (node : Node) → i < n → entryBy node ≡ entryOf (treeOf t) (getD xs i 0) → node .number ∷ node .parent ∷ bytes2 (bodyAt e n i) ≡ entryBytes e (planOf t) i
+    unfolding entryBy entryBytes
+    node-entry i node hi is =
+        ap (λ (x : Entry). x .node ∷ x .parent ∷ bytes2 (bodyAt e n i)) (is ∙ listed-entry i hi)
+        ∙ ap (λ (m : ℕ). planOf t .entry i .node ∷ planOf t .entry i .parent ∷ bytes2 (bodyAt e m i)) listed-count
 
-  node-body : (i : ℕ) (node : Node) → i < n → entryBy node ≡ entryOf (treeOf t) (getD xs i 0) → kindIn (node .sort) ∷ bytes2 (shareIn (heldBy (node .sort))) ++ bytes4 (node .depth) ≡ bodyBytes (planOf t) i
-  unfolding entryBy bodyBytes
-  node-body i node hi e = ap (λ (x : Entry). x .kind ∷ bytes2 (x .share) ++ bytes4 (x .depth)) (e ∙ listed-entry i hi)
+    node-body : (i : ℕ) (node : Node) → i < n → entryBy node ≡ entryOf (treeOf t) (getD xs i 0) → kindIn (node .sort) ∷ shareBytes e (shareIn (heldBy (node .sort))) ++ bytes4 (node .depth) ≡ bodyBytes e (planOf t) i
+    unfolding entryBy bodyBytes
+    node-body i node hi is = ap (λ (x : Entry). x .kind ∷ shareBytes e (x .share) ++ bytes4 (x .depth)) (is ∙ listed-entry i hi)
 
-  pub entry-written : (b r : List ℕ) (i a offset : ℕ) (node : Node) → i < n → entryBy node ≡ entryOf (treeOf t) (getD xs i 0) → offset ≡ bodyAt n i → a ≡ entryAt i → r ≡ written b a (node .number ∷ node .parent ∷ bytes2 offset) → r ≡ written b (entryAt i) (entryBytes (planOf t) i)
-  entry-written b r i a offset node hi e at here h = rw (at, here, node-entry i node hi e) at h
+    pub entry-written : (b r : List ℕ) (i a offset : ℕ) (node : Node) → i < n → entryBy node ≡ entryOf (treeOf t) (getD xs i 0) → offset ≡ bodyAt e n i → a ≡ entryAt e i → r ≡ written b a (node .number ∷ node .parent ∷ bytes2 offset) → r ≡ written b (entryAt e i) (entryBytes e (planOf t) i)
+    entry-written b r i a offset node hi is at here h = rw (at, here, node-entry i node hi is) at h
 
-  pub body-written : (b r : List ℕ) (i a kind share : ℕ) (node : Node) → i < n → entryBy node ≡ entryOf (treeOf t) (getD xs i 0) → kind ≡ kindIn (node .sort) → share ≡ shareIn (heldBy (node .sort)) → a ≡ bodyAt n i → r ≡ written b a (kind ∷ bytes2 share ++ bytes4 (node .depth)) → r ≡ written b (bodyAt n i) (bodyBytes (planOf t) i)
-  body-written b r i a kind share node hi e k s here h = rw (k, s, here, node-body i node hi e) at h
+    pub body-written : (b r : List ℕ) (i a kind share : ℕ) (node : Node) → i < n → entryBy node ≡ entryOf (treeOf t) (getD xs i 0) → kind ≡ kindIn (node .sort) → share ≡ shareIn (heldBy (node .sort)) → a ≡ bodyAt e n i → r ≡ written b a (kind ∷ shareBytes e share ++ bytes4 (node .depth)) → r ≡ written b (bodyAt e n i) (bodyBytes e (planOf t) i)
+    body-written b r i a kind share node hi is k s here h = rw (k, s, here, node-body i node hi is) at h

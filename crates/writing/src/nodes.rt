@@ -1,14 +1,15 @@
 // The nodes of a table in the order of its plan: by level, then by number; and what the plan says of a node.
 ghost use mathlib.Core.Path.{_≡_};
-ghost use mathlib.Core.Bool.{cond};
+ghost use mathlib.Core.Bool.{cond, not};
 ghost use Prim.Native.Nat.{_≤_, _<_};
 ghost use lib.ListN.{length, take};
 ghost use Rattle.table.specs.Limits.{tableLength, nodes};
-ghost use Rattle.table.specs.Tree.{treeOf};
+ghost use Rattle.table.specs.Tree.{treeOf, there, isStated, testIf};
 ghost use Rattle.layout.specs.Kinds.{kindOf};
-ghost use Rattle.layout.specs.Nodes.{shareIn, weightedIn, heldBy, kindIn, entryBy};
-ghost use Rattle.planlaws.specs.Writing.{stands, order, entryOf};
+ghost use Rattle.layout.specs.Nodes.{shareIn, shareKindIn, heldBy, kindIn, entryBy};
+ghost use Rattle.planlaws.specs.Writing.{stands, order, entryOf, anyStated, unwritable};
 ghost use Rattle.writing.specs.Listed.{Standing};
+use layout::Edition;
 use layout::Node;
 use layout::Share;
 use layout::Sort;
@@ -59,18 +60,57 @@ pub fn list_nodes(table: &[i64]) -> Listing
     Listing { nodes, count }
 }
 
-// The share of node k, fixed or weighted.
+// Whether node k, where it is there, is not stated.
+fn unstated(table: &[i64], k: usize) -> bool
+    requires { ⌜ (length (now table) ≡ tableLength) × (k < nodes) ⌝ }
+    ensures { λ r. ⌜ r ≡ testIf (there (treeOf (now (table .entry))) k) (λ j. not (isStated (treeOf (now (table .entry))) j)) k ⌝ }
+{
+    if Table::natural(table, k, Table::SORT) == Table::UNUSED {
+        return true;
+    }
+    Table::natural(table, k, Table::KIND) != Table::STATED
+}
+
+// Whether a stated node is in the tree.
+fn any_stated(table: &[i64]) -> bool
+    requires { ⌜ length (now table) ≡ tableLength ⌝ }
+    ensures { λ r. ⌜ r ≡ anyStated (treeOf (now (table .entry))) ⌝ }
+{
+    let mut none = true;
+    let mut k: usize = 0;
+    while k < Table::NODES {
+        none = none & unstated(table, k);
+        k += 1;
+    }
+    !none
+}
+
+// Whether an edition has no kind for a node of the tree.
+pub fn unwritable(table: &[i64], edition: Edition) -> bool
+    requires { ⌜ length (now table) ≡ tableLength ⌝ }
+    ensures { λ r. ⌜ r ≡ unwritable edition (treeOf (now (table .entry))) ⌝ }
+{
+    match edition {
+        Edition::First => any_stated(table),
+        Edition::Second => false,
+    }
+}
+
+// The share of node k: fixed, stated or weighted.
 fn share_at(table: &[i64], k: usize) -> Share
     requires { ⌜ Standing (now table) k ⌝ }
     ensures share { λ r. ⌜ shareIn r ≡ treeOf (now (table .entry)) .share k ⌝ }
-    ensures kind { λ r. ⌜ weightedIn r ≡ treeOf (now (table .entry)) .kind k ⌝ }
+    ensures kind { λ r. ⌜ shareKindIn r ≡ treeOf (now (table .entry)) .kind k ⌝ }
 {
     let share = Table::natural(table, k, Table::SHARE);
-    if Table::natural(table, k, Table::KIND) == Table::FIXED {
-        Share::Fixed(share)
-    } else {
-        Share::Weighted(share)
+    let kind = Table::natural(table, k, Table::KIND);
+    if kind == Table::FIXED {
+        return Share::Fixed(share);
     }
+    if kind == Table::STATED {
+        return Share::Stated(share);
+    }
+    Share::Weighted(share)
 }
 
 // The sort of node k, class or client, with its share.

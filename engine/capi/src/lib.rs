@@ -114,7 +114,7 @@ pub unsafe extern "C" fn hds_same(
     number(Engine.same(lent(first, first_length), lent(second, second_length)))
 }
 
-/// Plan read.
+/// Plan read: answers the edition met, 1 or 2.
 #[no_mangle]
 pub unsafe extern "C" fn hds_plan_read(
     table: *mut i64,
@@ -125,15 +125,17 @@ pub unsafe extern "C" fn hds_plan_read(
     number(Engine.plan_read(lent(plan, plan_length), lent_mut(table, table_length)))
 }
 
-/// Plan write: answers the plan's length.
+/// Plan write in edition 1 or 2: answers the plan's length.
 #[no_mangle]
 pub unsafe extern "C" fn hds_plan_write(
     table: *const i64,
     table_length: usize,
+    edition: i64,
     buffer: *mut u8,
     buffer_length: usize,
 ) -> i64 {
-    number(Engine.plan_write(lent(table, table_length), lent_mut(buffer, buffer_length)))
+    let buffer = lent_mut(buffer, buffer_length);
+    number(Engine.plan_write(lent(table, table_length), edition, buffer))
 }
 
 /// Plan check: answers 0 or the refusal's number, as it is.

@@ -22,7 +22,13 @@ extern "C" {
     fn hds_look(table: *const i64, len: usize, node: i64, seen: *mut Seen) -> i64;
     fn hds_same(first: *const i64, first_len: usize, second: *const i64, second_len: usize) -> i64;
     fn hds_plan_read(table: *mut i64, len: usize, plan: *const u8, plan_len: usize) -> i64;
-    fn hds_plan_write(table: *const i64, len: usize, buffer: *mut u8, buffer_len: usize) -> i64;
+    fn hds_plan_write(
+        table: *const i64,
+        len: usize,
+        edition: i64,
+        buffer: *mut u8,
+        buffer_len: usize,
+    ) -> i64;
     fn hds_plan_check(plan: *const u8, plan_len: usize) -> u32;
 }
 
@@ -96,12 +102,14 @@ impl Controller for Cabinet {
 
     fn plan_read(&mut self, plan: &[u8], table: &mut [i64]) -> Answer<i64> {
         let (numbers, len) = (table.as_mut_ptr(), table.len());
-        answer(unsafe { hds_plan_read(numbers, len, plan.as_ptr(), plan.len()) })
+        let told = answer(unsafe { hds_plan_read(numbers, len, plan.as_ptr(), plan.len()) });
+        assert!(!matches!(told, Ok(..=0 | 3..)), "an accepted plan read answers 1 or 2");
+        told
     }
 
-    fn plan_write(&mut self, table: &[i64], buffer: &mut [u8]) -> Answer<i64> {
+    fn plan_write(&mut self, table: &[i64], edition: i64, buffer: &mut [u8]) -> Answer<i64> {
         let (numbers, len) = (table.as_ptr(), table.len());
-        answer(unsafe { hds_plan_write(numbers, len, buffer.as_mut_ptr(), buffer.len()) })
+        answer(unsafe { hds_plan_write(numbers, len, edition, buffer.as_mut_ptr(), buffer.len()) })
     }
 
     fn plan_check(&mut self, plan: &[u8]) -> i64 {

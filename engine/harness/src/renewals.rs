@@ -1,9 +1,10 @@
-//! Scenes of document 02's request (e): changes of the tree under every class of a deep one, and tables whose rates alone
-//! are wrong, which every call refuses. Where another rate is right by chance the calls are accepted.
+//! Scenes of document 02's request (e): changes of the tree under every class of a deep one, without stated nodes and with
+//! them, and tables whose rates alone are wrong, which every call refuses. Where another rate is right by chance the calls
+//! are accepted.
 
 use hds_engine::plan::Plan;
 use hds_engine::rates::{renew_all, renew_below};
-use hds_engine::steps::Step;
+use hds_engine::steps::{Call, Step};
 use hds_engine::table::*;
 
 use crate::scenes::*;
@@ -11,8 +12,14 @@ use crate::trees;
 
 /// Changes of the tree, at some disk rates.
 pub(crate) fn changes() -> Vec<Scene> {
-    let scene = |rate| (format!("renewals, changes under every class at {rate}"), changes_at(rate));
-    [7, 1000, 999_983, MAX_RATE].map(scene).to_vec()
+    let mut scenes = Vec::new();
+    for rate in [7, 1000, 999_983, MAX_RATE] {
+        for (name, tree) in [("a deep tree", trees::deep(rate)), ("desks", trees::desks(rate))] {
+            let name = format!("renewals, changes under every class of {name} at {rate}");
+            scenes.push((name, changes_of(&tree)));
+        }
+    }
+    scenes
 }
 
 /// Tables whose rates alone are wrong.
@@ -38,6 +45,10 @@ fn shapes() -> Vec<(String, Vec<i64>)> {
     for rate in [1, 7, 1000, 999_983, MAX_RATE] {
         tables.push((format!("a deep tree at {rate}"), trees::deep(rate)));
     }
+    for rate in [7, 1000, 999_983, MAX_RATE] {
+        tables.push((format!("desks at {rate}"), trees::desks(rate)));
+        tables.push((format!("all stated at {rate}"), trees::all_stated(rate)));
+    }
     for rate in [1, 62, 1000, MAX_RATE] {
         tables.push((format!("62 weights of 10,000 in a class at {rate}"), trees::heavy(rate, 62)));
         tables.push((format!("63 weights of 10,000 at {rate}"), trees::heavy(rate, 63)));
@@ -46,28 +57,38 @@ fn shapes() -> Vec<(String, Vec<i64>)> {
     tables
 }
 
-/// Reads a table's plan, which makes the table from any other.
-fn made(table: &[i64]) -> Step {
-    plan_read(&Plan::of_table(table).encode())
+/// An open and joins, which make the table from any other.
+pub(crate) fn made(table: &[i64]) -> Vec<Step> {
+    let Plan { rate, depth, nodes } = Plan::of_table(table);
+    let joins = nodes.into_iter().map(|new| Step::Call(Call::Join(new)));
+    std::iter::once(open(rate, depth)).chain(joins).collect()
 }
 
 /// Looks at every node of the table and at the nodes that the scenes join.
-fn looks_at(table: &[i64]) -> Vec<Step> {
+pub(crate) fn looks_at(table: &[i64]) -> Vec<Step> {
     used_nodes(table).chain([61, 62, 63]).map(|node| look(node as i64)).collect()
 }
 
-/// Under every class: joins of both sorts and kinds, every child with other shares of both kinds, and every child that may
-/// leave, which comes back. After each change all nodes are looked at.
-fn changes_at(rate: i64) -> Vec<Step> {
-    let table = trees::deep(rate);
-    let looks = looks_at(&table);
-    let mut steps = vec![made(&table), tick(0), tick(0)];
+/// Under every class: joins of both sorts and all kinds, every child with other shares of all kinds, and every child that
+/// may leave, which comes back. After each change all nodes are looked at.
+fn changes_of(table: &[i64]) -> Vec<Step> {
+    let rate = get(table, ROOT, RATE);
+    let stated = shares_under(table, ROOT, STATED) as i64;
+    let looks = looks_at(table);
+    let mut steps = [made(table), vec![tick(0), tick(0)]].concat();
     let mut change = |step: Step| {
         steps.push(step);
         steps.extend(looks.iter().cloned());
     };
-    for class in classes(&table) {
-        for (kind, share) in [(WEIGHTED, 7), (FIXED, 1), (FIXED, 2000), (WEIGHTED, MAX_SHARE)] {
+    for class in classes(table) {
+        for (kind, share) in [
+            (WEIGHTED, 7),
+            (FIXED, 1),
+            (FIXED, 2000),
+            (WEIGHTED, MAX_SHARE),
+            (STATED, 1),
+            (STATED, (rate - stated).max(1)),
+        ] {
             change(join(62, class as i64, CLASS, kind, share, 50));
             change(client(61, 62, kind, share, 10));
             change(client(63, class as i64, kind, share, 10));
@@ -75,13 +96,19 @@ fn changes_at(rate: i64) -> Vec<Step> {
                 change(leave(node));
             }
         }
-        for child in children(&table, class) {
+        for child in children(table, class) {
             let [sort, kind, share, depth] =
-                [SORT, KIND, SHARE, DEPTH].map(|place| get(&table, child, place));
+                [SORT, KIND, SHARE, DEPTH].map(|place| get(table, child, place));
             let child = child as i64;
-            for (kind, share) in
-                [(WEIGHTED, 1), (FIXED, 1), (WEIGHTED, 9999), (FIXED, 1234), (kind, share)]
-            {
+            for (kind, share) in [
+                (WEIGHTED, 1),
+                (FIXED, 1),
+                (STATED, 1),
+                (WEIGHTED, 9999),
+                (STATED, (rate / 7).max(1)),
+                (FIXED, 1234),
+                (kind, share),
+            ] {
                 change(change_share(child, kind, share));
             }
             change(leave(child));
@@ -102,7 +129,7 @@ type Rates = Vec<(usize, i64)>;
 fn damaged(table: &[i64], wrong: Vec<Rates>, most: usize) -> Vec<Step> {
     let calls = calls_on(table);
     let mut turns = calls.iter().cycle();
-    let mut steps = vec![made(table), Step::Keep];
+    let mut steps = [made(table), vec![Step::Keep]].concat();
     for rates in wrong {
         let write = |(node, rate)| poke(node, RATE, rate);
         let writes: Vec<Step> = rates.into_iter().map(write).collect();
@@ -114,7 +141,7 @@ fn damaged(table: &[i64], wrong: Vec<Rates>, most: usize) -> Vec<Step> {
 }
 
 /// Every call that a table out of order makes refuse, with arguments that the sound table accepts where it has room.
-fn calls_on(table: &[i64]) -> Vec<Step> {
+pub(crate) fn calls_on(table: &[i64]) -> Vec<Step> {
     let (some_client, class) = (trees::last_client(table), trees::last_class(table));
     vec![
         client(61, class, WEIGHTED, 1, 1),
@@ -126,8 +153,10 @@ fn calls_on(table: &[i64]) -> Vec<Step> {
         look(0),
         same(false),
         same(true),
-        plan_write(9 + 11 * 63),
+        plan_write(1, 1000),
+        plan_write(2, 1000),
         client(61, 0, FIXED, 1, 1),
+        client(61, 0, STATED, 1, 1),
     ]
 }
 
@@ -154,7 +183,7 @@ fn wrong_values(table: &[i64], node: usize) -> Vec<i64> {
     values.push(get(table, class, RATE));
     let others = children(table, class).filter(|&child| child != node);
     values.extend(others.take(2).map(|child| get(table, child, RATE)));
-    values.extend(RULES.map(|(_, rule)| rule(&Class::of(table, class), table, node)));
+    values.extend(by_rules(&Class::of(table, class), table, node));
     values.retain(|&value| value != rate);
     values.sort_unstable();
     values.dedup();
@@ -198,12 +227,12 @@ fn other_disks(table: &[i64]) -> Vec<Rates> {
 /// All rates by another rule, from the root's own.
 fn other_rules(table: &[i64]) -> Vec<Rates> {
     let mut wrong = Vec::new();
-    for (_, rule) in RULES {
+    for rule in 0..RULES.len() + STATED_RULES.len() {
         let mut changed = table.to_vec();
         for level in 1..=MAX_CLASS_LEVEL + 1 {
             for node in (0..NODES).filter(|&node| get(table, node, LEVEL) == level) {
                 let class = Class::of(&changed, parent(table, node).unwrap_or(ROOT));
-                changed[at(node, RATE)] = rule(&class, table, node);
+                changed[at(node, RATE)] = by_rules(&class, table, node)[rule];
             }
         }
         wrong.push(other_rates(table, &changed));
@@ -219,9 +248,11 @@ fn other_rates(table: &[i64], changed: &[i64]) -> Rates {
         .collect()
 }
 
-/// What a class has to divide, its children's shares, and what the fixed ones get.
+/// A class's rate, what of it fixed shares and weights divide, its children's shares, and what the fixed ones get.
 struct Class {
+    whole: i64,
     rate: i64,
+    stated: i64,
     fixed: i64,
     weights: i64,
     fixed_rates: i64,
@@ -229,24 +260,82 @@ struct Class {
 
 impl Class {
     fn of(table: &[i64], class: usize) -> Class {
-        let rate = get(table, class, RATE);
-        let sum = |part: &dyn Fn(usize) -> i64| children(table, class).map(part).sum();
-        Class {
-            rate,
-            fixed: sum(&|child| share_of_kind(table, child, FIXED)),
-            weights: sum(&|child| share_of_kind(table, child, WEIGHTED)),
-            fixed_rates: sum(&|child| rate * share_of_kind(table, child, FIXED) / MAX_SHARE),
-        }
+        let whole = get(table, class, RATE);
+        let [fixed, weights, stated] = KINDS.map(|kind| shares_under(table, class, kind) as i64);
+        let rate = whole - stated;
+        let fixed_rates = children(table, class)
+            .map(|child| rate * share_of_kind(table, child, FIXED) / MAX_SHARE)
+            .sum();
+        Class { whole, rate, stated, fixed, weights, fixed_rates }
     }
 
     /// What the fixed shares leave.
     fn left(&self) -> i64 {
         self.rate * (MAX_SHARE - self.fixed) / MAX_SHARE
     }
+
+    /// What the fixed shares leave of the class's whole rate.
+    fn left_of_whole(&self) -> i64 {
+        self.whole * (MAX_SHARE - self.fixed) / MAX_SHARE
+    }
 }
 
 /// The rate of a node by a rule, given its class. The root, which has none, is taken for a child.
 type Rule = fn(&Class, &[i64], usize) -> i64;
+
+/// The rate of a node by each of the rules. Those that are not about stated nodes leave these their shares.
+fn by_rules(class: &Class, table: &[i64], node: usize) -> Vec<i64> {
+    let is_stated = get(table, node, KIND) == STATED;
+    let by_rule = |(_, rule): (&str, Rule)| match is_stated {
+        true => get(table, node, SHARE),
+        false => rule(class, table, node),
+    };
+    let by_stated_rule = |(_, rule): (&str, Rule)| rule(class, table, node);
+    RULES.into_iter().map(by_rule).chain(STATED_RULES.into_iter().map(by_stated_rule)).collect()
+}
+
+/// Rules for stated nodes and those beside them.
+const STATED_RULES: [(&str, Rule); 7] = [
+    ("nothing taken off", |class, table, node| match get(table, node, KIND) {
+        STATED => get(table, node, SHARE),
+        FIXED => down(class.whole * get(table, node, SHARE), MAX_SHARE),
+        _ => down(class.left_of_whole() * get(table, node, SHARE), class.weights),
+    }),
+    ("taken off what the fixed shares leave", |class, table, node| match get(table, node, KIND) {
+        STATED => get(table, node, SHARE),
+        FIXED => down(class.whole * get(table, node, SHARE), MAX_SHARE),
+        _ => {
+            let left = (class.left_of_whole() - class.stated).max(0);
+            down(left * get(table, node, SHARE), class.weights)
+        }
+    }),
+    ("fixed shares of the whole", |class, table, node| match get(table, node, KIND) {
+        STATED => get(table, node, SHARE),
+        FIXED => down(class.whole * get(table, node, SHARE), MAX_SHARE),
+        _ => down(class.left() * get(table, node, SHARE), class.weights),
+    }),
+    ("weights of the whole", |class, table, node| match get(table, node, KIND) {
+        STATED => get(table, node, SHARE),
+        FIXED => down(class.rate * get(table, node, SHARE), MAX_SHARE),
+        _ => down(class.left_of_whole() * get(table, node, SHARE), class.weights),
+    }),
+    ("stated as fixed", |class, table, node| match get(table, node, KIND) {
+        STATED | FIXED => down(class.whole * get(table, node, SHARE), MAX_SHARE),
+        _ => down(class.left_of_whole() * get(table, node, SHARE), class.weights),
+    }),
+    ("stated as weights", |class, table, node| match get(table, node, KIND) {
+        FIXED => down(class.whole * get(table, node, SHARE), MAX_SHARE),
+        _ => {
+            let weights = class.weights + class.stated;
+            down(class.left_of_whole() * get(table, node, SHARE), weights)
+        }
+    }),
+    ("stated nodes empty", |class, table, node| match get(table, node, KIND) {
+        STATED => 0,
+        FIXED => down(class.rate * get(table, node, SHARE), MAX_SHARE),
+        _ => down(class.left() * get(table, node, SHARE), class.weights),
+    }),
+];
 
 /// Rules beside that of the section on rates. Most give the right rate to some nodes.
 const RULES: [(&str, Rule); 8] = [

@@ -1,18 +1,18 @@
 //! Lists of steps with known numbers: the edges of document 01 with the costs of document 02's request (a), every end of
 //! the ranges of cost, the grains nobody gets before and after every change, what step 4 picks, every call at wrong
-//! lengths and at every limit, a plan cut short, lengthened and changed byte by byte, a table damaged in every clause
-//! of "in order", and the scenes of `renewals`. Each begins with two zeroed tables.
+//! lengths and at every limit, plans cut short, lengthened and changed byte by byte, a table damaged in every clause
+//! of "in order", and the scenes of `renewals`, `stated` and `editions`. Each begins with two zeroed tables.
 
 use hds_engine::cost::{cost, largest_size, RANGE_ENDS};
 use hds_engine::damage;
 use hds_engine::order::CLAUSES;
-use hds_engine::plan::Plan;
+use hds_engine::plan::{Edition, Plan};
 use hds_engine::random::{run, Profile, Rng};
 use hds_engine::steps::{Call, Reply, Step, World};
 use hds_engine::table::*;
 use hds_engine::{Engine, NewNode};
 
-use crate::{renewals, trees};
+use crate::{editions, renewals, stated, trees};
 
 /// A name and its steps.
 pub type Scene = (String, Vec<Step>);
@@ -33,6 +33,8 @@ pub fn all() -> Vec<Scene> {
     scenes.extend(damaged());
     scenes.extend(changes());
     scenes.extend(renewals::wrong_rates());
+    scenes.extend(stated());
+    scenes.extend(editions());
     scenes
 }
 
@@ -41,7 +43,17 @@ pub fn changes() -> Vec<Scene> {
     renewals::changes()
 }
 
-fn open(rate: i64, depth: i64) -> Step {
+/// The scenes of stated rates.
+pub fn stated() -> Vec<Scene> {
+    stated::all()
+}
+
+/// The scenes of the editions of plans.
+pub fn editions() -> Vec<Scene> {
+    editions::all()
+}
+
+pub(crate) fn open(rate: i64, depth: i64) -> Step {
     Step::Call(Call::Open { rate, depth })
 }
 
@@ -53,7 +65,7 @@ pub(crate) fn client(node: i64, parent: i64, kind: i64, share: i64, depth: i64) 
     join(node, parent, CLIENT, kind, share, depth)
 }
 
-fn class(node: i64, parent: i64, kind: i64, share: i64, depth: i64) -> Step {
+pub(crate) fn class(node: i64, parent: i64, kind: i64, share: i64, depth: i64) -> Step {
     join(node, parent, CLASS, kind, share, depth)
 }
 
@@ -85,7 +97,7 @@ pub(crate) fn same(swapped: bool) -> Step {
     Step::Call(Call::Same { swapped })
 }
 
-fn plan_check(plan: &[u8]) -> Step {
+pub(crate) fn plan_check(plan: &[u8]) -> Step {
     Step::Call(Call::PlanCheck { plan: plan.to_vec() })
 }
 
@@ -93,8 +105,8 @@ pub(crate) fn plan_read(plan: &[u8]) -> Step {
     Step::Call(Call::PlanRead { plan: plan.to_vec() })
 }
 
-pub(crate) fn plan_write(buffer_len: usize) -> Step {
-    Step::Call(Call::PlanWrite { buffer_len })
+pub(crate) fn plan_write(edition: i64, buffer_len: usize) -> Step {
+    Step::Call(Call::PlanWrite { edition, buffer_len })
 }
 
 pub(crate) fn poke(node: usize, place: usize, value: i64) -> Step {
@@ -517,7 +529,7 @@ fn lost_grains() -> Vec<Scene> {
         (
             "63 nodes on all levels",
             [
-                vec![plan_read(&Plan::of_table(&trees::large(1_000_000)).encode())],
+                vec![plan_read(&Plan::of_table(&trees::large(1_000_000)).encode(Edition::First))],
                 [1, 2, 3, 4].map(|node| change_share(node, FIXED, 77)).to_vec(),
                 [1, 2, 3, 4].map(|node| change_share(node, WEIGHTED, 77)).to_vec(),
                 [1, 7, 999_983, MAX_RATE].map(change_rate).to_vec(),
@@ -828,7 +840,7 @@ fn supplies() -> Vec<Scene> {
     let classes: Vec<usize> = hds_engine::table::classes(&tree).collect();
     let mut scenes = Vec::new();
     for tokens in [8, 30, 200, 1000, 10_000] {
-        let mut steps = vec![plan_read(&Plan::of_table(&tree).encode())];
+        let mut steps = vec![plan_read(&Plan::of_table(&tree).encode(Edition::Second))];
         steps.extend(classes.iter().map(|&class| poke(class, BALANCE, 1000 * tokens)));
         for turn in 0..QUEUE_LEN as i64 {
             for &client in &clients {
@@ -871,7 +883,9 @@ fn every_call() -> Vec<Step> {
         leave(9),
         same(false),
         same(true),
-        plan_write(100),
+        plan_write(1, 100),
+        plan_write(2, 100),
+        plan_write(3, 100),
         plan_check(&ONE_CLIENT),
         plan_read(&ONE_CLIENT),
         open(5, 6),
@@ -896,36 +910,85 @@ const ONE_CLIENT: [u8; 20] = [
     0x10, 0x00, 0x00, 0x00,
 ];
 
-/// Document 01's plan and that of the sound table, whole, cut short, lengthened, and with each byte changed; the plan
-/// of the sound table written to buffers about its length.
+/// Document 01's plan and that of the sound table, in both editions, and one with stated nodes: whole, cut short, lengthened,
+/// and with each byte changed; each of the tables written in every edition to buffers about its length.
 fn plans() -> Vec<Scene> {
     let mut world = World::default();
-    for step in [&sound()[..], &[plan_write(53)]].concat() {
+    for step in sound() {
         world.run(&mut Engine, &step);
     }
-    let bytes = world.plan.inner().to_vec();
-    let mut written = sound();
-    written.extend([0, 8, 9, 52, 53, 54, 702, 703].map(plan_write));
-    let mut scenes: Vec<Scene> = vec![("plans written".into(), written)];
-    for (name, plan) in [("of document 01", &ONE_CLIENT[..]), ("of the sound table", &bytes[..])] {
-        let mut lengths = Vec::new();
-        for len in 0..plan.len() + 12 {
-            let mut cut = plan.to_vec();
-            cut.resize(len, 0);
-            lengths.extend([plan_check(&cut), plan_read(&cut), plan_write(100)]);
+    let sound = Plan::of_table(world.table.inner());
+    let first = Plan::decode(&ONE_CLIENT).expect("a plan");
+    let mut scenes = Vec::new();
+    for (name, plan, editions) in [
+        ("of document 01", first, &Edition::ALL[..]),
+        ("of the sound table", sound, &Edition::ALL),
+        ("with stated nodes", stated_plan(), &[Edition::Second]),
+    ] {
+        for &edition in editions {
+            let name = format!("plan {name}, edition {}", edition.number());
+            let bytes = plan.encode(edition);
+            let right = plan_read(&bytes);
+            scenes.push((format!("{name}, written"), [vec![right], writes(&plan)].concat()));
+            scenes.push((format!("{name}, lengths"), lengths_of(&bytes)));
+            scenes.push((format!("{name}, bytes"), bytes_of(&bytes)));
         }
-        scenes.push((format!("plan {name}, lengths"), lengths));
-        let mut changed = Vec::new();
-        for place in 0..plan.len() {
-            for byte in [0, 1, 2, 3, 4, 5, 9, 63, 64, 255] {
-                let mut other = plan.to_vec();
-                other[place] = byte;
-                changed.extend([plan_check(&other), plan_read(&other), plan_write(100)]);
-            }
-        }
-        scenes.push((format!("plan {name}, bytes"), changed));
     }
     scenes
+}
+
+/// Disk 200,000; client 5 with 70,000 and class 9 with 300 stated, client 12 with a weight beside them, client 3 with half of
+/// the class.
+pub(crate) fn stated_plan() -> Plan {
+    let new =
+        |node, parent, sort, kind, share| NewNode { node, parent, sort, kind, share, depth: 8 };
+    let nodes = vec![
+        new(5, 0, CLIENT, STATED, 70_000),
+        new(9, 0, CLASS, STATED, 300),
+        new(12, 0, CLIENT, WEIGHTED, 1),
+        new(3, 9, CLIENT, FIXED, 5000),
+    ];
+    Plan { rate: 200_000, depth: 100, nodes }
+}
+
+/// Writes in every edition, and in some that there are not, to buffers about the lengths of the plan.
+fn writes(plan: &Plan) -> Vec<Step> {
+    let [first, second] = Edition::ALL.map(|edition| edition.plan_len(plan.nodes.len()));
+    let lengths =
+        [0, 1, 8, 9, 12, 13, first - 1, first, first + 1, second - 1, second, second + 1, 1000];
+    let editions = [1, 2, 0, 3, -1, 4, 255, 256, 257, 258, i64::MIN, i64::MAX];
+    editions
+        .into_iter()
+        .flat_map(|edition| lengths.map(|buffer_len| plan_write(edition, buffer_len)))
+        .collect()
+}
+
+/// A plan checked and read, and what it made written in both editions.
+pub(crate) fn tried(plan: &[u8]) -> [Step; 4] {
+    [plan_check(plan), plan_read(plan), plan_write(1, 1000), plan_write(2, 1000)]
+}
+
+/// A plan of every length up to some bytes more.
+fn lengths_of(plan: &[u8]) -> Vec<Step> {
+    let cut = |len: usize| {
+        let mut cut = plan.to_vec();
+        cut.resize(len, 0);
+        tried(&cut)
+    };
+    (0..plan.len() + 14).flat_map(cut).collect()
+}
+
+/// A plan with each of its bytes changed.
+fn bytes_of(plan: &[u8]) -> Vec<Step> {
+    let mut steps = Vec::new();
+    for place in 0..plan.len() {
+        for byte in [0, 1, 2, 3, 4, 5, 6, 9, 63, 64, 254, 255] {
+            let mut other = plan.to_vec();
+            other[place] = byte;
+            steps.extend(tried(&other));
+        }
+    }
+    steps
 }
 
 /// Each argument of each call at and beyond its limits, the others sound.
@@ -943,12 +1006,16 @@ fn limits() -> Vec<Scene> {
                 change_share(3, value, 1),
                 change_share(3, WEIGHTED, value),
                 change_share(3, FIXED, value),
+                change_share(3, STATED, value),
+                change_share(4, STATED, value),
                 change_rate(value),
                 client(value, 4, WEIGHTED, 1, 1),
                 client(9, value, WEIGHTED, 1, 1),
                 join(9, 4, value, WEIGHTED, 1, 1),
                 client(9, 4, value, 1, 1),
                 client(9, 4, WEIGHTED, value, 1),
+                client(9, 4, STATED, value, 1),
+                client(9, 0, STATED, value, 1),
                 client(9, 4, WEIGHTED, 1, value),
                 tick(128),
                 Step::Keep,

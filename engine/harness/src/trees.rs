@@ -2,7 +2,7 @@
 
 use hds_engine::table::{
     at, get, waiting_count, ACCEPTED, CLASS, CLIENT, FIXED, LEVEL, MAX_CLASS_LEVEL, PARENT, QUEUE,
-    QUEUE_STEP, TABLE_LEN, WEIGHTED,
+    QUEUE_STEP, STATED, TABLE_LEN, WEIGHTED,
 };
 use hds_engine::{Controller, Engine, NewNode};
 
@@ -133,6 +133,53 @@ pub fn whole(rate: i64) -> Vec<i64> {
         (12, 5, CLIENT, WEIGHTED, 1, 100),
         (13, 10, CLIENT, FIXED, 10_000, 100),
         (14, 10, CLIENT, WEIGHTED, 1, 100),
+    ] {
+        join(&mut table, node, parent, sort, kind, share, depth);
+    }
+    table
+}
+
+/// A stated class and two stated clients beside children of both other kinds under the root, and children of both kinds on
+/// all levels below the class. About a third of the disk's rate, which is 7 or more, is stated. Nodes 61 to 63 are free.
+pub fn desks(rate: i64) -> Vec<i64> {
+    let mut table = opened(rate, 1_000_000);
+    for (node, parent, sort, kind, share, depth) in [
+        (60, 0, CLASS, STATED, (rate / 5).max(1), 400_000),
+        (2, 0, CLASS, FIXED, 3000, 200_000),
+        (3, 0, CLIENT, STATED, (rate / 10).max(1), 100),
+        (4, 0, CLIENT, STATED, 1, 100),
+        (5, 0, CLIENT, WEIGHTED, 2, 100),
+        (6, 0, CLIENT, FIXED, 1234, 100),
+        (7, 0, CLASS, WEIGHTED, 5, 100_000),
+        (10, 60, CLASS, FIXED, 5000, 100_000),
+        (11, 60, CLASS, WEIGHTED, 3, 100_000),
+        (12, 60, CLIENT, WEIGHTED, 1, 100),
+        (20, 10, CLASS, WEIGHTED, 1, 10_000),
+        (21, 10, CLIENT, FIXED, 3333, 100),
+        (30, 20, CLIENT, FIXED, 5000, 100),
+        (31, 20, CLIENT, WEIGHTED, 1, 100),
+        (22, 11, CLIENT, WEIGHTED, 1, 100),
+        (23, 2, CLIENT, WEIGHTED, 1, 100),
+        (24, 2, CLIENT, FIXED, 2500, 100),
+        (25, 7, CLIENT, WEIGHTED, 7, 100),
+    ] {
+        join(&mut table, node, parent, sort, kind, share, depth);
+    }
+    table
+}
+
+/// Stated rates of just the disk's, which is 3 or more, in a class with children and in a client, beside both other kinds,
+/// which get nothing.
+pub fn all_stated(rate: i64) -> Vec<i64> {
+    let mut table = opened(rate, 1_000_000);
+    for (node, parent, sort, kind, share, depth) in [
+        (1, 0, CLASS, STATED, rate / 3, 100_000),
+        (2, 0, CLIENT, STATED, rate - rate / 3, 100),
+        (3, 0, CLIENT, FIXED, 10_000, 100),
+        (4, 0, CLASS, WEIGHTED, 1, 1000),
+        (5, 1, CLIENT, FIXED, 2500, 100),
+        (6, 1, CLIENT, WEIGHTED, 1, 100),
+        (7, 4, CLIENT, WEIGHTED, 1, 100),
     ] {
         join(&mut table, node, parent, sort, kind, share, depth);
     }

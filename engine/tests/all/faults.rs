@@ -2,7 +2,7 @@
 
 use crate::support::*;
 use hds_engine::differential::{differential, differential_runs, first_difference};
-use hds_engine::faulty::{Fault, Faulty, Pick, FAULTS};
+use hds_engine::faulty::{Fault, Faulty, Pick, Stated, FAULTS};
 use hds_engine::judge::{watch, Promise, Violation};
 use hds_engine::order::CLAUSES;
 use hds_engine::random::{run, Profile};
@@ -11,7 +11,7 @@ use hds_engine::table::*;
 use hds_engine::{Controller, Engine};
 
 /// Faults that the judge must object to, with the promise that is broken.
-pub const LOUD: [(Fault, Promise); 27] = [
+pub const LOUD: [(Fault, Promise); 29] = [
     (Fault::CutsFirst, Promise::Client),
     (Fault::ChargesClient, Promise::Client),
     (Fault::SparesRoot, Promise::Disk),
@@ -41,6 +41,9 @@ pub const LOUD: [(Fault, Promise); 27] = [
     (Fault::CostWraps, Promise::Client),
     // Balances are cut before a client pays itself.
     (Fault::WrongPick(Pick::WithoutStepTwo), Promise::Client),
+    // What nobody has left is given once more, or nobody gets what is stated.
+    (Fault::WrongStated(Stated::NotTakenOff), Promise::Disk),
+    (Fault::WrongStated(Stated::Kept), Promise::Client),
 ];
 
 /// A list of calls that brings a fault out.
@@ -59,6 +62,7 @@ pub fn scenario(fault: Fault) -> Vec<Step> {
         // They cost more than the depth.
         Fault::RefusesBySize => one_client(1000, 8, 8, 12),
         Fault::CostWraps => one_client(1000, 8, i64::MAX, 12),
+        Fault::WrongStated(_) => weight_beside_a_stated_rate(),
         _ => one_client(28_000, 8, 1, 12),
     })
 }
@@ -116,6 +120,20 @@ fn weight_beside_the_whole() -> Vec<Call> {
     ];
     for _ in 0..15 {
         calls.extend([request(2, 1), request(3, 1), tick()]);
+    }
+    calls
+}
+
+/// Client 1 has the disk's whole rate stated, and client 2 a weight beside it; both ask
+/// all the time, client 2 first.
+fn weight_beside_a_stated_rate() -> Vec<Call> {
+    let mut calls = vec![
+        open(8000, 16),
+        Call::Join(client(1, 0, STATED, 8000, 8)),
+        Call::Join(client(2, 0, WEIGHTED, 1, 8)),
+    ];
+    for _ in 0..15 {
+        calls.extend([request(2, 1), request(1, 1), tick()]);
     }
     calls
 }

@@ -589,11 +589,14 @@ fn rate_of(moment: &Moment, node: usize) -> i64 {
     let class_rate = rate_of(moment, new.parent as usize);
     let siblings =
         moment.tree.iter().filter(|(&number, other)| number != 0 && other.parent == new.parent);
-    let (fixed, weighted): (Vec<&NewNode>, Vec<&NewNode>) =
-        siblings.map(|(_, other)| other).partition(|other| other.kind == FIXED);
-    let left = class_rate * (10_000 - fixed.iter().map(|other| other.share).sum::<i64>()) / 10_000;
+    let siblings: Vec<&NewNode> = siblings.map(|(_, other)| other).collect();
+    let shares = |kind: i64| -> i64 {
+        siblings.iter().filter(|other| other.kind == kind).map(|other| other.share).sum()
+    };
+    let divided = class_rate - shares(STATED);
     match new.kind {
-        FIXED => class_rate * new.share / 10_000,
-        _ => left * new.share / weighted.iter().map(|other| other.share).sum::<i64>(),
+        STATED => new.share,
+        FIXED => divided * new.share / 10_000,
+        _ => divided * (10_000 - shares(FIXED)) / 10_000 * new.share / shares(WEIGHTED),
     }
 }

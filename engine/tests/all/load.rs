@@ -7,12 +7,12 @@ use std::process::{Child, Command, Stdio};
 use crate::support::*;
 use hds_engine::load::{self, Draws, Load, Request};
 use hds_engine::loads::input;
-use hds_engine::plan::Plan;
+use hds_engine::plan::{Edition, Plan};
 use hds_engine::table::*;
 use hds_engine::NewNode;
 
 fn plan(rate: i64, depth: i64, nodes: &[NewNode]) -> Vec<u8> {
-    Plan { rate, depth, nodes: nodes.to_vec() }.encode()
+    Plan { rate, depth, nodes: nodes.to_vec() }.encode(Edition::First)
 }
 
 /// Client 5 alone, with the disk's whole rate.

@@ -8,7 +8,7 @@ use std::process::{Command, Output};
 use hds_engine::faulty_load::{self, LoadFault, LOAD_FAULTS};
 use hds_engine::load::{self, Load};
 use hds_engine::loads::{accepted_plan, any, input, inputs, special};
-use hds_engine::plan::check;
+use hds_engine::plan::{check, Edition};
 use hds_engine::random::Rng;
 use hds_engine::refusal::*;
 use hds_engine::table::*;
@@ -71,12 +71,17 @@ fn the_special_inputs_come_first() {
 fn every_random_plan_is_accepted() {
     let mut rng = Rng::new(3);
     let mut clients_of_plans = BTreeSet::new();
+    let mut stated = 0;
     for _ in 0..8000 {
         let plan = accepted_plan(&mut rng);
-        assert_eq!(check(&plan.encode()), 0, "{plan:?}");
+        assert_eq!(check(&plan.encode(Edition::Second)), 0, "{plan:?}");
+        let in_first = if plan.has_stated() { 14 } else { 0 };
+        assert_eq!(check(&plan.encode(Edition::First)), in_first, "{plan:?}");
+        stated += usize::from(plan.has_stated());
         clients_of_plans.insert(plan.nodes.iter().filter(|new| new.sort == CLIENT).count());
     }
     assert!((0..=63).all(|count| clients_of_plans.contains(&count)));
+    assert!((1000..5000).contains(&stated), "{stated}");
 }
 
 /// What happens in the runs of some inputs.
@@ -142,8 +147,8 @@ fn random_inputs_have_everything_in_them() {
     assert_eq!(seen.steps, BTreeSet::from([0, 1, 2, 3, 4]));
     assert_eq!(seen.in_a_tick, BTreeSet::from([0, 1, 2, 3]));
     assert!(seen.drained);
-    let texts: BTreeSet<Vec<u8>> = random(12, 600).iter().map(|input| load::text(input)).collect();
-    for number in [2, 3, 4, 8, 14, 15] {
+    let texts: BTreeSet<Vec<u8>> = random(12, 1000).iter().map(|input| load::text(input)).collect();
+    for number in [2, 3, 4, 8, 14, 15, 16] {
         assert!(texts.contains(format!("refused {number}\n").as_bytes()), "{number}");
     }
 }
@@ -217,8 +222,8 @@ fn the_program_finds_a_wrong_line_and_a_missing_output() {
 #[test]
 fn the_program_finds_every_faulty_load() {
     for fault in [LoadFault::TickFirst, LoadFault::DropsOldest, LoadFault::ShortTicks] {
-        let folder = filled("faulty", 80);
-        for index in 1..=80 {
+        let folder = filled("faulty", 110);
+        for index in 1..=110 {
             let file = folder.join(format!("{index:04}.in"));
             let text = faulty_load::text(fault, &fs::read(&file).unwrap());
             fs::write(file.with_extension("out"), text).unwrap();

@@ -246,15 +246,18 @@ fn check_look(met: &mut Met, table: &[i64], node: usize, seen: Seen) {
         return;
     }
     let children = below(table, node);
-    let (fixed, weighted): (Vec<usize>, Vec<usize>) =
-        children.iter().partition(|&&child| get(table, child, KIND) == FIXED);
-    let sum = |nodes: &[usize], place| nodes.iter().map(|&node| get(table, node, place)).sum();
-    let rates: i64 = sum(&children, RATE);
-    let fixed_shares: i64 = sum(&fixed, SHARE);
-    let left = rate * (10_000 - fixed_shares) / 10_000;
-    let number = children.len() as i64;
+    let of_kind = |kind: i64| -> Vec<usize> {
+        children.iter().copied().filter(|&child| get(table, child, KIND) == kind).collect()
+    };
+    let [fixed, weighted, stated] = [FIXED, WEIGHTED, STATED].map(of_kind);
+    let sum =
+        |nodes: &[usize], place| nodes.iter().map(|&node| get(table, node, place)).sum::<i64>();
+    let divided = rate - sum(&stated, SHARE);
+    let left = divided * (10_000 - sum(&fixed, SHARE)) / 10_000;
+    // What rounding takes is less than a grain for each of these.
+    let number = (fixed.len() + weighted.len()) as i64;
     assert!(lost >= 0);
-    assert_eq!(rate, rates + lost);
+    assert_eq!(rate, sum(&children, RATE) + lost);
     if weighted.is_empty() {
         assert!((left..=left + number).contains(&lost));
     } else {
@@ -278,10 +281,13 @@ fn check_look(met: &mut Met, table: &[i64], node: usize, seen: Seen) {
     count("children of both kinds", !fixed.is_empty() && !weighted.is_empty());
     count("weighted children, some lost", !weighted.is_empty() && lost > 0);
     count("weighted children, most lost", number > 1 && !weighted.is_empty() && lost == number - 1);
+    count("stated children only", !stated.is_empty() && number == 0);
+    count("children of all kinds", [&fixed, &weighted, &stated].iter().all(|of| !of.is_empty()));
+    count("stated children of just the rate", divided == 0 && number > 0);
 }
 
 /// How many situations are counted.
-const SITUATIONS: usize = 15;
+const SITUATIONS: usize = 18;
 
 /// The nodes other than the root whose parent is that node.
 fn below(table: &[i64], node: usize) -> Vec<usize> {
@@ -315,7 +321,7 @@ fn random_tables_lose_what_is_left_and_what_rounding_takes() {
         });
     }
     assert_eq!(met.len(), SITUATIONS);
-    assert!(met.values().all(|&count| count >= 200), "{met:?}");
+    assert!(met.values().all(|&count| count >= 60), "{met:?}");
 }
 
 #[test]
@@ -332,34 +338,37 @@ fn wild_runs_look_at_every_sort_of_node() {
 
 /// All misreadings, each with the numbers that it gives the nodes of the tree of
 /// [`lost_of`].
-const MISREADINGS: [(Lost, [i64; 7]); 13] = [
-    // 500 + 166 + 333 + 166 + 166 + 166 of 1000, and 166 + 166 + 166 of 500.
-    (Lost::AllBelow, [-497, 2, 166, 0, 0, 0, 0]),
-    (Lost::WithoutWeighted, [500, 168, 166, 0, 0, 166, 0]),
-    (Lost::WithoutFixed, [501, 500, 166, 0, 0, 0, 0]),
-    (Lost::WithoutClasses, [667, 334, 166, 0, 0, 0, 0]),
-    // 5003 of 1000, 6667 of 500, 1 of 166.
-    (Lost::OfShares, [-4003, -6167, 166, 0, 0, 165, 0]),
-    // After two ticks: 1998 of 1000, 664 of 500, 332 of 166.
-    (Lost::OfBalances, [-998, -164, 166, 0, 0, -166, 0]),
-    (Lost::ZeroForClass, [0, 0, 0, 0, 0, 0, 0]),
-    (Lost::ZeroForChildless, [1, 168, 0, 0, 0, 0, 0]),
-    (Lost::RateForClient, [1, 168, 166, 333, 166, 0, 166]),
-    (Lost::RootAmongChildren, [-999, 168, 166, 0, 0, 0, 0]),
+const MISREADINGS: [(Lost, [i64; 8]); 15] = [
+    // 100 + 500 + 166 + 333 + 166 + 166 + 166 of 1100, and 166 + 166 + 166 of 500.
+    (Lost::AllBelow, [-497, 2, 166, 0, 0, 0, 0, 0]),
+    (Lost::WithoutWeighted, [500, 168, 166, 0, 0, 166, 0, 0]),
+    (Lost::WithoutFixed, [501, 500, 166, 0, 0, 0, 0, 0]),
+    (Lost::WithoutStated, [101, 168, 166, 0, 0, 0, 0, 0]),
+    (Lost::StatedTwice, [-99, 168, 166, 0, 0, 0, 0, 0]),
+    (Lost::WithoutClasses, [667, 334, 166, 0, 0, 0, 0, 0]),
+    // 5103 of 1100, 6667 of 500, 1 of 166.
+    (Lost::OfShares, [-4003, -6167, 166, 0, 0, 165, 0, 0]),
+    // After two ticks: 2198 of 1100, 664 of 500, 332 of 166.
+    (Lost::OfBalances, [-1098, -164, 166, 0, 0, -166, 0, 0]),
+    (Lost::ZeroForClass, [0, 0, 0, 0, 0, 0, 0, 0]),
+    (Lost::ZeroForChildless, [1, 168, 0, 0, 0, 0, 0, 0]),
+    (Lost::RateForClient, [1, 168, 166, 333, 166, 0, 166, 100]),
+    (Lost::RootAmongChildren, [-1099, 168, 166, 0, 0, 0, 0, 0]),
     // 166 are left in class 1, and all 166 in class 2.
-    (Lost::WithoutUnclaimed, [1, 2, 0, 0, 0, 0, 0]),
-    (Lost::WithoutFixedRounding, [1, 166, 166, 0, 0, 0, 0]),
+    (Lost::WithoutUnclaimed, [1, 2, 0, 0, 0, 0, 0, 0]),
+    (Lost::WithoutFixedRounding, [1, 166, 166, 0, 0, 0, 0, 0]),
     // Before client 6 joined, class 5 had no children.
-    (Lost::FromBefore, [1, 168, 166, 0, 0, 166, 0]),
+    (Lost::FromBefore, [1, 168, 166, 0, 0, 166, 0, 0]),
 ];
 
-/// The grains nobody gets of nodes 0 to 6, in a tree that the controller makes.
-/// The rates are 1000; 500, 166 and 333 under it; 166 and 166 under class 1, where
-/// 166.65 are left; 166 under class 5.
-fn lost_of(controller: &mut dyn Controller) -> [i64; 7] {
+/// The grains nobody gets of nodes 0 to 7, in a tree that the controller makes.
+/// The rates are 1100, of which client 7 has 100; 500, 166 and 333 of the other 1000;
+/// 166 and 166 under class 1, where 166.65 are left; 166 under class 5.
+fn lost_of(controller: &mut dyn Controller) -> [i64; 8] {
     let mut table = [0; TABLE_LEN];
-    assert_eq!(controller.open(&mut table, 1000, 100), Ok(0));
+    assert_eq!(controller.open(&mut table, 1100, 100), Ok(0));
     for new in [
+        client(7, 0, STATED, 100, 20),
         class(1, 0, FIXED, 5000, 40),
         class(2, 0, WEIGHTED, 1, 20),
         client(3, 0, WEIGHTED, 2, 20),
@@ -372,12 +381,12 @@ fn lost_of(controller: &mut dyn Controller) -> [i64; 7] {
     for _ in 0..2 {
         assert_eq!(controller.tick(&mut table, &mut []), Ok(0));
     }
-    [0, 1, 2, 3, 4, 5, 6].map(|node| controller.look(&table, node).unwrap()[3])
+    [0, 1, 2, 3, 4, 5, 6, 7].map(|node| controller.look(&table, node).unwrap()[3])
 }
 
 #[test]
 fn misreadings_give_their_wrong_numbers() {
-    let right = [1, 168, 166, 0, 0, 0, 0];
+    let right = [1, 168, 166, 0, 0, 0, 0, 0];
     assert_eq!(lost_of(&mut Engine), right);
     assert_eq!(lost_of(&mut Faulty::new(Fault::None)), right);
     for (misreading, wrong) in MISREADINGS {

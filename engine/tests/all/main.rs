@@ -2,6 +2,7 @@
 
 mod costs;
 mod edges;
+mod editions;
 mod family;
 mod faults;
 mod judging;
@@ -14,6 +15,7 @@ mod plan_files;
 mod refusals;
 mod renewal;
 mod runs;
+mod stated;
 mod stuck;
 mod support;
 mod ticks;

@@ -245,9 +245,11 @@ fn after_ticks(
 
 #[test]
 fn every_dispatch_of_step_four_is_the_right_one() {
-    for (profile, least) in [(Profile::Clean, 5), (Profile::Family, 200), (Profile::Wild, 1)] {
+    for (profile, seeds, least) in
+        [(Profile::Clean, 100, 5), (Profile::Family, 100, 200), (Profile::Wild, 200, 1)]
+    {
         let mut met = Met::new();
-        after_ticks(&mut Engine, profile, 100, |before, after, list| {
+        after_ticks(&mut Engine, profile, seeds, |before, after, list| {
             let mut observer = Observer::new(before);
             if let Err(what) = observer.follow(list, &mut met) {
                 panic!("{what}");

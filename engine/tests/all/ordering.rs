@@ -126,7 +126,7 @@ fn tree() {
         (3, LEVEL, 1),
         (3, LEVEL, 3),
         (1, LEVEL, i64::MAX),
-        (1, KIND, 2),
+        (1, KIND, 3),
         (1, KIND, -1),
         (4, SHARE, 0),
         (4, SHARE, 10_001),

@@ -1,13 +1,12 @@
-//! Plan files and the rates print.
+//! Plan files of the first edition, and the rates print.
 
 use std::io::Write;
 use std::process::{Command, Stdio};
 
 use crate::support::*;
-use hds_engine::plan::{check, plan_len, Plan};
+use hds_engine::plan::{check, Edition, Plan};
 use hds_engine::print::rates_of_plan;
-use hds_engine::random::{run, Profile};
-use hds_engine::steps::{Call, World};
+use hds_engine::steps::Call;
 use hds_engine::table::*;
 use hds_engine::{Controller, Engine, NewNode};
 
@@ -18,7 +17,11 @@ const PAPER: [u8; 20] = [
 ];
 
 fn plan(rate: i64, depth: i64, nodes: &[NewNode]) -> Vec<u8> {
-    Plan { rate, depth, nodes: nodes.to_vec() }.encode()
+    first(&Plan { rate, depth, nodes: nodes.to_vec() })
+}
+
+fn first(plan: &Plan) -> Vec<u8> {
+    plan.encode(Edition::First)
 }
 
 /// PAPER with one byte changed.
@@ -31,17 +34,17 @@ fn with_byte(place: usize, byte: u8) -> Vec<u8> {
 #[test]
 fn the_papers_plan() {
     let mut disk = Disk::open(1, 1);
-    assert_eq!(disk.plan_read(&PAPER), Ok(0));
+    assert_eq!(disk.plan_read(&PAPER), Ok(1));
     let mut expected = Disk::open(1000, 40);
     expected.join(client(5, 0, WEIGHTED, 4, 16)).unwrap();
     assert_eq!(disk.table, expected.table);
     let mut buffer = [0xEE; 25];
-    assert_eq!(disk.plan_write(&mut buffer), Ok(20));
+    assert_eq!(disk.plan_write(1, &mut buffer), Ok(20));
     assert_eq!(buffer[..20], PAPER);
     assert_eq!(buffer[20..], [0xEE; 5]);
-    assert_eq!(disk.plan_write(&mut buffer[..20]), Ok(20));
-    assert_eq!(disk.plan_write(&mut buffer[..19]), Err(13));
-    assert_eq!(disk.plan_write(&mut []), Err(13));
+    assert_eq!(disk.plan_write(1, &mut buffer[..20]), Ok(20));
+    assert_eq!(disk.plan_write(1, &mut buffer[..19]), Err(13));
+    assert_eq!(disk.plan_write(1, &mut []), Err(13));
 }
 
 #[test]
@@ -79,7 +82,7 @@ fn a_table_of_any_contents_is_read_into() {
     let mut table = vec![-1; TABLE_LEN];
     assert_eq!(Engine.plan_read(&with_byte(8, 2), &mut table), Err(14));
     assert_eq!(table, vec![-1; TABLE_LEN]);
-    assert_eq!(Engine.plan_read(&PAPER, &mut table), Ok(0));
+    assert_eq!(Engine.plan_read(&PAPER, &mut table), Ok(1));
     assert_eq!(Engine.look(&table, 5), Ok([1000, 0, 0, 0]));
     let mut short = vec![-1; TABLE_LEN - 1];
     assert_eq!(Engine.plan_read(&[], &mut short), Err(1));
@@ -96,7 +99,7 @@ fn wrong_forms() {
         assert_eq!(check(&with_byte(8, count)), 14);
     }
     // A count of 64 is wrong also where the length would fit it.
-    let mut long = vec![0; plan_len(64)];
+    let mut long = vec![0; 9 + 11 * 64];
     long[8] = 64;
     assert_eq!(check(&long), 14);
     for (place, byte) in [(11, 0x0C), (11, 0x0E), (12, 1), (12, 0xFF)] {
@@ -118,9 +121,9 @@ fn the_root_alone() {
     assert_eq!(check(&[0, 0, 0, 0, 1, 0, 0, 0, 0]), 2);
     assert_eq!(check(&[1, 0, 0, 0, 0, 0, 0, 0, 0]), 2);
     let top = Plan { rate: MAX_RATE, depth: MAX_DEPTH, nodes: Vec::new() };
-    assert_eq!(check(&top.encode()), 0);
-    assert_eq!(check(&Plan { rate: MAX_RATE + 1, ..top.clone() }.encode()), 2);
-    assert_eq!(check(&Plan { depth: MAX_DEPTH + 1, ..top }.encode()), 2);
+    assert_eq!(check(&first(&top)), 0);
+    assert_eq!(check(&first(&Plan { rate: MAX_RATE + 1, ..top.clone() })), 2);
+    assert_eq!(check(&first(&Plan { depth: MAX_DEPTH + 1, ..top })), 2);
 }
 
 #[test]
@@ -231,25 +234,8 @@ fn sixty_three_nodes() {
     let bytes = plan(MAX_RATE, 63, &nodes);
     assert_eq!(bytes.len(), 702);
     let mut disk = Disk::open(1, 1);
-    assert_eq!(disk.plan_read(&bytes), Ok(0));
+    assert_eq!(disk.plan_read(&bytes), Ok(1));
     let mut buffer = vec![0; 702];
-    assert_eq!(disk.plan_write(&mut buffer), Ok(702));
+    assert_eq!(disk.plan_write(1, &mut buffer), Ok(702));
     assert_eq!(buffer, bytes);
-}
-
-#[test]
-fn written_plans_read_back_as_the_same_tree() {
-    for seed in 100..160 {
-        let mut world = World::default();
-        for step in run(seed, 150, Profile::Clean) {
-            world.run(&mut Engine, &step);
-        }
-        let table = world.table.inner();
-        let mut buffer = vec![0; 702];
-        let length = Engine.plan_write(table, &mut buffer).unwrap() as usize;
-        let mut copy = vec![5; TABLE_LEN];
-        assert_eq!(Engine.plan_read(&buffer[..length], &mut copy), Ok(0));
-        assert_eq!(Engine.same(table, &copy), Ok(true));
-        assert_eq!(length, plan_len(used_nodes(table).count() - 1));
-    }
 }

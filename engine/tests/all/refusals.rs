@@ -9,7 +9,7 @@ use hds_engine::table::*;
 use hds_engine::{Controller, Engine, NewNode};
 
 const OUTSIDE_NODES: [i64; 4] = [i64::MIN, -1, 64, i64::MAX];
-const OUTSIDE_KINDS: [i64; 4] = [i64::MIN, -1, 2, i64::MAX];
+const OUTSIDE_KINDS: [i64; 4] = [i64::MIN, -1, 3, i64::MAX];
 const OUTSIDE_SHARES: [i64; 4] = [i64::MIN, 0, 10_001, i64::MAX];
 const OUTSIDE_DEPTHS: [i64; 4] = [i64::MIN, 0, 1_000_001, i64::MAX];
 const OUTSIDE_RATES: [i64; 4] = [i64::MIN, 0, 1_000_000_001, i64::MAX];
@@ -45,8 +45,8 @@ fn look(node: i64) -> Call {
     Call::Look { node }
 }
 
-fn plan_write(buffer_len: usize) -> Call {
-    Call::PlanWrite { buffer_len }
+fn plan_write(edition: i64, buffer_len: usize) -> Call {
+    Call::PlanWrite { edition, buffer_len }
 }
 
 /// Sees that a number outside its limits, and nothing else, turns each back.
@@ -55,8 +55,8 @@ fn outside_limits(table: &[i64], calls: impl IntoIterator<Item = Call>) {
     first_cause_counts(table, &cases);
 }
 
-/// The names of the causes, in the order of document 01.
-const CAUSES: [i64; 15] = [
+/// The names of the causes, in the order of the documents.
+const CAUSES: [i64; 16] = [
     NOT_IN_ORDER,
     OUTSIDE_LIMITS,
     NOT_THERE,
@@ -72,11 +72,12 @@ const CAUSES: [i64; 15] = [
     BUFFER_SHORT,
     PLAN_WRONG,
     PLAN_OUT_OF_ORDER,
+    STATED_WRONG,
 ];
 
 #[test]
-fn the_causes_are_numbered_from_1_to_15() {
-    assert!(CAUSES.into_iter().eq(1..=15));
+fn the_causes_are_numbered_from_1_to_16() {
+    assert!(CAUSES.into_iter().eq(1..=16));
 }
 
 #[test]
@@ -122,10 +123,14 @@ fn a_table_out_of_order_comes_first() {
         (&[1, 13], tick_with(3)),
         (&[1], look(5)),
         (&[1, 2, 3], look(-1)),
-        (&[1], plan_write(64)),
-        (&[1, 13], plan_write(63)),
+        (&[1], plan_write(1, 64)),
+        (&[1, 13], plan_write(1, 63)),
+        (&[1], plan_write(2, 78)),
+        (&[1, 13], plan_write(2, 77)),
+        (&[1, 2], plan_write(3, 78)),
     ];
-    // One request waits, and the plan of five nodes has 9 + 11 × 5 bytes.
+    // One request waits, and the plan of five nodes has 9 + 11 × 5 bytes, of the second
+    // edition 13 + 13 × 5.
     let mut disk = deep();
     disk.request(4, 0, 16).unwrap();
     let sound = disk.table;
@@ -176,7 +181,7 @@ fn causes_of_join() {
         (&[2, 4], client(0, 0, WEIGHTED, 1, 1)),
         (&[2, 4], sort(3, client(5, 0, WEIGHTED, 1, 1))),
         (&[2, 4, 5], client(0, 5, WEIGHTED, 1, 1)),
-        (&[2, 5], client(9, 5, 2, 1, 1)),
+        (&[2, 5], client(9, 5, 3, 1, 1)),
         (&[2, 6], class(9, 3, WEIGHTED, 10_001, 1)),
         (&[2, 7], client(9, 0, FIXED, 10_001, 1)),
         (&[2, 8], client(9, 0, WEIGHTED, 1, 1_000_001)),
@@ -279,9 +284,9 @@ fn causes_of_change_share() {
         &table,
         &[
             (&[2, 3], change_share(60, FIXED, 0)),
-            (&[2, 3], change_share(60, 2, 1)),
+            (&[2, 3], change_share(60, 3, 1)),
             (&[2, 5], change_share(0, WEIGHTED, 0)),
-            (&[2, 5], change_share(0, 2, 10_000)),
+            (&[2, 5], change_share(0, 3, 10_000)),
             (&[2, 7], change_share(5, FIXED, 10_001)),
             (&[3], change_share(60, FIXED, 1)),
             (&[3], change_share(60, FIXED, 10_000)),
@@ -405,14 +410,20 @@ fn causes_of_plan_write() {
     first_cause_counts(
         &deep().table,
         &[
-            (&[13], plan_write(0)),
-            (&[13], plan_write(63)),
-            (&[], plan_write(64)),
-            (&[], plan_write(65)),
+            (&[13], plan_write(1, 0)),
+            (&[13], plan_write(1, 63)),
+            (&[], plan_write(1, 64)),
+            (&[], plan_write(1, 65)),
+            (&[13], plan_write(2, 0)),
+            (&[13], plan_write(2, 64)),
+            (&[13], plan_write(2, 77)),
+            (&[], plan_write(2, 78)),
+            (&[], plan_write(2, 79)),
         ],
     );
     let alone = Disk::open(1, 1).table;
-    first_cause_counts(&alone, &[(&[13], plan_write(8)), (&[], plan_write(9))]);
+    first_cause_counts(&alone, &[(&[13], plan_write(1, 8)), (&[], plan_write(1, 9))]);
+    first_cause_counts(&alone, &[(&[13], plan_write(2, 12)), (&[], plan_write(2, 13))]);
 }
 
 #[test]

@@ -436,9 +436,11 @@ fn derived(table: &[i64], class: usize, node: usize) -> i64 {
             .sum()
     };
     let share = get(table, node, SHARE);
+    let divided = whole - shares(STATED);
     match get(table, node, KIND) {
-        FIXED => whole * share / 10_000,
-        _ => whole * (10_000 - shares(FIXED)) / 10_000 * share / shares(WEIGHTED),
+        STATED => share,
+        FIXED => divided * share / 10_000,
+        _ => divided * (10_000 - shares(FIXED)) / 10_000 * share / shares(WEIGHTED),
     }
 }
 

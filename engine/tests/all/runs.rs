@@ -61,17 +61,17 @@ fn wild_runs_reach_every_refusal_of_every_call() {
     }
     let expected: [(&str, &[i64]); 12] = [
         ("open", &[0, 1, 2]),
-        ("join", &[0, 1, 2, 3, 4, 5, 6, 7, 8]),
+        ("join", &[0, 1, 2, 3, 4, 5, 6, 7, 8, 16]),
         ("leave", &[0, 1, 2, 3, 5, 9, 10]),
-        ("change share", &[0, 1, 2, 3, 5, 7]),
-        ("change rate", &[0, 1, 2]),
+        ("change share", &[0, 1, 2, 3, 5, 7, 16]),
+        ("change rate", &[0, 1, 2, 16]),
         ("request", &[0, 1, 2, 3, 5, 8, 11, 12]),
         ("tick", &[0, 1, 13]),
         ("look", &[0, 1, 2, 3]),
         ("same", &[0, 1]),
-        ("plan read", &[0, 1, 2, 3, 4, 5, 6, 7, 8, 14, 15]),
-        ("plan write", &[0, 1, 13]),
-        ("plan check", &[0, 2, 3, 4, 5, 6, 7, 8, 14, 15]),
+        ("plan read", &[0, 1, 2, 3, 4, 5, 6, 7, 8, 14, 15, 16]),
+        ("plan write", &[0, 1, 2, 13, 16]),
+        ("plan check", &[0, 2, 3, 4, 5, 6, 7, 8, 14, 15, 16]),
     ];
     let expected: BTreeSet<(&str, i64)> = expected
         .iter()
@@ -283,8 +283,8 @@ impl Controller for Panicking {
     fn plan_read(&mut self, plan: &[u8], table: &mut [i64]) -> Answer<i64> {
         Engine.plan_read(plan, table)
     }
-    fn plan_write(&mut self, table: &[i64], buffer: &mut [u8]) -> Answer<i64> {
-        Engine.plan_write(table, buffer)
+    fn plan_write(&mut self, table: &[i64], edition: i64, buffer: &mut [u8]) -> Answer<i64> {
+        Engine.plan_write(table, edition, buffer)
     }
     fn plan_check(&mut self, plan: &[u8]) -> i64 {
         Engine.plan_check(plan)

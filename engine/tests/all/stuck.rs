@@ -101,11 +101,11 @@ impl Controller for Stuck {
     }
 
     fn plan_read(&mut self, plan: &[u8], table: &mut [i64]) -> Answer<i64> {
-        self.make(Name::PlanRead, 7, table, |table| Engine.plan_read(plan, table))
+        self.make(Name::PlanRead, 1, table, |table| Engine.plan_read(plan, table))
     }
 
-    fn plan_write(&mut self, table: &[i64], buffer: &mut [u8]) -> Answer<i64> {
-        self.make(Name::PlanWrite, 9, buffer, |buffer| Engine.plan_write(table, buffer))
+    fn plan_write(&mut self, table: &[i64], edition: i64, buffer: &mut [u8]) -> Answer<i64> {
+        self.make(Name::PlanWrite, 9, buffer, |buffer| Engine.plan_write(table, edition, buffer))
     }
 
     fn plan_check(&mut self, plan: &[u8]) -> i64 {

@@ -49,8 +49,8 @@ impl Disk {
         self.engine.same(&self.table, &other.table)
     }
 
-    pub fn plan_write(&mut self, buffer: &mut [u8]) -> Answer<i64> {
-        self.engine.plan_write(&self.table, buffer)
+    pub fn plan_write(&mut self, edition: i64, buffer: &mut [u8]) -> Answer<i64> {
+        self.engine.plan_write(&self.table, edition, buffer)
     }
 
     pub fn plan_read(&mut self, plan: &[u8]) -> Answer<i64> {
@@ -122,7 +122,7 @@ impl<C: Controller> Watched<C> {
         match answer {
             Ok(_) => assert!(order::in_order(table), "out of order after an accepted call"),
             Err(number) => {
-                assert!((1..=15).contains(&number));
+                assert!((1..=16).contains(&number));
                 assert!(table == before, "a refusal wrote the table");
             }
         }
@@ -179,14 +179,25 @@ impl<C: Controller> Controller for Watched<C> {
         if table.len() == TABLE_LEN {
             assert_eq!(answer.err().unwrap_or(0), check);
         }
+        if let Ok(edition) = answer {
+            assert_eq!(edition, if plan.starts_with(&[0xFF; 4]) { 2 } else { 1 });
+            let mut copy = vec![0; plan.len()];
+            assert_eq!(self.0.plan_write(table, edition, &mut copy), Ok(plan.len() as i64));
+            assert!(copy == plan, "the bytes that are written back are others");
+        }
         answer
     }
 
-    fn plan_write(&mut self, table: &[i64], buffer: &mut [u8]) -> Answer<i64> {
+    fn plan_write(&mut self, table: &[i64], edition: i64, buffer: &mut [u8]) -> Answer<i64> {
         let before = buffer.to_vec();
-        let answer = self.0.plan_write(table, buffer);
+        let answer = self.0.plan_write(table, edition, buffer);
         let written = answer.map_or(0, |length| length as usize);
         assert!(buffer[written..] == before[written..], "the buffer beyond the plan was written");
+        if answer.is_ok() {
+            let mut copy = vec![0; TABLE_LEN];
+            assert_eq!(self.0.plan_read(&buffer[..written], &mut copy), Ok(edition));
+            assert_eq!(self.0.same(table, &copy), Ok(true));
+        }
         answer
     }
 

@@ -18,7 +18,10 @@ same-length c = search needs
 
 returns : tie.Need-returns
 returns c =
-    (toZ-ofZ w64 _ (sfits-of (c .answer-number .ok)) ∙ c .answer-number .ensures ∙ ap exported (c .before .before .before .write .ensures .0), c .before .before .before .write .ensures .1)
+    let call = c .before .before .before in
+    let s = call .before .before .before in
+    let wrote = rw (toZ-ofZ w64 (s .args .edition) (s .fits .edition)) at (call .write .ensures) in
+    (toZ-ofZ w64 _ (sfits-of (c .answer-number .ok)) ∙ c .answer-number .ensures ∙ ap exported (wrote .0), wrote .1)
 
 pub hds-plan-write-spec : {M : Type 1} → statement M
 hds-plan-write-spec = tie.close (tie.spec write-requires answer-number-requires same-length returns)

@@ -5,7 +5,7 @@ use mathlib.Core.List.{List}
 use native.Mathlib.Omega.{arith}
 use lib.ListN.{length}
 use lib.IntN.{ℤ}
-use Rattle.layout.specs.Format.{planIn}
+use Rattle.layout.specs.Format.{lastKind, planIn}
 use Rattle.planlaws.specs.Reading.{entryRefusal, afterEntry, afterEntries, entriesRefusal}
 use Rattle.layout.proofs.Codec.{formed-facts}
 use Rattle.planlaws.proofs.Accepted.{after-none, after-next, entries-none, entries-next, entries-stay}
@@ -14,11 +14,11 @@ use Rattle.entering.proofs.join_entries.Statement.{statement}
 use Rattle.entering.proofs.join_entries.Tie as tie
 
 abbrev Inv-loop : tie.InvT-loop
-Inv-loop table₀ s n i₀ table i =
+Inv-loop table₀ s edition n i₀ table i =
     (i ≤ n) × (entriesRefusal table₀ (planIn s) i ≡ 0) × (table ≡ afterEntries table₀ (planIn s) i) × (length table ≡ length table₀)
 
 abbrev μ-loop : tie.MeasureT-loop
-μ-loop table₀ s n i₀ table i = n - i
+μ-loop table₀ s edition n i₀ table i = n - i
 
 -- What the entries up to the one just joined give.
 so-far : (c : tie.After-join-entry Inv-loop μ-loop) → let at = c .before .before .before in let x = at .before .before .args in c .join-entry .result ≡ entriesRefusal (x .table .now) (planIn (x .s .now)) (at .loop .i + 1)
@@ -35,12 +35,11 @@ loop-holds c = (omega arith, entries-none _ _, sym (after-none _ _), refl)
 join-entry-requires : tie.Need-join-entry-requires Inv-loop μ-loop
 join-entry-requires c κs =
     let at = c .before .before in
-    let start = at .before .before in (
+    let start = at .before .before in
+    let frame = start .pre .1 in (
+      frame,
       omega arith,
-      omega arith,
-      omega arith,
-      omega arith,
-      formed-facts (start .args .s .now) (start .pre .0) .kind (at .loop .i) (omega arith),
+      omega (arith, formed-facts (start .args .s .now) (start .pre .0) .kind (at .loop .i) (omega (arith, frame .counted)), ap lastKind (frame .edition)),
     )
 
 same-length : tie.Need-same-length Inv-loop μ-loop

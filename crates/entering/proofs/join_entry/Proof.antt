@@ -1,6 +1,8 @@
 -- `entering::join_entry` meets its contract.
 use mathlib.Core.Path.{ap, _∙_}
+use native.Mathlib.Omega.{arith}
 use Rattle.layout.specs.Format.{planIn}
+use Rattle.layout.proofs.Editions.{share-values-small}
 use Rattle.planlaws.specs.Reading.{entryRefusal, afterEntry}
 use borrow.Author.Needs.{needs}
 use Rattle.entering.proofs.join_entry.Statement.{statement}
@@ -10,7 +12,9 @@ node-at-requires : tie.Need-node-at-requires
 node-at-requires c κs = search needs
 
 join-node-requires : tie.Need-join-node-requires
-join-node-requires c κs = search needs
+join-node-requires c κs =
+    let small = c .node-at .ensures .1 in
+    (small .0, small .1, omega (arith, small .2, share-values-small (c .before .before .before .args .edition)), small .3)
 
 same-length : tie.Need-same-length
 same-length c = search needs

@@ -1,7 +1,7 @@
 -- `entering::join_node` meets its contract.
 use mathlib.Core.Path.{_≡_, sym, ap, _∙_}
 use native.Mathlib.Omega.{arith}
-use Rattle.layout.specs.Nodes.{shareIn, weightedIn, heldBy, entryBy}
+use Rattle.layout.specs.Nodes.{shareIn, shareKindIn, heldBy, entryBy}
 use Rattle.layout.proofs.EachKind.{sort-in-kind, share-in-kind}
 use Rattle.planlaws.proofs.Accepted.{join-by}
 use borrow.Author.Needs.{needs}
@@ -18,8 +18,8 @@ held-by-requires c κs = search needs
 sort-number-requires : tie.Need-sort-number-requires
 sort-number-requires c κs = search needs
 
-weighted-in-requires : tie.Need-weighted-in-requires
-weighted-in-requires c κs = search needs
+share-kind-in-requires : tie.Need-share-kind-in-requires
+share-kind-in-requires c κs = search needs
 
 share-in-requires : tie.Need-share-in-requires
 share-in-requires c κs = search needs
@@ -39,12 +39,12 @@ unfolding entryBy
 returns c =
     let joined = c .before .join-numbers .ensures in
     let given = c .before .before .before in
-    let kind = given .before .weighted-in .ensures .0 in
+    let kind = given .before .share-kind-in .ensures .0 in
     let number = given .before .before .sort-number .ensures .0 in
     let held = given .before .before .before .held-by .ensures in
     let args = start given .args in
     let x = args .node .sort in
-    let same = join-by (args .table .now) (entryBy (args .node)) (number ∙ sym (sort-in-kind x)) (kind ∙ ap weightedIn held ∙ sym (share-in-kind x)) (given .share-in .ensures ∙ ap shareIn held) (joined .0) (joined .1 .1) in
+    let same = join-by (args .table .now) (entryBy (args .node)) (number ∙ sym (sort-in-kind x)) (kind ∙ ap shareKindIn held ∙ sym (share-in-kind x)) (given .share-in .ensures ∙ ap shareIn held) (joined .0) (joined .1 .1) in
     (same .0, (joined .1 .0, same .1))
 
 pub join-node-spec : {M : Type 1} → statement M
@@ -53,7 +53,7 @@ join-node-spec =
     (tie.spec
     held-by-requires
     sort-number-requires
-    weighted-in-requires
+    share-kind-in-requires
     share-in-requires
     join-numbers-requires
     same-length

@@ -21,11 +21,11 @@ abbrev rises : List ℤ → List ℕ → ℕ → Bool
 rises t s j = ltb (standing (treeOf t) (planIn s .entry j .node)) (standing (treeOf t) (planIn s .entry (suc j) .node))
 
 abbrev Inv-loop : tie.InvT-loop
-Inv-loop table s n ok₀ i₀ ok i =
+Inv-loop table s edition n ok₀ i₀ ok i =
     (i ≤ n - 1) × (ok ≡ allBelow i (rises table s))
 
 abbrev μ-loop : tie.MeasureT-loop
-μ-loop table s n ok₀ i₀ ok i = n - i
+μ-loop table s edition n ok₀ i₀ ok i = n - i
 
 loop-holds : tie.Need-loop-holds Inv-loop μ-loop
 unfolding allBelow
@@ -37,8 +37,9 @@ add-loop c = search needs
 standing-of-requires : tie.Need-standing-of-requires Inv-loop μ-loop
 standing-of-requires c κs =
     let start = c .before .before .before in
-    let each = start .pre .4 (c .before .loop .i) (omega arith) in
-    (omega arith, omega arith, omega arith, each .0, each .1)
+    let frame = start .pre .1 in
+    let each = start .pre .2 (c .before .loop .i) (omega arith) in
+    (start .pre .0, frame .edition, omega (arith, frame .few), omega (arith, frame .long), each .0, each .1)
 
 add-standing-of : tie.Need-add-standing-of Inv-loop μ-loop
 add-standing-of c = search needs
@@ -46,8 +47,10 @@ add-standing-of c = search needs
 standing-of-requires-2 : tie.Need-standing-of-requires-2 Inv-loop μ-loop
 standing-of-requires-2 c κs =
     let at = c .before .before in
-    let each = at .before .before .pre .4 (at .loop .i + 1) (omega arith) in
-    (omega arith, omega arith, omega arith, each .0, each .1)
+    let start = at .before .before in
+    let frame = start .pre .1 in
+    let each = start .pre .2 (at .loop .i + 1) (omega arith) in
+    (start .pre .0, frame .edition, omega (arith, frame .few), omega (arith, frame .long), each .0, each .1)
 
 add-i : tie.Need-add-i Inv-loop μ-loop
 add-i c = search needs
@@ -67,7 +70,7 @@ returns : tie.Need-returns Inv-loop μ-loop
 unfolding rising planIn
 returns c =
     let start = c .before .before .before in
-    let end : c .before .loop .i ≡ countIn (start .args .s .now) - 1 = omega arith in
+    let end : c .before .loop .i ≡ countIn (start .args .s .now) - 1 = omega (arith, start .pre .1 .counted) in
     c .before .loop .inv .1 ∙ ap (λ (k : ℕ). allBelow k (rises (start .args .table .now) (start .args .s .now))) end
 
 pub rising-spec : {M : Type 1} → statement M

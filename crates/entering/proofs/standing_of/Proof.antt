@@ -4,7 +4,8 @@ use mathlib.Core.Path.{_≡_, ap, _∙_}
 use native.Mathlib.Omega.{arith}
 use Rattle.table.specs.Tree.{treeOf}
 use Rattle.layout.specs.Bytes.{byteAt}
-use Rattle.layout.specs.Format.{entryIn, planIn}
+use Rattle.layout.specs.Format.{entryAt, entryIn, planIn}
+use Rattle.layout.specs.declared.Edition.{Edition}
 use Rattle.planlaws.specs.Reading.{standing}
 use borrow.Author.Needs.{needs}
 use Rattle.entering.proofs.standing_of.Statement.{statement}
@@ -17,7 +18,9 @@ start c = c .before .before .before
 -- The node of the entry, and its level.
 node : (c : tie.After-byte) → c .byte .result ≡ planIn (start c .args .s .now) .entry (start c .args .i) .node
 unfolding planIn entryIn
-node c = c .byte .ensures .0 ∙ ap (byteAt _) (c .before .entry-at .ensures)
+node c =
+    let s = start c in
+    c .byte .ensures .0 ∙ ap (byteAt _) (c .before .entry-at .ensures ∙ ap (λ (e : Edition). entryAt e (s .args .i)) (s .pre .1))
 
 level : (c : tie.After-natural) → let x = start (c .before) .args in c .natural .result ≡ treeOf (x .table .now) .level (planIn (x .s .now) .entry (x .i) .node)
 unfolding treeOf

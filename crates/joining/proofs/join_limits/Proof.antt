@@ -15,4 +15,6 @@ join-limits-spec =
     (λ c κs. tt)
     (λ c κs. tt)
     (λ c κs. tt)
+    (λ c κs. tt)
+    (λ c κs. tt)
     (λ c. tested _ _ (search limits depth 8)))

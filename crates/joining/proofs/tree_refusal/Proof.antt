@@ -4,9 +4,9 @@ use native.Mathlib.Omega.{arith}
 use borrow.Author.Needs.{needs}
 use Rattle.numbers.specs.Whole.{plus}
 use Rattle.table.specs.Calls.{joinRefusal}
-use Rattle.table.proofs.Refusals.{causes, found, holds, fails}
+use Rattle.table.proofs.Refusals.{causes, handed-on, found, holds, fails}
 use Rattle.treelaws.specs.Joins.{refusalOf, joinedBy}
-use Rattle.joining.specs.NewNodes.{joinLimits, joinOf, Placeable}
+use Rattle.joining.specs.NewNodes.{joinLimits, sumsRefusal, joinOf, Placeable}
 use Rattle.joining.proofs.tree_refusal.Statement.{statement}
 use Rattle.joining.proofs.tree_refusal.Tie as tie
 
@@ -27,7 +27,7 @@ placeable c =
     }
 
 pub tree-refusal-spec : {M : Type 1} → statement M
-unfolding refusalOf joinRefusal joinLimits joinOf joinedBy plus
+unfolding refusalOf joinRefusal joinLimits sumsRefusal joinOf joinedBy plus
 tree-refusal-spec =
     tie.close
     (tie.spec
@@ -40,7 +40,4 @@ tree-refusal-spec =
     (λ c κs. search needs)
     (λ c. (found _ _ (search causes depth 9 fits 4000), omega arith))
     (λ c κs. placeable c)
-    (λ c. (found _ _ (search causes depth 9 fits 4000), omega arith))
-    (λ c κs. placeable (c .before .before))
-    (λ c. (found _ _ (search causes depth 9 fits 4000), omega arith))
-    (λ c. (found _ _ (search causes depth 9 fits 4000), omega arith)))
+    (λ c. (found _ _ (search (causes, handed-on) depth 9 fits 4000), c .sums-refusal .ensures .1)))

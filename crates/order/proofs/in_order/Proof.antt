@@ -10,10 +10,9 @@ use Rattle.numbers.proofs.Tests.{same-truth, and-true, and-left, and-right}
 use Rattle.table.specs.Limits.{tableLength}
 use Rattle.table.specs.Tree.{treeOf, eachClass}
 use Rattle.table.specs.Order.{headerInOrder, rootInOrder, inOrder}
-use Rattle.rating.proofs.Under.{class-sums}
 use Rattle.records.specs.Record.{recordsInOrder}
 use Rattle.order.specs.Cover.{classCovers}
-use Rattle.order.proofs.Small.{totals-start, totals-sums}
+use Rattle.order.proofs.Small.{totals-start}
 use Rattle.order.proofs.Verdict.{stages, from-stages, out-of-order, testable, waiting-small, depth-small}
 use borrow.Author.Needs.{needs}
 use Rattle.order.proofs.in_order.Statement.{statement}
@@ -44,7 +43,7 @@ records c = sym (c .before .records-in-order .ensures) ∙ and-right (c .before 
 
 -- From the sums back to the records, and from past the test of the classes to the sums.
 abbrev shaped-at : tie.After-totals → tie.Else2
-shaped-at c = c .before .before .before .before .before .before
+shaped-at c = c .before .before .before .before .before
 
 abbrev summed : tie.After-debts2 → tie.After-totals
 summed c = c .before .before .before .before
@@ -79,32 +78,32 @@ returns-2 c =
     (not-true _ (c .if2 .taken))
 
 totals-requires : tie.Need-totals-requires
-totals-requires c κs = let shaped = c .before .before .before .before .before in (long shaped, records shaped, totals-start _)
+totals-requires c κs = let shaped = c .before .before .before .before in (long shaped, records shaped, totals-start _)
 
 classes-cover-requires : tie.Need-classes-cover-requires
 classes-cover-requires c κs =
     let sums = summed c in
-    (long (shaped-at sums), records (shaped-at sums), totals-sums _ _ _ _ _ _ (sums .totals .ensures))
+    (long (shaped-at sums), records (shaped-at sums), sums .totals .ensures)
 
 returns-3 : tie.Need-returns-3
 returns-3 c = out-of-order _ (c .before .classes-cover .result) (λ s. c .before .classes-cover .ensures ∙ s .classes) (not-true _ (c .if3 .taken))
 
 rates-in-order-requires : tie.Need-rates-in-order-requires
 rates-in-order-requires c κs =
-    let covers = c .before .before in
+    let covers = c .before in
     let shaped = past covers in
     let sums = summed (covers .before .before) .totals .ensures in
-    (testable _ (long shaped) (root shaped) (records shaped) (covered covers), class-sums _ _ _ (sums .fixed) (sums .weights))
+    (testable _ (long shaped) (root shaped) (records shaped) (covered covers), sums .shares)
 
 queues-in-order-requires : tie.Need-queues-in-order-requires
 queues-in-order-requires c κs =
-    let shaped = past (c .before .before .before) in
+    let shaped = past (c .before .before) in
     (long shaped, waiting-small _ (records shaped), depth-small _ (records shaped))
 
 -- The last two tests, in whichever order the code joins them.
 returns-4 : tie.Need-returns-4
 returns-4 c =
-    let covers = c .before .before .before .before in
+    let covers = c .before .before .before in
     let shaped = past covers in
     let rates = c .before .rates-in-order in
     let queues = c .queues-in-order in

@@ -1,11 +1,11 @@
 -- `reading::build` meets its contract: stage by stage, the first refusal counts.
-use mathlib.Core.Path.{_≡_, sym, _∙_}
+use mathlib.Core.Path.{_≡_, sym, ap, ap₂, _∙_}
 use mathlib.Core.Bool.{true}
 use native.Mathlib.Omega.{arith}
 use borrow.Author.Tests.{not-true, not-false}
 use lib.IntN.{pos}
 use Rattle.table.specs.Calls.{openRefusal}
-use Rattle.layout.specs.Format.{planIn, formed}
+use Rattle.layout.specs.Format.{startOf, planLength, editionIn, countIn, planIn, formed, Framed}
 use Rattle.planlaws.specs.Reading.{openedFor, entriesRefusal, rising}
 use Rattle.layout.proofs.Codec.{formed-facts}
 use Rattle.planlaws.proofs.Accepted.{accepted-plan}
@@ -14,12 +14,16 @@ use borrow.Author.Needs.{needs}
 use Rattle.reading.proofs.build.Statement.{statement}
 use Rattle.reading.proofs.build.Tie as tie
 
--- Back from a stage that has passed: to the start, to where the bytes were judged, to where the table was opened.
+-- Back from a stage that has passed: to the start, to where the bytes were judged and the edition was met, to where the table
+-- was opened.
 abbrev start : tie.Else1 → tie.Start
 start c = c .before .before .before
 
 abbrev judged : tie.Else2 → tie.Else1
-judged c = c .before .before .before .before
+judged c = c .before .before .before .before .before
+
+abbrev met : tie.Else2 → tie.After-edition-in
+met c = c .before .before .before .before
 
 abbrev opened : tie.Else3 → tie.Else2
 opened c = c .before .before .before .before .before
@@ -36,6 +40,15 @@ opening c = sym (c .before .before .open-plan .ensures .0) ∙ c .if2 .left
 joining : (c : tie.After-join-entries) → let s = start (judged (c .before .before .before)) in c .join-entries .result ≡ entriesRefusal (openedFor (s .args .table .now) (planIn (s .args .s .now))) (planIn (s .args .s .now)) (planIn (s .args .s .now) .count)
 joining c = let s = start (judged (c .before .before .before)) in cc (plan-count (s .args .s .now))
 
+-- The bytes in the edition that was met, with the count that was read.
+framed : (c : tie.After-count-in) → let past = c .before in Framed (start (judged past) .args .s .now) (met past .edition-in .result) (c .count-in .result)
+framed c =
+    let past = c .before in
+    let form = formed-facts _ (right (judged past)) in
+    let edition = met past .edition-in .ensures in
+    let counted = c .count-in .ensures in
+    record { edition = edition; counted = counted; few = omega (arith, form .count); long = form .long ∙ sym (ap₂ planLength edition counted) }
+
 formed-requires : tie.Need-formed-requires
 formed-requires c κs = search needs
 
@@ -46,8 +59,13 @@ returns c =
       (omega arith, λ z. absurd (omega arith)),
     )
 
+edition-in-requires : tie.Need-edition-in-requires
+edition-in-requires c κs = search needs
+
 open-plan-requires : tie.Need-open-plan-requires
-open-plan-requires c κs = omega (arith, formed-facts _ (right (c .before)) .long)
+open-plan-requires c κs =
+    let past = c .before in
+    (past .edition-in .ensures, omega (arith, formed-facts _ (right (past .before)) .long, ap startOf (past .edition-in .ensures)))
 
 same-length : tie.Need-same-length
 same-length c = search needs
@@ -55,20 +73,21 @@ same-length c = search needs
 returns-2 : tie.Need-returns-2
 returns-2 c =
     let call = c .before .before in
-    let past = call .before .before in
+    let past = call .before .before .before in
     let number = call .open-plan .ensures .0 in (
       number ∙ sym (wrong-open _ _ (start past .pre) (right past) (λ z. c .if2 .taken (number ∙ z))),
       (omega arith, λ z. absurd (c .if2 .taken z)),
     )
 
 count-in-requires : tie.Need-count-in-requires
-count-in-requires c κs = omega (arith, formed-facts _ (right (judged c)) .long)
+count-in-requires c κs =
+    let edition = met c .edition-in .ensures in
+    (edition, omega (arith, formed-facts _ (right (judged c)) .long, ap startOf edition))
 
 join-entries-requires : tie.Need-join-entries-requires
 join-entries-requires c κs =
-    let past = judged (c .before .before) in
-    let form = formed-facts _ (right past) in
-    (right past, c .before .count-in .ensures, omega (arith, form .count), omega (arith, form .long))
+    let past = c .before .before in
+    (right (judged past), framed (c .before))
 
 same-length-2 : tie.Need-same-length-2
 same-length-2 c = search needs
@@ -86,12 +105,9 @@ rising-requires : tie.Need-rising-requires
 rising-requires c κs =
     let all = c .before in
     let join = all .before .before in
-    let past = opened all in
-    let form = formed-facts _ (right (judged past)) in (
-      omega arith,
-      join .before .before .count-in .ensures,
-      omega (arith, form .count),
-      omega (arith, form .long),
+    let past = opened all in (
+      omega (arith, start (judged past) .pre, judged past, met past, past .before .before, past .before, join .before, join),
+      framed (join .before .before),
       joined-entries _ _ _ _ _ (opening past) (past .before .before .open-plan .ensures .1 .1) (join .join-entries .ensures .1 .1 (all .if3 .left)) (sym (join .join-entries .ensures .0) ∙ all .if3 .left),
     )
 
@@ -135,6 +151,7 @@ build-spec =
     (tie.spec
     formed-requires
     returns
+    edition-in-requires
     open-plan-requires
     same-length
     returns-2

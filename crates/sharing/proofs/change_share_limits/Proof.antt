@@ -7,4 +7,4 @@ use Rattle.sharing.proofs.change_share_limits.Tie as tie
 pub change-share-limits-spec : {M : Type 1} → statement M
 unfolding shareLimits
 change-share-limits-spec =
-    tie.close (tie.spec (λ c κs. tt) (λ c κs. tt) (λ c κs. tt) (λ c. tested _ _ (search limits)))
+    tie.close (tie.spec (λ c κs. tt) (λ c κs. tt) (λ c κs. tt) (λ c κs. tt) (λ c κs. tt) (λ c. tested _ _ (search limits depth 6)))

@@ -6,8 +6,9 @@ use native.Mathlib.Omega.{arith}
 use lib.IntN.{pos}
 use mir.Syntax.{w64}
 use mir.ValLaws.{toZ-ofZ}
+use Rattle.numbers.specs.Whole.{plus}
 use Rattle.numbers.proofs.Every.{head-holds, rest-hold}
-use Rattle.table.specs.Limits.{lastNode, fixed, weighted, wholeShare}
+use Rattle.table.specs.Limits.{lastNode, fixed, stated, shareLimit}
 use Rattle.table.specs.Calls.{changeShareRefusal}
 use Rattle.table.proofs.Refusals.{causes, found, holds, number-of}
 use Rattle.sharing.specs.Limits.{shareLimits}
@@ -34,8 +35,8 @@ same c =
     let l1 = within second in
     let l2 = rest-hold _ _ l1 in (
       number-of 0 lastNode (c .before .before .natural .ensures) (s .node) (head-holds _ _ l1),
-      number-of fixed weighted (c .before .natural2 .ensures) (s .kind) (head-holds _ _ l2),
-      number-of 1 wholeShare (c .natural3 .ensures) (s .share) (head-holds _ _ (rest-hold _ _ l2)),
+      number-of fixed stated (c .before .natural2 .ensures) (s .kind) (head-holds _ _ l2),
+      number-of 1 (shareLimit (plus (start second .args .kind))) (c .natural3 .ensures) (s .share) (head-holds _ _ (rest-hold _ _ l2)),
     )
 
 tree-refusal-requires : tie.Need-tree-refusal-requires

@@ -3,12 +3,13 @@ use mathlib.Core.Path.{_≡_, sym, ap, _∙_}
 use native.Mathlib.Omega.{arith}
 use borrow.Author.Needs.{needs}
 use Rattle.table.specs.Tree.{treeOf}
+use Rattle.table.specs.Limits.{fixed}
 use Rattle.table.specs.Rates.{fixedSum}
 use Rattle.table.proofs.Facts.{facts}
 use Rattle.table.proofs.Passed.{long}
-use Rattle.rating.specs.declared.sums.Summand.the-variants.{FixedShares}
+use Rattle.rating.specs.declared.sums.Summand.the-variants.{Shares}
 use Rattle.rating.proofs.Summable.{in-order-summable}
-use Rattle.sharing.proofs.Sums.{own-share, class-shares, shares-with}
+use Rattle.sharing.proofs.Sums.{own-fixed, shares-with}
 use Rattle.sharing.proofs.shares_above.Statement.{statement}
 use Rattle.sharing.proofs.shares_above.Tie as tie
 
@@ -24,16 +25,15 @@ shares-above-requires c κs =
     let f = facts t (s .pre .0) in
     let parent = above (c .before) in (
       f .long,
-      in-order-summable FixedShares t f,
-      omega (arith, c .fixed-share .ensures, own-share t (s .args .k) f (s .pre .1) (s .pre .2) (s .pre .3), ap (fixedSum (treeOf t)) parent),
+      in-order-summable (Shares fixed) t f,
+      omega (arith, c .kind-share .ensures, own-fixed t (s .args .k) f (s .pre .1) (s .pre .2) (s .pre .3), ap (fixedSum (treeOf t)) parent),
       s .pre .4,
-      rw parent (class-shares t (s .args .k) f (s .pre .1) (s .pre .2) (s .pre .3)),
     )
 
 returns : tie.Need-returns
 returns c =
     let s = c .before .before .before in
-    (rw (above (c .before .before), c .before .fixed-share .ensures) at (c .shares-above .ensures))
+    (rw (above (c .before .before), c .before .kind-share .ensures) at (c .shares-above .ensures))
     ∙ sym (shares-with _ _ (facts _ (s .pre .0)) (s .pre .1) (s .pre .2) (s .pre .3) (s .args .kind) (s .args .share))
 
 pub shares-above-spec : {M : Type 1} → statement M

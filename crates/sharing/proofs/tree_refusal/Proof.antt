@@ -8,8 +8,9 @@ use lib.IntN.{pos}
 use Rattle.numbers.specs.Whole.{plus}
 use Rattle.numbers.proofs.Every.{head-holds, rest-hold}
 use Rattle.numbers.proofs.Parts.{within-parts}
-use Rattle.table.specs.Limits.{nodes, wholeShare}
+use Rattle.table.specs.Limits.{nodes, greatestRate, shareLimit}
 use Rattle.table.specs.Calls.{changeShareRefusal}
+use Rattle.table.proofs.ShareKinds.{limit-le}
 use Rattle.table.proofs.Refusals.{causes, found, holds}
 use Rattle.table.proofs.Passed.{long, below}
 use Rattle.sharing.specs.Limits.{shareLimits}
@@ -21,9 +22,9 @@ low : (k kind share : ℕ) → shareLimits (pos k) (pos kind) (pos share) ≡ tr
 unfolding shareLimits plus
 low k kind share h = below 0 (pos k) (head-holds _ _ h)
 
-small : (k kind share : ℕ) → shareLimits (pos k) (pos kind) (pos share) ≡ true → share ≤ wholeShare
+small : (k kind share : ℕ) → shareLimits (pos k) (pos kind) (pos share) ≡ true → share ≤ greatestRate
 unfolding shareLimits plus
-small k kind share h = within-parts 1 wholeShare (pos share) (head-holds _ _ (rest-hold _ _ (rest-hold _ _ h))) .2
+small k kind share h = omega (arith, within-parts 1 (shareLimit kind) (pos share) (head-holds _ _ (rest-hold _ _ (rest-hold _ _ h))) .2, limit-le kind)
 
 there-requires : tie.Need-there-requires
 there-requires c κs = (long _ (c .pre .0), low _ _ _ (c .pre .1))
@@ -33,6 +34,13 @@ shares-above-requires c κs =
     let first = c .before in
     let pre = first .before .before .pre in
     (pre .0, low _ _ _ (pre .1), holds (first .before .there .ensures) (first .if1 .left), c .if2 .left, small _ _ _ (pre .1))
+
+stated-wrong-requires : tie.Need-stated-wrong-requires
+stated-wrong-requires c κs =
+    let second = c .before .before in
+    let first = second .before in
+    let pre = first .before .before .pre in
+    (pre .0, low _ _ _ (pre .1), holds (first .before .there .ensures) (first .if1 .left), second .if2 .left, small _ _ _ (pre .1))
 
 pub tree-refusal-spec : {M : Type 1} → statement M
 unfolding changeShareRefusal shareLimits plus
@@ -44,4 +52,6 @@ tree-refusal-spec =
     (λ c. (found _ _ (search causes), omega arith))
     shares-above-requires
     (λ c. (found _ _ (search causes), omega arith))
-    (λ c. (found _ _ (search causes depth 6), omega arith)))
+    stated-wrong-requires
+    (λ c. (found _ _ (search causes depth 7), omega arith))
+    (λ c. (found _ _ (search causes depth 7), omega arith)))

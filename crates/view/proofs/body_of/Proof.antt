@@ -7,8 +7,8 @@ use borrow.Author.Needs.{needs}
 use borrow.Author.Tests.{not-true, not-false}
 use Rattle.table.specs.Refusals.{accepted}
 use Rattle.layout.specs.Format.{formed}
-use Rattle.layout.proofs.Codec.{formed-facts}
 use Rattle.view.specs.Answer.{listedFrom, bodyAnswer, toldFound}
+use Rattle.view.proofs.Viewed.{headed}
 use Rattle.view.proofs.Listing.{listed-here, listed-later, listed-none, answer-plan, answer-no-plan, body-told}
 use Rattle.view.proofs.body_of.Statement.{statement}
 use Rattle.view.proofs.body_of.Tie as tie
@@ -30,14 +30,17 @@ returns : tie.Need-returns Inv-loop μ-loop
 unfolding toldFound
 returns c = answer-no-plan _ _ (sym (c .before .formed .ensures) ∙ not-true _ (c .if1 .taken))
 
+edition-in-requires : tie.Need-edition-in-requires Inv-loop μ-loop
+edition-in-requires c κs = search needs
+
 count-in-requires : tie.Need-count-in-requires Inv-loop μ-loop
-count-in-requires c κs = omega (arith, formed-facts _ (right c) .long)
+count-in-requires c κs = headed _ _ (right (c .before)) (c .edition-in .ensures)
 
 loop-holds : tie.Need-loop-holds Inv-loop μ-loop
-loop-holds c = (omega arith, answer-plan _ _ _ (right (c .before)) (c .count-in .ensures))
+loop-holds c = (omega arith, answer-plan _ _ _ (right (c .before .before)) (c .count-in .ensures))
 
 listed-at-requires : tie.Need-listed-at-requires Inv-loop μ-loop
-listed-at-requires c κs = (right (c .before .before .before), omega arith)
+listed-at-requires c κs = (right (c .before .before .before .before), omega arith)
 
 returns-2 : tie.Need-returns-2 Inv-loop μ-loop
 returns-2 c =
@@ -82,6 +85,7 @@ body-of-spec =
     μ-loop
     formed-requires
     returns
+    edition-in-requires
     count-in-requires
     loop-holds
     listed-at-requires

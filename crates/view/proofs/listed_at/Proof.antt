@@ -39,7 +39,7 @@ use denote.Triple.Spec.{Meets, tripleOf}
 use denote.Triple.Table.{entered, cited}
 use denote.Triple.Walked.{says, needs, Stays, stay-none, stay-none-slice, walkOf, goes-none, goes-none-slice, Walks, ends-at, walked, walk-meets}
 use denote.Exit.{yes}
-use Rattle.layout.specs.Format.{countIn, formed}
+use Rattle.layout.specs.Format.{editionIn, countIn, formed}
 use Rattle.view.specs.Views.{Views, EntryAt, BodyAt}
 use Rattle.view.specs.declared.View.{View}
 use Rattle.view.specs.declared.Entry.{Entry}
@@ -120,12 +120,12 @@ module _ {M : Type 1} (𝓤 : URA M) (H : Heap 𝓤) (A : Atoms 𝓤) (W : Given
 
   -- the view that is made, and what it shows
   abbrev Made : View → Type 0
-  Made r = (r .bytes ≡ s) × (r .count ≡ countIn (now s))
+  Made r = (r .bytes ≡ s) × (r .edition ≡ editionIn (now s)) × (r .count ≡ countIn (now s))
 
-  shown : (r : View) → Made r → Views (now (r .bytes)) (r .count) × (i < r .count)
+  shown : (r : View) → Made r → Views (now (r .bytes)) (r .edition) (r .count) × (i < r .count)
   shown r e =
       let bytes : now (r .bytes) ≡ now s = ap (λ (x : RefT (List ℕ)). now x) (e .0) in
-      (record { right = ap formed bytes ∙ right; counted = e .1 ∙ ap countIn (sym bytes) }, rw (e .1) within)
+      (record { right = ap formed bytes ∙ right; edition = e .1 ∙ ap editionIn (sym bytes); counted = e .2 ∙ ap countIn (sym bytes) }, rw (e .2) within)
 
   -- what the view hands out is what stands in the bytes
   in-bytes : (r : View) (x : Entry) (y : Body) → Made r → EntryAt (now (r .bytes)) i x → BodyAt (now (r .bytes)) i y → EntryAt (now s) i x × BodyAt (now s) i y

@@ -11,6 +11,7 @@ use std::time::Instant;
 
 use harness::{trees, Cabinet};
 use hds_engine::loads;
+use hds_engine::plan::{Edition, Plan};
 use hds_engine::table::{
     at, classes, get, waiting_in_all, BALANCE, CLIENT, DEPTH, NODES, PARENT, ROOT, WEIGHTED,
 };
@@ -105,7 +106,10 @@ fn cases() -> Vec<Case> {
             trees::renumber(&mut waiting, number);
             cases.push((name(&format!("look, every queue full, {numbers}")), waiting, look_at(1)));
         }
-        cases.push((name("plan read"), table.clone(), plan_read(&table)));
+        for (what, edition) in [("first", Edition::First), ("second", Edition::Second)] {
+            let read = plan_read(&table, edition);
+            cases.push((name(&format!("plan read, {what} edition")), table.clone(), read));
+        }
     }
     cases
 }
@@ -161,11 +165,9 @@ fn tick(controller: &mut dyn Controller, table: &mut [i64], list: &mut [i64]) {
     assert!(controller.tick(table, list).is_ok());
 }
 
-/// Reads the plan of a table.
-fn plan_read(table: &[i64]) -> Call {
-    let mut plan = vec![0; 9 + 11 * 63];
-    let length = Engine.plan_write(table, &mut plan).expect("a plan") as usize;
-    plan.truncate(length);
+/// Reads the plan of a table in an edition.
+fn plan_read(table: &[i64], edition: Edition) -> Call {
+    let plan = Plan::of_table(table).encode(edition);
     Box::new(move |controller, table, _| assert!(controller.plan_read(&plan, table).is_ok()))
 }
 

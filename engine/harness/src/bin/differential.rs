@@ -1,7 +1,8 @@
 //! The second engine and the archive, call by call: after each call the answers, all lent buffers and the guards around
 //! them are compared. `differential [random calls] [first seed]`. All runs of the archive but the wild ones stand before
 //! demand 3's judge too, and each faulty engine must be told from the archive, wrong renewals of rates by the scenes of
-//! changes too. The last line counts scenes, runs, judged runs and faulty engines.
+//! changes too, and misread stated rates and editions of plans by the scenes of these. The last line counts scenes, runs,
+//! judged runs and faulty engines.
 
 use std::process::ExitCode;
 use std::time::Instant;
@@ -72,10 +73,16 @@ fn compare(most: usize, first: u64) -> Result<Counts, String> {
         seed += 1;
     }
     counts.calls += random;
-    let changes = scenes::changes();
+    let (changes, stated) = (scenes::changes(), scenes::stated());
+    let editions = scenes::editions();
     for fault in FAULTS.into_iter().filter(|&fault| fault != Fault::None) {
-        let is_renewal = matches!(fault, Fault::WrongRenewal(_));
-        if !told_apart(fault) || is_renewal && !told_by(fault, &changes) {
+        let told_by_scenes = match fault {
+            Fault::WrongRenewal(_) => told_by(fault, &changes),
+            Fault::WrongStated(_) => told_by(fault, &stated),
+            Fault::WrongEditions(_) => told_by(fault, &editions),
+            _ => true,
+        };
+        if !told_apart(fault) || !told_by_scenes {
             return Err(format!("{fault:?} was not told from the archive"));
         }
         counts.faults += 1;

@@ -10,6 +10,9 @@ enum-known-share c = search needs
 enum-known-share-2 : tie.Need-enum-known-share-2
 enum-known-share-2 c = search needs
 
+enum-known-share-3 : tie.Need-enum-known-share-3
+enum-known-share-3 c = search needs
+
 returns : tie.Need-returns
 unfolding shareIn
 returns c = search needs
@@ -18,5 +21,9 @@ returns-2 : tie.Need-returns-2
 unfolding shareIn
 returns-2 c = search needs
 
+returns-3 : tie.Need-returns-3
+unfolding shareIn
+returns-3 c = search needs
+
 pub share-in-spec : {M : Type 1} → statement M
-share-in-spec = tie.close (tie.spec enum-known-share enum-known-share-2 returns returns-2)
+share-in-spec = tie.close (tie.spec enum-known-share enum-known-share-2 enum-known-share-3 returns returns-2 returns-3)

@@ -10,10 +10,10 @@ use Rattle.layout.proofs.forms.entries_formed.Statement.{statement}
 use Rattle.layout.proofs.forms.entries_formed.Tie as tie
 
 abbrev Inv-loop : tie.InvT-loop
-Inv-loop s n ok₀ i₀ ok i = (i ≤ n) × (ok ≡ allBelow i (entryFormed s))
+Inv-loop s edition n ok₀ i₀ ok i = (i ≤ n) × (ok ≡ allBelow i (entryFormed s))
 
 abbrev μ-loop : tie.MeasureT-loop
-μ-loop s n ok₀ i₀ ok i = n - i
+μ-loop s edition n ok₀ i₀ ok i = n - i
 
 loop-holds : tie.Need-loop-holds Inv-loop μ-loop
 unfolding allBelow

@@ -1,14 +1,43 @@
 -- `layout::forms::node_at` meets its contract: the entry of the node is the one in the bytes.
-use Prim.Native.Nat.{ℕ, _+_}
-use mathlib.Core.Path.{_≡_, ap, _∙_}
+use Prim.Native.Nat.{ℕ, _+_, _<_, _≤_}
+use mathlib.Core.Path.{_≡_, ap, ap₂, _∙_}
 use native.Mathlib.Omega.{arith}
-use Rattle.layout.specs.Bytes.{byteAt, le2, le4}
-use Rattle.layout.specs.Format.{entryParentAt, bodyShareAt, bodyDepthAt, bodyAt, countIn, entryIn}
+use lib.ListN.{length}
+use Rattle.layout.specs.declared.Edition.{Edition}
+use Rattle.layout.specs.Bytes.{byteAt, le4}
+use Rattle.layout.specs.Format.{entryParentAt, bodyShareAt, shareLength, bodyLength, entryAt, bodyAt, planLength, editionIn, countIn, shareFrom, entryIn}
 use Rattle.layout.specs.Nodes.{entryBy}
+use Rattle.layout.proofs.Editions.{start-small, body-within, body-small, share-length-small, last-kind-small}
 use Rattle.layout.proofs.Codec.{same-entry}
 use borrow.Author.Needs.{needs}
 use Rattle.layout.proofs.forms.node_at.Statement.{statement}
 use Rattle.layout.proofs.forms.node_at.Tie as tie
+
+-- Back from where the body is placed to the start.
+abbrev start : tie.After-body-at → tie.Start
+start c = c .before .before .before
+
+-- The body ends within the bytes, and its place is a small number.
+within : (c : tie.After-body-at) → let s = start c in c .body-at .result + bodyLength (s .args .edition) ≤ length (s .args .s .now)
+within c =
+    let s = start c in
+    omega (arith, c .body-at .ensures, s .pre .0 .long, body-within (s .args .edition) (s .args .n) (s .args .i) (s .pre .1))
+
+small : (c : tie.After-body-at) → c .body-at .result < 65536
+small c =
+    let s = start c in
+    omega (arith, c .body-at .ensures, body-small (s .args .edition) (s .args .n) (s .args .i) (s .pre .0 .few) (omega (arith, s .pre .1)))
+
+-- The body stands where edition and count in the bytes have it, and the kind is the one there.
+body : (c : tie.After-body-at) → let x = start c .args in c .body-at .result ≡ bodyAt (editionIn (x .s .now)) (countIn (x .s .now)) (x .i)
+body c = let s = start c in c .body-at .ensures ∙ ap₂ (λ (e : Edition) (n : ℕ). bodyAt e n (s .args .i)) (s .pre .0 .edition) (s .pre .0 .counted)
+
+abbrev placed : tie.After-byte3 → tie.After-body-at
+placed c = c .before .before .before
+
+kind : (c : tie.After-byte3) → let x = start (placed c) .args in c .byte3 .result ≡ entryIn (x .s .now) (x .i) .kind
+unfolding entryIn
+kind c = c .byte3 .ensures .0 ∙ ap (byteAt _) (body (placed c))
 
 entry-at-requires : tie.Need-entry-at-requires
 entry-at-requires c κs = search needs
@@ -26,55 +55,46 @@ byte-requires-2 : tie.Need-byte-requires-2
 byte-requires-2 c κs = search needs
 
 byte-requires-3 : tie.Need-byte-requires-3
-byte-requires-3 c κs = search needs
+byte-requires-3 c κs = let s = within (c .before .before) in omega (arith, s)
 
-add-pair : tie.Need-add-pair
-add-pair c = search needs
+add-at-share : tie.Need-add-at-share
+add-at-share c = omega (arith, small (placed c))
 
-pair-requires : tie.Need-pair-requires
-pair-requires c κs = search needs
+share-requires : tie.Need-share-requires
+share-requires c κs = omega (arith, within (placed c))
+
+share-length-requires : tie.Need-share-length-requires
+share-length-requires c κs = search needs
 
 add-four : tie.Need-add-four
-add-four c = search needs
+add-four c = omega (arith, small (placed (c .before .before)), c .share-length .ensures .1)
 
 four-requires : tie.Need-four-requires
-four-requires c κs = search needs
-
--- Back from where the kind is read to where the body was placed, and from there to the start.
-abbrev placed : tie.After-byte3 → tie.After-body-at
-placed c = c .before .before .before
-
-abbrev start : tie.After-body-at → tie.Start
-start c = c .before .before .before
-
--- The body stands where the count in the bytes has it, and the kind is the one there.
-body : (c : tie.After-body-at) → c .body-at .result ≡ bodyAt (countIn (start c .args .s .now)) (start c .args .i)
-body c = c .body-at .ensures ∙ ap (λ (n : ℕ). bodyAt n (start c .args .i)) (start c .pre .0)
-
-kind : (c : tie.After-byte3) → let x = start (placed c) .args in c .byte3 .result ≡ entryIn (x .s .now) (x .i) .kind
-unfolding entryIn
-kind c = c .byte3 .ensures .0 ∙ ap (byteAt _) (body (placed c))
+four-requires c κs = omega (arith, within (placed (c .before .before)), c .share-length .ensures .0)
 
 sort-of-requires : tie.Need-sort-of-requires
-sort-of-requires c κs = let read = c .before .before in omega (arith, kind read, start (placed read) .pre .4)
+sort-of-requires c κs = let read = c .before .before .before in let s = start (placed read) in omega (arith, kind read, s .pre .2, last-kind-small (s .args .edition))
 
 returns : tie.Need-returns
 unfolding entryBy entryIn
 returns c =
-    let read = c .before .before .before in
-    let s = start (placed read) .args .s .now in
-    let entry = placed read .before .entry-at .ensures in
+    let read = c .before .before .before .before in
+    let start = start (placed read) in
+    let s = start .args .s .now in
+    let edition = start .pre .0 .edition in
+    let entry = placed read .before .entry-at .ensures ∙ ap (λ (e : Edition). entryAt e (start .args .i)) edition in
     let at-body = body (placed read) in
     let number = read .before .before .byte in
     let parent = read .before .byte2 in
-    let share = c .before .before .pair in
+    let share = c .before .before .before .share in
+    let width = c .before .before .share-length in
     let depth = c .before .four in (
       same-entry _ _
           (number .ensures .0 ∙ ap (byteAt s) entry)
           (parent .ensures .0 ∙ ap (λ (a : ℕ). byteAt s (a + entryParentAt)) entry)
           (c .sort-of .ensures .0 ∙ kind read)
-          (c .sort-of .ensures .1 ∙ share .ensures .0 ∙ ap (λ (a : ℕ). le2 s (a + bodyShareAt)) at-body)
-          (depth .ensures .0 ∙ ap (λ (a : ℕ). le4 s (a + bodyDepthAt)) at-body),
+          (c .sort-of .ensures .1 ∙ share .ensures .0 ∙ ap₂ (λ (e : Edition) (a : ℕ). shareFrom e s (a + bodyShareAt)) edition at-body)
+          (depth .ensures .0 ∙ ap (le4 s) (omega (arith, at-body, width .ensures .0, ap shareLength edition))),
       (number .ensures .1, parent .ensures .1, omega (arith, c .sort-of .ensures .1, share .ensures .1), depth .ensures .1),
     )
 
@@ -88,8 +108,9 @@ node-at-spec =
     add-byte
     byte-requires-2
     byte-requires-3
-    add-pair
-    pair-requires
+    add-at-share
+    share-requires
+    share-length-requires
     add-four
     four-requires
     sort-of-requires

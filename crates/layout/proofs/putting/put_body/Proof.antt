@@ -3,8 +3,9 @@ use Prim.Native.Nat.{_+_}
 use mathlib.Core.Path.{refl}
 use mathlib.Core.List.{[], _∷_}
 use native.Mathlib.Omega.{arith}
-use Rattle.layout.specs.Bytes.{bytes2, bytes4}
-use Rattle.layout.specs.Format.{bodyShareAt, bodyDepthAt}
+use Rattle.layout.specs.Bytes.{bytes4}
+use Rattle.layout.specs.Format.{bodyShareAt, shareBytes}
+use Rattle.layout.proofs.Editions.{length-share}
 use Rattle.layout.proofs.Written.{written-after}
 use borrow.Author.Needs.{needs}
 use Rattle.layout.proofs.putting.put_body.Statement.{statement}
@@ -13,11 +14,14 @@ use Rattle.layout.proofs.putting.put_body.Tie as tie
 put-byte-requires : tie.Need-put-byte-requires
 put-byte-requires c κs = search needs
 
-add-put-pair : tie.Need-add-put-pair
-add-put-pair c = search needs
+add-at : tie.Need-add-at
+add-at c = search needs
 
-put-pair-requires : tie.Need-put-pair-requires
-put-pair-requires c κs = search needs
+put-share-requires : tie.Need-put-share-requires
+put-share-requires c κs = search needs
+
+share-length-requires : tie.Need-share-length-requires
+share-length-requires c κs = search needs
 
 add-put-four : tie.Need-add-put-four
 add-put-four c = search needs
@@ -28,26 +32,21 @@ put-four-requires c κs = search needs
 same-length : tie.Need-same-length
 same-length c = search needs
 
--- Back from the last call to the one before, and from that to the first.
-abbrev second : tie.After-put-four → tie.After-put-pair
-second c = c .before .before .before .before
-
-abbrev first : tie.After-put-pair → tie.After-put-byte
-first c = c .before .before .before .before
-
 returns : tie.Need-returns
-unfolding bytes4 bytes2
 returns c =
     let last = c .before .before in
-    let middle = second last in
-    let front = first middle in
+    let width = last .before in
+    let middle = width .before .before .before .before in
+    let front = middle .before .before .before .before in
     let start = front .before .before .before in
     let x = start .args in
     let b = x .buffer .now in
-    written-after b (x .a) (x .a + bodyDepthAt) (x .kind ∷ bytes2 (x .share)) (bytes4 (x .depth)) (omega (arith, start .pre .0)) refl
+    written-after b (x .a) (x .a + bodyShareAt + width .share-length .result) (x .kind ∷ shareBytes (x .edition) (x .share)) (bytes4 (x .depth))
+    (omega (arith, start .pre .0, length-share (x .edition) (x .share)))
+    (omega (arith, width .share-length .ensures .0, length-share (x .edition) (x .share)))
     (last .put-four .ensures)
-    (written-after b (x .a) (x .a + bodyShareAt) (x .kind ∷ []) (bytes2 (x .share)) (omega (arith, start .pre .0)) refl
-    (middle .put-pair .ensures)
+    (written-after b (x .a) (x .a + bodyShareAt) (x .kind ∷ []) (shareBytes (x .edition) (x .share)) (omega (arith, start .pre .0)) refl
+    (middle .put-share .ensures)
     (front .put-byte .ensures))
 
 pub put-body-spec : {M : Type 1} → statement M
@@ -55,8 +54,9 @@ put-body-spec =
     tie.close
     (tie.spec
     put-byte-requires
-    add-put-pair
-    put-pair-requires
+    add-at
+    put-share-requires
+    share-length-requires
     add-put-four
     put-four-requires
     same-length

@@ -1,4 +1,4 @@
--- `order::classes::class_covers` meets its contract: three tests together.
+-- `order::classes::class_covers` meets its contract: four tests together.
 use Prim.Native.Nat.{ℕ, _+_}
 use mathlib.Core.Path.{_≡_, sym, ap, ap₂, _∙_}
 use mathlib.Core.Bool.{true}
@@ -56,19 +56,25 @@ depth-grains-requires c κs = omega (arith, small _ _ (node (c .before .before .
 add-covered-2 : tie.Need-add-covered-2
 add-covered-2 c = omega (arith, small _ _ (node (shown c)))
 
+stated-limit-requires : tie.Need-stated-limit-requires
+stated-limit-requires c κs = search needs
+
 returns-2 : tie.Need-returns-2
 unfolding treeOf classCovers balance
 returns-2 c =
-    let start = shown c .before .before in
+    let limit = c .before .before in
+    let grains = limit .before in
+    let start = shown grains .before .before in
     let sums = start .pre .3 in
-    let depth = c .before .before .before .natural .ensures in
-    let needed = ap₂ _+_ (sums .credits) (c .before .before .negative .ensures) in
-    let covered = ap₂ _+_ (ap₂ _+_ (sums .debts) (c .before .natural2 .ensures)) (c .depth-grains .ensures) in
+    let depth = grains .before .before .before .natural .ensures in
+    let needed = ap₂ _+_ (sums .credits) (grains .before .before .negative .ensures) in
+    let covered = ap₂ _+_ (ap₂ _+_ (sums .debts) (grains .before .natural2 .ensures)) (grains .depth-grains .ensures) in
     joined-as
     (same-tests (ap (λ (n : ℕ). leb n wholeShare) (sums .fixed))
     (same-tests (ap₂ leb (sums .depths) depth)
-    (last-test (ap₂ leb needed covered))))
-    ∙ sym (test-here _ (classCovers (start .args .table .now)) _ (class (shown c)))
+    (same-tests (ap₂ leb needed covered)
+    (last-test (ap₂ leb (sums .stated) (limit .stated-limit .ensures))))))
+    ∙ sym (test-here _ (classCovers (start .args .table .now)) _ (class (shown grains)))
 
 pub class-covers-spec : {M : Type 1} → statement M
 class-covers-spec =
@@ -83,4 +89,5 @@ class-covers-spec =
     add-covered
     depth-grains-requires
     add-covered-2
+    stated-limit-requires
     returns-2)

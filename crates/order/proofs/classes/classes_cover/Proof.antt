@@ -9,19 +9,22 @@ use Rattle.table.specs.Tree.{treeOf, isClass, testIf, eachClass}
 use Rattle.rating.specs.declared.sums.Summand.the-variants.{Credits, Debts}
 use Rattle.rating.specs.Sums.{term}
 use Rattle.order.specs.Cover.{classCovers}
-use Rattle.order.proofs.Small.{sum-small}
+use Rattle.order.proofs.Small.{sum-small, totals-sums}
 use Rattle.order.proofs.classes.classes_cover.Statement.{statement}
 use Rattle.order.proofs.classes.classes_cover.Tie as tie
 
 abbrev Inv-loop : tie.InvT-loop
-Inv-loop table fixed depths credits debts ok₀ c₀ ok c = (c ≤ nodes) × (ok ≡ allBelow c (λ c. testIf (isClass (treeOf table) c) (classCovers table) c))
+Inv-loop table shares depths credits debts ok₀ c₀ ok c = (c ≤ nodes) × (ok ≡ allBelow c (λ c. testIf (isClass (treeOf table) c) (classCovers table) c))
 
 abbrev μ-loop : tie.MeasureT-loop
-μ-loop table fixed depths credits debts ok₀ c₀ ok c = nodes - c
+μ-loop table shares depths credits debts ok₀ c₀ ok c = nodes - c
 
 loop-holds : tie.Need-loop-holds Inv-loop μ-loop
 unfolding allBelow
 loop-holds c = (omega arith, refl)
+
+under-requires : tie.Need-under-requires Inv-loop μ-loop
+under-requires c κs = omega arith
 
 mul-class-covers : tie.Need-mul-class-covers Inv-loop μ-loop
 mul-class-covers c = omega arith
@@ -41,12 +44,6 @@ mul-class-covers-3 c = omega arith
 element-copy-out-class-covers-3 : tie.Need-element-copy-out-class-covers-3 Inv-loop μ-loop
 element-copy-out-class-covers-3 c = omega arith
 
-mul-class-covers-4 : tie.Need-mul-class-covers-4 Inv-loop μ-loop
-mul-class-covers-4 c = omega arith
-
-element-copy-out-class-covers-4 : tie.Need-element-copy-out-class-covers-4 Inv-loop μ-loop
-element-copy-out-class-covers-4 c = omega arith
-
 class-covers-requires : tie.Need-class-covers-requires Inv-loop μ-loop
 unfolding term
 class-covers-requires c κs =
@@ -55,7 +52,8 @@ class-covers-requires c κs =
     let t = inside .before .before .args .table .now in
     let k = inside .before .loop .c in
     let below : k < nodes = inside .loop-test .taken in
-    let sums = pre .2 k below in
+    let under = c .before .before .before .under in
+    let sums = totals-sums _ _ _ _ _ (pre .2) k below (under .result) (under .ensures .0) (under .ensures .2) in
     (pre .0, below, pre .1, sums, omega (arith, sums .credits, sum-small Credits t (pre .1) k), omega (arith, sums .debts, sum-small Debts t (pre .1) k))
 
 add-c : tie.Need-add-c Inv-loop μ-loop
@@ -78,14 +76,13 @@ classes-cover-spec =
     Inv-loop
     μ-loop
     loop-holds
+    under-requires
     mul-class-covers
     element-copy-out-class-covers
     mul-class-covers-2
     element-copy-out-class-covers-2
     mul-class-covers-3
     element-copy-out-class-covers-3
-    mul-class-covers-4
-    element-copy-out-class-covers-4
     class-covers-requires
     add-c
     loop-less

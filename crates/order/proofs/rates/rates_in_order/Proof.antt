@@ -12,11 +12,11 @@ use Rattle.order.proofs.rates.rates_in_order.Statement.{statement}
 use Rattle.order.proofs.rates.rates_in_order.Tie as tie
 
 abbrev Inv-loop : tie.InvT-loop
-Inv-loop table fixed weights ok₀ k₀ ok k =
+Inv-loop table shares ok₀ k₀ ok k =
     (0 < k) × (k ≤ nodes) × (ok ≡ allBelow k (λ j. testIf (there (treeOf table) j) (rateFollows table) j))
 
 abbrev μ-loop : tie.MeasureT-loop
-μ-loop table fixed weights ok₀ k₀ ok k = nodes - k
+μ-loop table shares ok₀ k₀ ok k = nodes - k
 
 loop-holds : tie.Need-loop-holds Inv-loop μ-loop
 loop-holds c = (omega arith, omega arith, sym (root-follows _))

@@ -1,24 +1,22 @@
--- `order::totals::add_node` meets its contract: each of the five sums is that of one node more.
+-- `order::totals::add_node` meets its contract: each of the sums is that of one node more.
 use borrow.Author.Needs.{needs}
-use Rattle.rating.specs.declared.sums.Summand.the-variants.{FixedShares, Weights, Depths, Credits, Debts}
-use Rattle.rating.proofs.Under.{one-share, one-side}
-use Rattle.order.proofs.Small.{summable}
+use Rattle.rating.specs.declared.sums.Summand.the-variants.{Depths, Credits, Debts}
+use Rattle.rating.proofs.Under.{one-side}
+use Rattle.order.proofs.Small.{summable, shareable}
 use Rattle.order.proofs.totals.add_node.Statement.{statement}
 use Rattle.order.proofs.totals.add_node.Tie as tie
 
-add-one-of-requires : tie.Need-add-one-of-requires
-add-one-of-requires c κs =
-    let pre = c .before .before .pre in
-    (pre .0, summable FixedShares _ (pre .1), summable Weights _ (pre .1), pre .2, pre .3, one-share _ _, pre .4 .fixed, pre .4 .weights)
+add-share-requires : tie.Need-add-share-requires
+add-share-requires c κs = let pre = c .before .pre in (pre .0, shareable _ (pre .1), pre .2, pre .3, pre .4 .shares)
 
 add-node-requires : tie.Need-add-node-requires
 add-node-requires c κs =
-    let pre = c .before .before .before .before .pre in
+    let pre = c .before .before .before .pre in
     (pre .0, summable Depths _ (pre .1), pre .2, pre .3, pre .4 .depths)
 
-add-one-of-requires-2 : tie.Need-add-one-of-requires-2
-add-one-of-requires-2 c κs =
-    let pre = c .before .before .before .before .before .before .before .pre in
+add-one-of-requires : tie.Need-add-one-of-requires
+add-one-of-requires c κs =
+    let pre = c .before .before .before .before .before .before .pre in
     (pre .0, summable Credits _ (pre .1), summable Debts _ (pre .1), pre .2, pre .3, one-side _ _, pre .4 .credits, pre .4 .debts)
 
 returns : tie.Need-returns
@@ -27,4 +25,4 @@ returns c = search needs
 pub add-node-spec : {M : Type 1} → statement M
 add-node-spec =
     tie.close
-    (tie.spec add-one-of-requires add-node-requires add-one-of-requires-2 returns)
+    (tie.spec add-share-requires add-node-requires add-one-of-requires returns)

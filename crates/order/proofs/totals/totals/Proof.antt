@@ -8,18 +8,18 @@ use Rattle.order.proofs.totals.totals.Statement.{statement}
 use Rattle.order.proofs.totals.totals.Tie as tie
 
 abbrev Inv-loop : tie.InvT-loop
-Inv-loop table fixed₀ weights₀ depths₀ credits₀ debts₀ k₀ fixed weights depths credits debts k =
-    (0 < k) × (k ≤ nodes) × Totals table k fixed weights depths credits debts
+Inv-loop table shares₀ depths₀ credits₀ debts₀ k₀ shares depths credits debts k =
+    (0 < k) × (k ≤ nodes) × Totals table k shares depths credits debts
 
 abbrev μ-loop : tie.MeasureT-loop
-μ-loop table fixed₀ weights₀ depths₀ credits₀ debts₀ k₀ fixed weights depths credits debts k = nodes - k
+μ-loop table shares₀ depths₀ credits₀ debts₀ k₀ shares depths credits debts k = nodes - k
 
 loop-holds : tie.Need-loop-holds Inv-loop μ-loop
 loop-holds c = (omega arith, omega arith, c .pre .2)
 
 add-node-requires : tie.Need-add-node-requires Inv-loop μ-loop
 add-node-requires c κs =
-    let at = c .before .before .before .before .before .before in
+    let at = c .before .before .before .before .before in
     let pre = at .before .pre in
     (pre .0, pre .1, at .loop .inv .0, omega arith, at .loop .inv .2)
 

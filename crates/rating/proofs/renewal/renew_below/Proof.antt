@@ -6,42 +6,42 @@ use native.Mathlib.Omega.{arith}
 use Rattle.table.specs.Limits.{nodes, lastLevel}
 use Rattle.table.specs.Tree.{treeOf}
 use Rattle.rating.specs.Renewal.{Onward}
-use Rattle.rating.proofs.Under.{sums-start, class-sums}
-use Rattle.rating.proofs.Rated.{fixed-summable, weight-summable, level-le}
-use Rattle.rating.proofs.Descent.{descent-start, descent-end, onward-start, onward-then, onward-at, same-class-sums}
+use Rattle.rating.proofs.Under.{share-sums-start}
+use Rattle.rating.proofs.Rated.{shareable, level-le}
+use Rattle.rating.proofs.Descent.{descent-start, descent-end, onward-start, onward-then, onward-at, same-share-sums}
 use Rattle.rating.proofs.renewal.renew_below.Statement.{statement}
 use Rattle.rating.proofs.renewal.renew_below.Tie as tie
 
 abbrev Inv-loop : tie.InvT-loop
-Inv-loop table₀ c fixed weights below₀ level₀ table below level = (0 < level) × Onward table₀ table c (level * nodes) below
+Inv-loop table₀ c shares below₀ level₀ table below level = (0 < level) × Onward table₀ table c (level * nodes) below
 
 abbrev μ-loop : tie.MeasureT-loop
-μ-loop table₀ c fixed weights below₀ level₀ table below level = suc lastLevel - level
+μ-loop table₀ c shares below₀ level₀ table below level = suc lastLevel - level
 
 -- From the loop back to the start, and from the call to the loop.
 abbrev start : tie.At-loop Inv-loop μ-loop → tie.Start Inv-loop μ-loop
-start c = c .before .before .before .before .before .before .before
+start c = c .before .before .before .before .before .before
 
 abbrev at : tie.After-below Inv-loop μ-loop → tie.At-loop Inv-loop μ-loop
-at c = c .before .before .before .before .before
+at c = c .before .before .before .before
 
 -- The class's level.
-level : (c : tie.After-natural Inv-loop μ-loop) → let s = c .before .before .before .before .before .before in c .natural .result ≡ treeOf (s .args .table .now) .level (s .args .c)
+level : (c : tie.After-natural Inv-loop μ-loop) → let s = c .before .before .before .before .before in c .natural .result ≡ treeOf (s .args .table .now) .level (s .args .c)
 unfolding treeOf
 level c = c .natural .ensures
 
 share-sums-requires : tie.Need-share-sums-requires Inv-loop μ-loop
-share-sums-requires c κs = let f = c .before .before .before .pre in (f .long, fixed-summable _ _ f, weight-summable _ _ f, sums-start _ _, sums-start _ _)
+share-sums-requires c κs = let f = c .before .before .pre in (f .long, shareable _ _ f, share-sums-start _)
 
 natural-requires : tie.Need-natural-requires Inv-loop μ-loop
-natural-requires c κs = let f = c .before .before .before .before .before .pre in (f .long, f .low, omega arith)
+natural-requires c κs = let f = c .before .before .before .before .pre in (f .long, f .low, omega arith)
 
 add-level : tie.Need-add-level Inv-loop μ-loop
-add-level c = let f = c .before .before .before .before .before .before .pre in omega (arith, level c, level-le _ _ f _ (f .low) (f .here))
+add-level c = let f = c .before .before .before .before .before .pre in omega (arith, level c, level-le _ _ f _ (f .low) (f .here))
 
 loop-holds : tie.Need-loop-holds Inv-loop μ-loop
 loop-holds c =
-    let f = c .before .before .before .before .before .before .pre in
+    let f = c .before .before .before .before .before .pre in
     (omega arith, onward-at _ _ _ _ _ _ (omega (arith, level c)) (onward-start _ _ _ _ (descent-start _ _ f)))
 
 renew-level-requires : tie.Need-renew-level-requires Inv-loop μ-loop
@@ -49,7 +49,7 @@ renew-level-requires c κs =
     let here = at c in
     let summed = here .before .before .before .share-sums .ensures in
     let so-far = here .loop .inv .1 in
-    (so-far .descent, same-class-sums _ _ _ _ (so-far .tree) (class-sums _ _ _ (summed .0) (summed .1)), here .loop .inv .0)
+    (so-far .descent, same-share-sums _ _ _ (so-far .tree) summed, here .loop .inv .0)
 
 add-level-2 : tie.Need-add-level-2 Inv-loop μ-loop
 add-level-2 c = omega arith

@@ -4,15 +4,15 @@ use mathlib.Core.Path.{sym, _∙_}
 use native.Mathlib.Omega.{arith}
 use Rattle.table.specs.Limits.{nodes}
 use Rattle.rating.specs.Renewal.{Onward}
-use Rattle.rating.proofs.Descent.{onward-start, onward-then, onward-at, same-class-sums}
+use Rattle.rating.proofs.Descent.{onward-start, onward-then, onward-at, same-share-sums}
 use Rattle.rating.proofs.renewal.renew_level.Statement.{statement}
 use Rattle.rating.proofs.renewal.renew_level.Tie as tie
 
 abbrev Inv-loop : tie.InvT-loop
-Inv-loop table₀ fixed weights below₀ c level k₀ table below k = (k ≤ nodes) × Onward table₀ table c (level * nodes + k) below
+Inv-loop table₀ shares below₀ c level k₀ table below k = (k ≤ nodes) × Onward table₀ table c (level * nodes + k) below
 
 abbrev μ-loop : tie.MeasureT-loop
-μ-loop table₀ fixed weights below₀ c level k₀ table below k = nodes - k
+μ-loop table₀ shares below₀ c level k₀ table below k = nodes - k
 
 loop-holds : tie.Need-loop-holds Inv-loop μ-loop
 loop-holds c = (omega arith, onward-at _ _ _ _ _ _ (omega arith) (onward-start _ _ _ _ (c .pre .0)))
@@ -22,7 +22,7 @@ renew-node-requires c κs =
     let at = c .before .before .before in
     let pre = at .before .pre in
     let so-far = at .loop .inv .1 in
-    (so-far .descent, same-class-sums _ _ _ _ (so-far .tree) (pre .1), pre .2, omega arith)
+    (so-far .descent, same-share-sums _ _ _ (so-far .tree) (pre .1), pre .2, omega arith)
 
 add-k : tie.Need-add-k Inv-loop μ-loop
 add-k c = omega arith

@@ -8,12 +8,14 @@ use borrow.Author.Needs.{needs}
 use borrow.Author.Tests.{not-true, not-false}
 use lib.ListN.{getD}
 use lib.Dec.{eqb}
-use Rattle.table.specs.Limits.{nodes}
+use Rattle.table.specs.Limits.{nodes, fixed, weighted, stated, kinds}
 use Rattle.table.specs.Places.{rate}
 use Rattle.table.specs.Tree.{treeOf}
-use Rattle.table.specs.Rates.{childRate}
+use Rattle.table.specs.Rates.{kindSum, childRate}
 use Rattle.table.specs.Renewal.{below, rateBelow}
 use Rattle.rating.specs.Rated.{atLevel}
+use Rattle.rating.specs.Sums.{sumAt}
+use Rattle.rating.proofs.Under.{share-sums-end}
 use Rattle.rating.proofs.Rated.{weights-small}
 use Rattle.rating.proofs.Descent.{passed-level, passed-class, renewed-next, level-at, placed, below-root, here-there, marks-tell, parent-le, child-renewed, renewed-small}
 use Rattle.rating.proofs.renewal.renew_node.Statement.{statement}
@@ -51,9 +53,9 @@ from-parent : (c : tie.After-natural2) → let t = entered (c .before .before) .
 unfolding rate
 from-parent c = rw (parent (c .before .before .before .before)) at (c .natural2 .ensures)
 
-worked-out : (c : tie.After-child-rate) → let s = entered (c .before .before .before .before .before .before) in c .child-rate .result ≡ rateBelow (treeOf (s .args .table .now)) (s .args .c) (rate (s .args .table .now) (s .args .c)) (s .args .k)
+worked-out : (c : tie.After-child-rate) → let s = entered (c .before .before .before .before .before) in c .child-rate .result ≡ rateBelow (treeOf (s .args .table .now)) (s .args .c) (rate (s .args .table .now) (s .args .c)) (s .args .k)
 worked-out c =
-    let read = c .before .before .before .before in
+    let read = c .before .before .before in
     let inside = read .before .before in
     let s = entered inside in
     c .child-rate .ensures
@@ -91,26 +93,19 @@ natural-requires-2 c κs =
     let rated = known .before .before .before .before .before .pre .0 .rated in
     (rated .long, omega (arith, low known, rated .low), omega arith)
 
-mul-child-rate : tie.Need-mul-child-rate
-mul-child-rate c = omega (arith, low (c .before .before .before .before .before))
-
-element-copy-out-child-rate : tie.Need-element-copy-out-child-rate
-element-copy-out-child-rate c = low (c .before .before .before .before .before)
-
-mul-child-rate-2 : tie.Need-mul-child-rate-2
-mul-child-rate-2 c = omega (arith, low (c .before .before .before .before .before .before))
-
-element-copy-out-child-rate-2 : tie.Need-element-copy-out-child-rate-2
-element-copy-out-child-rate-2 c = low (c .before .before .before .before .before .before)
+under-requires : tie.Need-under-requires
+under-requires c κs = low (c .before .before .before .before .before)
 
 child-rate-requires : tie.Need-child-rate-requires
 child-rate-requires c κs =
-    let read = c .before .before .before in
+    let read = c .before .before in
     let inside = read .before .before in
     let known = inside .before .before in
     let pre = known .before .before .before .before .before .pre in
     let here = at (known .before .before) in
     let p = placed _ _ _ _ _ (pre .0) (pre .2) (pre .3) here in
+    let sums = c .under .ensures in
+    let summed : (kind : ℕ) → kind < kinds → getD (entered inside .args .shares .now) (sumAt (known .natural .result) kind) 0 ≡ kindSum (treeOf (entered inside .args .table .now)) kind (treeOf (entered inside .args .table .now) .parent (entered inside .args .k)) = λ kind small. ap (λ (class : ℕ). getD (entered inside .args .shares .now) (sumAt class kind) 0) (parent known) ∙ share-sums-end _ _ (pre .1) _ kind (p .parent) small in
     record {
       long = pre .0 .rated .long;
       not-root = below-root _ _ _ _ _ (pre .0) (pre .2) (pre .3) here;
@@ -118,14 +113,15 @@ child-rate-requires c κs =
       here = here-there _ _ _ _ _ (pre .0) (pre .2) (pre .3) here;
       placed = p;
       small = omega (arith, from-parent read, parent-le _ _ _ _ _ (pre .0) (pre .2) (pre .3) here (stands inside));
-      fixed = rw (parent known) (pre .1 .fixed _ (p .parent));
-      weights = rw (parent known) (pre .1 .weights _ (p .parent));
-      few = rw (parent known) (omega (arith, pre .1 .weights _ (p .parent), weights-small _ _ (pre .0 .rated) (treeOf (entered inside .args .table .now) .parent (entered inside .args .k))));
+      fixed = sums .0 ∙ summed fixed (omega arith);
+      weights = sums .1 ∙ summed weighted (omega arith);
+      stated = sums .2 ∙ summed stated (omega arith);
+      few = omega (arith, sums .1, summed weighted (omega arith), weights-small _ _ (pre .0 .rated) (treeOf (entered inside .args .table .now) .parent (entered inside .args .k)));
     }
 
 put-natural-requires : tie.Need-put-natural-requires
 put-natural-requires c κs =
-    let inside = c .before .before .before .before .before .before .before in
+    let inside = c .before .before .before .before .before .before in
     let pre = entered inside .pre in (
       pre .0 .rated .long,
       omega (arith, pre .3, low (inside .before .before), pre .0 .rated .low),
@@ -143,7 +139,7 @@ returns-3 : tie.Need-returns-3
 returns-3 c =
     let written = c .before in
     let worked = written .before .before in
-    let inside = worked .before .before .before .before .before .before in
+    let inside = worked .before .before .before .before .before in
     let s = entered inside in
     rw (written .put-natural .ensures)
     (renewed-next _ _ _ _ _ (s .pre .3) (s .pre .0) _ (stands inside) (level-at _ _ _ (s .pre .3) (at (inside .before .before .before .before)) .level) (worked-out worked))
@@ -160,10 +156,7 @@ renew-node-spec =
     same-length-2
     returns-2
     natural-requires-2
-    mul-child-rate
-    element-copy-out-child-rate
-    mul-child-rate-2
-    element-copy-out-child-rate-2
+    under-requires
     child-rate-requires
     put-natural-requires
     element-write-below

@@ -10,38 +10,32 @@ use borrow.Author.Needs.{needs}
 use Rattle.rating.proofs.sums.term.Statement.{statement}
 use Rattle.rating.proofs.sums.term.Tie as tie
 
+enum-known-which : tie.Need-enum-known-which
+enum-known-which c = search needs
+
+kind-share-requires : tie.Need-kind-share-requires
+kind-share-requires c κs = search needs
+
 enum-told : tie.Need-enum-told
 enum-told c = search needs
-
-fixed-share-requires : tie.Need-fixed-share-requires
-fixed-share-requires c κs = search needs
-
-enum-told-2 : tie.Need-enum-told-2
-enum-told-2 c = search needs
-
-weight-requires : tie.Need-weight-requires
-weight-requires c κs = search needs
-
-enum-told-3 : tie.Need-enum-told-3
-enum-told-3 c = search needs
 
 natural-requires : tie.Need-natural-requires
 natural-requires c κs = search needs
 
-enum-told-4 : tie.Need-enum-told-4
-enum-told-4 c = search needs
+enum-told-2 : tie.Need-enum-told-2
+enum-told-2 c = search needs
 
 natural-requires-2 : tie.Need-natural-requires-2
 natural-requires-2 c κs = search needs
 
-enum-told-5 : tie.Need-enum-told-5
-enum-told-5 c = search needs
+enum-told-3 : tie.Need-enum-told-3
+enum-told-3 c = search needs
 
 natural-requires-3 : tie.Need-natural-requires-3
 natural-requires-3 c κs = search needs
 
-enum-told-6 : tie.Need-enum-told-6
-enum-told-6 c = search needs
+enum-told-4 : tie.Need-enum-told-4
+enum-told-4 c = search needs
 
 get-requires : tie.Need-get-requires
 get-requires c κs = search needs
@@ -51,50 +45,43 @@ negative-requires c κs = search needs
 
 returns : tie.Need-returns
 unfolding term
-returns c = rw (c .before .enum-told .given .1) (c .fixed-share .ensures)
+returns c = rw (c .before .before .which .given .1) (c .kind-share .ensures)
 
 returns-2 : tie.Need-returns-2
-unfolding term
-returns-2 c = rw (c .before .enum-told2 .given .1) (c .weight .ensures)
+unfolding term treeOf
+returns-2 c = rw (c .before .enum-told .given .1) (c .natural .ensures)
 
 returns-3 : tie.Need-returns-3
-unfolding term treeOf
-returns-3 c = rw (c .before .enum-told3 .given .1) (c .natural .ensures)
+unfolding term rate
+returns-3 c = rw (c .before .enum-told2 .given .1) (c .natural2 .ensures)
 
 returns-4 : tie.Need-returns-4
-unfolding term rate
-returns-4 c = rw (c .before .enum-told4 .given .1) (c .natural2 .ensures)
+unfolding term balance
+returns-4 c = rw (c .before .enum-told3 .given .1) (c .natural3 .ensures)
 
 returns-5 : tie.Need-returns-5
 unfolding term balance
-returns-5 c = rw (c .before .enum-told5 .given .1) (c .natural3 .ensures)
-
-returns-6 : tie.Need-returns-6
-unfolding term balance
-returns-6 c =
+returns-5 c =
     let got = c .before .get in
-    rw (c .before .before .enum-told6 .given .1) (c .negative .ensures ∙ ap minus (toZ-ofZ (sfits-of (got .ok)) ∙ got .ensures))
+    rw (c .before .before .enum-told4 .given .1) (c .negative .ensures ∙ ap minus (toZ-ofZ (sfits-of (got .ok)) ∙ got .ensures))
 
 pub term-spec : {M : Type 1} → statement M
 term-spec =
     tie.close
     (tie.spec
+    enum-known-which
+    kind-share-requires
     enum-told
-    fixed-share-requires
-    enum-told-2
-    weight-requires
-    enum-told-3
     natural-requires
-    enum-told-4
+    enum-told-2
     natural-requires-2
-    enum-told-5
+    enum-told-3
     natural-requires-3
-    enum-told-6
+    enum-told-4
     get-requires
     negative-requires
     returns
     returns-2
     returns-3
     returns-4
-    returns-5
-    returns-6)
+    returns-5)

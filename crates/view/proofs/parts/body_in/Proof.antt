@@ -3,14 +3,12 @@ use mathlib.Core.Path.{ap}
 use native.Mathlib.Omega.{arith}
 use Rattle.layout.specs.Format.{Entry}
 use Rattle.layout.specs.Nodes.{entryBy}
-use Rattle.layout.proofs.Codec.{formed-facts}
+use Rattle.view.proofs.Viewed.{viewed}
 use Rattle.view.proofs.parts.body_in.Statement.{statement}
 use Rattle.view.proofs.parts.body_in.Tie as tie
 
 node-at-requires : tie.Need-node-at-requires
-node-at-requires c κs =
-    let f = formed-facts _ (c .before .pre .0 .right) in
-    (c .before .pre .0 .counted, omega arith, omega arith, omega arith, f .kind _ (omega arith))
+node-at-requires c κs = viewed _ _ _ _ (c .before .pre .0) (omega arith)
 
 returns : tie.Need-returns
 unfolding entryBy

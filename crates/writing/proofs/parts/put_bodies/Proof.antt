@@ -7,6 +7,7 @@ use Rattle.layout.specs.Bytes.{bytesBelow}
 use Rattle.layout.specs.Format.{bodyLength, entryAt, bodyBytes}
 use Rattle.layout.specs.Written.{written}
 use Rattle.layout.proofs.Written.{pieces-none, pieces-next}
+use Rattle.layout.proofs.Editions.{body-within}
 use Rattle.layout.proofs.Codec.{length-body}
 use Rattle.planlaws.specs.Writing.{planOf}
 use borrow.Author.Needs.{needs}
@@ -14,16 +15,17 @@ use Rattle.writing.proofs.parts.put_bodies.Statement.{statement}
 use Rattle.writing.proofs.parts.put_bodies.Tie as tie
 
 abbrev Inv-loop : tie.InvT-loop
-Inv-loop table listed n buffer₀ i₀ buffer i =
-    (i ≤ n) × (buffer ≡ written buffer₀ (entryAt n) (bytesBelow i (bodyBytes (planOf table)))) × (length buffer ≡ length buffer₀)
+Inv-loop table edition listed n buffer₀ i₀ buffer i =
+    (i ≤ n) × (buffer ≡ written buffer₀ (entryAt edition n) (bytesBelow i (bodyBytes edition (planOf table)))) × (length buffer ≡ length buffer₀)
 
 abbrev μ-loop : tie.MeasureT-loop
-μ-loop table listed n buffer₀ i₀ buffer i = n - i
+μ-loop table edition listed n buffer₀ i₀ buffer i = n - i
 
 loop-holds : tie.Need-loop-holds Inv-loop μ-loop
 loop-holds c =
     let p = planOf (c .before .args .table .now) in
-    (omega arith, sym (pieces-none bodyLength (bodyBytes p) (length-body p) (c .before .args .buffer .now) (entryAt (c .before .args .n))), refl)
+    let e = c .before .args .edition in
+    (omega arith, sym (pieces-none (bodyLength e) (bodyBytes e p) (length-body e p) (c .before .args .buffer .now) (entryAt e (c .before .args .n))), refl)
 
 put-body-requires : tie.Need-put-body-requires Inv-loop μ-loop
 put-body-requires c κs = let at = c .before .before in (at .before .before .pre .0, omega arith, omega arith)
@@ -40,7 +42,8 @@ loop-again c =
     let at = call .before .before .before in
     let start = at .before .before in
     let p = planOf (start .args .table .now) in
-    (omega arith, pieces-next bodyLength (bodyBytes p) (length-body p) _ (entryAt (start .args .n)) (at .loop .i) _ _ _ (omega arith) (omega arith) (at .loop .inv .1) (call .put-body .ensures), search needs)
+    let e = start .args .edition in
+    (omega arith, pieces-next (bodyLength e) (bodyBytes e p) (length-body e p) _ (entryAt e (start .args .n)) (at .loop .i) _ _ _ (omega (arith, start .pre .1, body-within e (start .args .n) (at .loop .i) (omega arith))) (omega arith) (at .loop .inv .1) (call .put-body .ensures), search needs)
 
 same-length : tie.Need-same-length Inv-loop μ-loop
 same-length c = search needs
@@ -49,7 +52,7 @@ returns : tie.Need-returns Inv-loop μ-loop
 returns c =
     let start = c .before .before .before in
     let end : c .before .loop .i ≡ start .args .n = omega arith in
-    c .before .loop .inv .1 ∙ ap (λ (i : ℕ). written (start .args .buffer .now) (entryAt (start .args .n)) (bytesBelow i (bodyBytes (planOf (start .args .table .now))))) end
+    c .before .loop .inv .1 ∙ ap (λ (i : ℕ). written (start .args .buffer .now) (entryAt (start .args .edition) (start .args .n)) (bytesBelow i (bodyBytes (start .args .edition) (planOf (start .args .table .now))))) end
 
 pub put-bodies-spec : {M : Type 1} → statement M
 put-bodies-spec =

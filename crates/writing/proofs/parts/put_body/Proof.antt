@@ -2,6 +2,7 @@
 use mathlib.Core.Path.{ap, _∙_}
 use native.Mathlib.Omega.{arith}
 use Rattle.layout.specs.Nodes.{shareIn}
+use Rattle.layout.proofs.Editions.{body-within}
 use Rattle.writing.proofs.Members.{listed-few, listed-standing, body-written}
 use borrow.Author.Needs.{needs}
 use Rattle.writing.proofs.parts.put_body.Statement.{statement}
@@ -33,20 +34,23 @@ share-in-requires : tie.Need-share-in-requires
 share-in-requires c κs = search needs
 
 body-at-requires : tie.Need-body-at-requires
-body-at-requires c κs = let few = listed-few _ _ _ (start (node (c .before)) .pre .0) in (omega arith, omega arith)
+body-at-requires c κs = let few = listed-few _ _ _ (start (node c) .pre .0) in (omega arith, omega arith)
 
 put-body-requires : tie.Need-put-body-requires
-put-body-requires c κs = search needs
+put-body-requires c κs =
+    let made = c .before .before in
+    let start = start (node made) in
+    (omega (arith, c .before .body-at .ensures, start .pre .2, body-within (start .args .edition) (start .args .n) (start .args .i) (start .pre .1)), omega (arith, made .before .before .kind-in .ensures .1))
 
 same-length : tie.Need-same-length
 same-length c = search needs
 
 returns : tie.Need-returns
 returns c =
-    let placed = c .before .before .before in
-    let made = placed .before .before in
+    let placed = c .before .before .before .before in
+    let made = placed .before in
     let pre = start (node made) .pre in
-    body-written _ _ _ (pre .0) _ _ _ _ _ _ _ (pre .1) (node made .node-of .ensures .0) (made .before .before .kind-in .ensures .0) (made .share-in .ensures ∙ ap shareIn (made .before .held-by .ensures)) (placed .body-at .ensures) (c .before .before .put-body .ensures)
+    body-written _ _ _ (pre .0) _ _ _ _ _ _ _ _ (pre .1) (node made .node-of .ensures .0) (made .before .before .kind-in .ensures .0) (made .share-in .ensures ∙ ap shareIn (made .before .held-by .ensures)) (placed .body-at .ensures) (c .before .before .put-body .ensures)
 
 pub put-body-spec : {M : Type 1} → statement M
 put-body-spec =

@@ -14,16 +14,17 @@ use Rattle.writing.proofs.parts.put_entries.Statement.{statement}
 use Rattle.writing.proofs.parts.put_entries.Tie as tie
 
 abbrev Inv-loop : tie.InvT-loop
-Inv-loop table listed n buffer₀ i₀ buffer i =
-    (i ≤ n) × (buffer ≡ written buffer₀ (entryAt 0) (bytesBelow i (entryBytes (planOf table)))) × (length buffer ≡ length buffer₀)
+Inv-loop table edition listed n buffer₀ i₀ buffer i =
+    (i ≤ n) × (buffer ≡ written buffer₀ (entryAt edition 0) (bytesBelow i (entryBytes edition (planOf table)))) × (length buffer ≡ length buffer₀)
 
 abbrev μ-loop : tie.MeasureT-loop
-μ-loop table listed n buffer₀ i₀ buffer i = n - i
+μ-loop table edition listed n buffer₀ i₀ buffer i = n - i
 
 loop-holds : tie.Need-loop-holds Inv-loop μ-loop
 loop-holds c =
     let p = planOf (c .before .args .table .now) in
-    (omega arith, sym (pieces-none entryLength (entryBytes p) (length-entry p) (c .before .args .buffer .now) (entryAt 0)), refl)
+    let e = c .before .args .edition in
+    (omega arith, sym (pieces-none entryLength (entryBytes e p) (length-entry e p) (c .before .args .buffer .now) (entryAt e 0)), refl)
 
 put-entry-requires : tie.Need-put-entry-requires Inv-loop μ-loop
 put-entry-requires c κs = let at = c .before .before in (at .before .before .pre .0, omega arith, omega arith)
@@ -40,7 +41,8 @@ loop-again c =
     let at = call .before .before .before in
     let start = at .before .before in
     let p = planOf (start .args .table .now) in
-    (omega arith, pieces-next entryLength (entryBytes p) (length-entry p) _ (entryAt 0) (at .loop .i) _ _ _ (omega arith) (omega arith) (at .loop .inv .1) (call .put-entry .ensures), search needs)
+    let e = start .args .edition in
+    (omega arith, pieces-next entryLength (entryBytes e p) (length-entry e p) _ (entryAt e 0) (at .loop .i) _ _ _ (omega arith) (omega arith) (at .loop .inv .1) (call .put-entry .ensures), search needs)
 
 same-length : tie.Need-same-length Inv-loop μ-loop
 same-length c = search needs
@@ -49,7 +51,7 @@ returns : tie.Need-returns Inv-loop μ-loop
 returns c =
     let start = c .before .before .before in
     let end : c .before .loop .i ≡ start .args .n = omega arith in
-    c .before .loop .inv .1 ∙ ap (λ (i : ℕ). written (start .args .buffer .now) (entryAt 0) (bytesBelow i (entryBytes (planOf (start .args .table .now))))) end
+    c .before .loop .inv .1 ∙ ap (λ (i : ℕ). written (start .args .buffer .now) (entryAt (start .args .edition) 0) (bytesBelow i (entryBytes (start .args .edition) (planOf (start .args .table .now))))) end
 
 pub put-entries-spec : {M : Type 1} → statement M
 put-entries-spec =

@@ -1,12 +1,12 @@
 -- `writing::parts::put_head` meets its contract: disk rate, root depth and count.
 use Prim.Native.Nat.{ℕ}
 use mathlib.Core.Path.{_≡_, ap, _∙_}
-use mathlib.Core.List.{[], _∷_, _++_}
+use mathlib.Core.List.{List, [], _∷_, _++_}
 use native.Mathlib.Omega.{arith}
 use Rattle.table.specs.Places.{rate}
 use Rattle.table.specs.Tree.{treeOf}
 use Rattle.layout.specs.Bytes.{bytes4}
-use Rattle.layout.specs.Format.{headBytes}
+use Rattle.layout.specs.Format.{markBytes, headBytes}
 use Rattle.layout.specs.Written.{written}
 use Rattle.planlaws.specs.Writing.{planOf}
 use Rattle.planlaws.proofs.Listing.{order-short}
@@ -14,9 +14,9 @@ use borrow.Author.Needs.{needs}
 use Rattle.writing.proofs.parts.put_head.Statement.{statement}
 use Rattle.writing.proofs.parts.put_head.Tie as tie
 
--- The head of these numbers.
-head-as : {r d n rate depth count : ℕ} → r ≡ rate → d ≡ depth → n ≡ count → bytes4 r ++ bytes4 d ++ (n ∷ []) ≡ bytes4 rate ++ bytes4 depth ++ (count ∷ [])
-head-as e f g = rw (e, f, g)
+-- A head of these numbers written.
+head-as : {r d n rate depth count : ℕ} (b m : List ℕ) → r ≡ rate → d ≡ depth → n ≡ count → written b 0 (m ++ (bytes4 r ++ bytes4 d ++ (n ∷ []))) ≡ written b 0 (m ++ (bytes4 rate ++ bytes4 depth ++ (count ∷ [])))
+head-as b m e f g = rw (e, f, g)
 
 natural-requires : tie.Need-natural-requires
 natural-requires c κs = search needs
@@ -39,7 +39,8 @@ unfolding headBytes planOf rate treeOf
 returns c =
     let put = c .before .before in
     let read = put .before .before in
-    put .put-head .ensures ∙ ap (written _ 0) (head-as (read .before .natural .ensures) (read .natural2 .ensures) (read .before .before .before .pre .1))
+    let start = read .before .before .before in
+    put .put-head .ensures ∙ head-as (start .args .buffer .now) (markBytes (start .args .edition)) (read .before .natural .ensures) (read .natural2 .ensures) (start .pre .1)
 
 pub put-head-spec : {M : Type 1} → statement M
 put-head-spec =

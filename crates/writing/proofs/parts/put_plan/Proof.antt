@@ -33,7 +33,7 @@ returns c =
     let middle = entries last in
     let front = head middle in
     let start = front .before .before .before in
-    plan-written (planOf (start .args .table .now)) _ _ _ _ _ (listed-count _ _ _ (start .pre .0)) (omega (arith, start .pre .1)) (front .put-head .ensures) (middle .put-entries .ensures) (last .put-bodies .ensures)
+    plan-written (start .args .edition) (planOf (start .args .table .now)) _ _ _ _ _ (listed-count _ _ _ (start .pre .0)) (omega (arith, start .pre .1)) (front .put-head .ensures) (middle .put-entries .ensures) (last .put-bodies .ensures)
 
 pub put-plan-spec : {M : Type 1} → statement M
 put-plan-spec =

@@ -1,0 +1,39 @@
+-- `sharing::stated_wrong` meets its contract: the stated rates as they are, with the new share in the place of the old.
+use mathlib.Core.Path.{_≡_, sym, ap, _∙_}
+use native.Mathlib.Omega.{arith}
+use borrow.Author.Needs.{needs}
+use Rattle.table.specs.Tree.{treeOf}
+use Rattle.table.specs.Limits.{stated}
+use Rattle.table.proofs.Facts.{facts}
+use Rattle.table.proofs.Passed.{long}
+use Rattle.rating.specs.declared.sums.Summand.the-variants.{Shares}
+use Rattle.rating.proofs.Summable.{in-order-summable}
+use Rattle.sharing.proofs.Sums.{own-stated, stated-with}
+use Rattle.sharing.proofs.stated_wrong.Statement.{statement}
+use Rattle.sharing.proofs.stated_wrong.Tie as tie
+
+-- The class above the node.
+above : (c : tie.After-natural) → let s = c .before in c .natural .result ≡ treeOf (s .args .table .now) .parent (s .args .k)
+unfolding treeOf
+above c = c .natural .ensures
+
+stated-wrong-requires : tie.Need-stated-wrong-requires
+stated-wrong-requires c κs =
+    let s = c .before .before in
+    let t = s .args .table .now in
+    let f = facts t (s .pre .0) in (
+      f .long,
+      in-order-summable (Shares stated) t f,
+      omega (arith, c .kind-share .ensures, own-stated t (s .args .k) f (s .pre .1) (s .pre .2) (s .pre .3)),
+      s .pre .4,
+    )
+
+returns : tie.Need-returns
+returns c =
+    let s = c .before .before .before in
+    (rw (above (c .before .before), c .before .kind-share .ensures) at (c .stated-wrong .ensures))
+    ∙ sym (stated-with _ _ (facts _ (s .pre .0)) (s .pre .1) (s .pre .2) (s .pre .3) (s .args .kind) (s .args .share))
+
+pub stated-wrong-spec : {M : Type 1} → statement M
+stated-wrong-spec =
+    tie.close (tie.spec (λ c κs. search (needs, long)) (λ c κs. search (needs, long)) stated-wrong-requires returns)
