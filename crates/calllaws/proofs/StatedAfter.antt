@@ -2,7 +2,7 @@
 -- under class c. Every other stated node stays under the root, and the stated rates there change by what the node adds.
 use Prim.Native.Nat.{ℕ, _+_, _-_, _≤_, _<_}
 use mathlib.Core.Path.{_≡_, sym, ap, _∙_}
-use mathlib.Core.Bool.{true, false, not, _||_}
+use mathlib.Core.Bool.{true, false, not}
 use mathlib.Core.Logic.{⊎-elim}
 use mathlib.Core.List.{List}
 use native.Mathlib.Omega.{arith}
@@ -25,7 +25,7 @@ use Rattle.table.proofs.ShareKinds.{stated-kind, own-share, other-share}
 use Rattle.treelaws.specs.Stated.{statedWrongWith}
 use Rattle.treelaws.proofs.Children.{child-of, counted, uncounted}
 use Rattle.calllaws.proofs.Nodes.{there-same}
-use Rattle.calllaws.proofs.OneNode.{no-child, kinds-changed}
+use Rattle.calllaws.proofs.OneNode.{kinds-changed}
 
 -- What node k added to the stated rates under the root: its share where it is stated, which it is nowhere else.
 pub stated-before : (t : List ℤ) (k : ℕ) → InOrder t → k < nodes → (k ≡ root → ⊥) → countIf (childOf (treeOf t) root k) (kindShare (treeOf t) stated) k ≡ kindShare (treeOf t) stated k

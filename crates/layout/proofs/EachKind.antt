@@ -76,13 +76,13 @@ first-kind sort zero h = cond-le (eqb sort class) _ _ clientWeighted (omega arit
 first-kind sort (suc zero) h = cond-le (eqb sort class) _ _ clientWeighted (omega arith) (omega arith)
 first-kind sort (suc (suc shareKind)) h = absurd (omega arith)
 
-pub unstated-kind : (kind : ℕ) → kind ≤ clientWeighted → shareKindOf kind ≤ weighted
+pub first-unstated : (kind : ℕ) → kind ≤ clientWeighted → shareKindOf kind ≤ weighted
 unfolding shareKindOf
-unstated-kind zero h = omega arith
-unstated-kind (suc zero) h = omega arith
-unstated-kind (suc (suc zero)) h = omega arith
-unstated-kind (suc (suc (suc zero))) h = omega arith
-unstated-kind (suc (suc (suc (suc kind)))) h = absurd (omega arith)
+first-unstated zero h = omega arith
+first-unstated (suc zero) h = omega arith
+first-unstated (suc (suc zero)) h = omega arith
+first-unstated (suc (suc (suc zero))) h = omega arith
+first-unstated (suc (suc (suc (suc kind)))) h = absurd (omega arith)
 
 -- The sort and the share kind of a node of the code are those that its kind stands for.
 pub sort-in-kind : (x : Sort) → sortOf (kindIn x) ≡ sortIn x

@@ -15,7 +15,7 @@ use Rattle.layout.specs.declared.Edition.{Edition}
 use Rattle.layout.specs.declared.Edition.the-variants.{First, Second}
 use Rattle.layout.specs.Bytes.{byteValues, pairValues, fourValues, byteAt, le2, le4, bytes2, bytes4}
 use Rattle.layout.specs.Kinds.{clientStated}
-use Rattle.layout.specs.Format.{editionNumber, editionOf, markByte, markLength, markBytes, startOf, shareLength, lastKind, lastCount, bodyLength, bodyAt, planLength, shareBytes, shareFrom, shareValues, editionIn}
+use Rattle.layout.specs.Format.{editionNumber, editionOf, markByte, markLength, markBytes, startOf, longShare, shareLength, lastKind, lastCount, bodyLength, bodyAt, planLength, shareBytes, shareFrom, shareValues, editionIn}
 use Rattle.layout.proofs.Shows.{Shows, shown, shows-none, shows-next, shown2, shows2, shown4, shows4}
 
 -- The number that four bytes FF make.
@@ -29,12 +29,12 @@ edition-again First = refl
 edition-again Second = refl
 
 -- Small figures.
-pub start-small : (e : Edition) → startOf e ≤ 4
+pub start-small : (e : Edition) → startOf e ≤ markLength
 unfolding startOf
 start-small First = omega arith
 start-small Second = omega arith
 
-pub share-length-small : (e : Edition) → shareLength e ≤ 4
+pub share-length-small : (e : Edition) → shareLength e ≤ longShare
 unfolding shareLength
 share-length-small First = omega arith
 share-length-small Second = omega arith
@@ -49,11 +49,11 @@ unfolding shareValues
 share-values-small First = omega arith
 share-values-small Second = omega arith
 
--- Shares of i bodies, of fewer bodies, and at most 4 bytes each.
+-- Shares of i bodies, of fewer bodies, and as if all were long.
 pub fewer-shares : (e : Edition) (i n : ℕ) → i ≤ n → shareLength e * i ≤ shareLength e * n
 fewer-shares e i n h = mul-le-mul-left (shareLength e) h
 
-pub shares-small : (e : Edition) (i : ℕ) → shareLength e * i ≤ 4 * i
+pub shares-small : (e : Edition) (i : ℕ) → shareLength e * i ≤ longShare * i
 shares-small e i = mul-le-mul-right i (share-length-small e)
 
 -- A body before the last ends within the plan.

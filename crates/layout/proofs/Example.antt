@@ -1,4 +1,4 @@
--- A plan in bytes whose nodes are worked by hand: disk 1000, root depth 40; class 1 has weight 2 and depth 20; client 2 in it
+-- Two plans in bytes whose nodes are worked by hand. Of the first edition: disk 1000, root depth 40; class 1 has weight 2 and depth 20; client 2 in it
 -- has the fixed half of its rate and depth 10. Its kinds are 1 and 2, so it tells the two apart.
 use Prim.Native.Nat.{ℕ}
 use mathlib.Core.Path.{_≡_, refl}
@@ -10,7 +10,7 @@ use Rattle.table.specs.Limits.{class, client, fixed, weighted, stated}
 use Rattle.layout.specs.declared.Edition.the-variants.{First, Second}
 use Rattle.layout.specs.Bytes.{byteAt, le2, le4, bytes2, bytes4, bytesBelow}
 use Rattle.layout.specs.Kinds.{kindOf, sortOf, shareKindOf}
-use Rattle.layout.specs.Format.{markBytes, startOf, shareLength, lastKind, headBytes, entryBytes, shareBytes, bodyBytes, bytesOf, editionIn, countIn, shareFrom, entryIn, planIn, entryFormed, formed}
+use Rattle.layout.specs.Format.{editionNumber, markBytes, startOf, shareLength, lastKind, headBytes, entryBytes, shareBytes, bodyBytes, bytesOf, editionIn, countIn, shareFrom, entryIn, planIn, entryFormed, formed}
 
 abbrev pub mixed : List ℕ
 mixed =
@@ -38,10 +38,10 @@ pub client-fixed : (sortOf (planIn mixed .entry 1 .kind) ≡ client) × (shareKi
 unfolding planIn entryIn countIn le4 le2 byteAt sortOf shareKindOf startOf editionIn allBelow shareLength
 client-fixed = (refl, refl)
 
--- Written in the first edition, which it is of, it is the same bytes.
-pub mixed-edition : editionIn mixed ≡ First
-unfolding editionIn allBelow byteAt
-mixed-edition = refl
+-- Written in the first edition, which it is of, it is the same bytes. The edition's number is 1.
+pub mixed-edition : (editionIn mixed ≡ First) × (editionNumber (editionIn mixed) ≡ 1)
+unfolding editionIn editionNumber allBelow byteAt
+mixed-edition = (refl, refl)
 
 pub mixed-bytes : bytesOf First (planIn mixed) ≡ mixed
 unfolding planIn entryIn countIn le4 le2 byteAt startOf shareFrom editionIn allBelow shareLength bytesOf headBytes markBytes entryBytes shareBytes bodyBytes bytesBelow bytes2 bytes4
@@ -53,9 +53,9 @@ abbrev pub statedPlan : List ℕ
 statedPlan =
     0xFF ∷ 0xFF ∷ 0xFF ∷ 0xFF ∷ 0xE8 ∷ 0x03 ∷ 0x00 ∷ 0x00 ∷ 0x28 ∷ 0x00 ∷ 0x00 ∷ 0x00 ∷ 0x02 ∷ 0x01 ∷ 0x00 ∷ 0x15 ∷ 0x00 ∷ 0x02 ∷ 0x01 ∷ 0x1E ∷ 0x00 ∷ 0x04 ∷ 0x2C ∷ 0x01 ∷ 0x00 ∷ 0x00 ∷ 0x14 ∷ 0x00 ∷ 0x00 ∷ 0x00 ∷ 0x03 ∷ 0x01 ∷ 0x00 ∷ 0x00 ∷ 0x00 ∷ 0x0A ∷ 0x00 ∷ 0x00 ∷ 0x00 ∷ []
 
-pub stated-edition : editionIn statedPlan ≡ Second
-unfolding editionIn allBelow byteAt
-stated-edition = refl
+pub stated-edition : (editionIn statedPlan ≡ Second) × (editionNumber (editionIn statedPlan) ≡ 2)
+unfolding editionIn editionNumber allBelow byteAt
+stated-edition = (refl, refl)
 
 pub stated-formed : formed statedPlan ≡ true
 unfolding formed every allBelow entryFormed entryIn countIn le4 le2 byteAt startOf editionIn shareLength lastKind

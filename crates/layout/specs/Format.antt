@@ -59,19 +59,26 @@ unfoldable pub startOf : Edition → ℕ
 startOf First = 0
 startOf Second = markLength
 
--- Bytes of the head, of an entry, of a share and of a depth.
+-- Bytes of the head, of an entry, of a short and a long share and of a depth.
 abbrev pub headLength : ℕ
 headLength = 9
 
 abbrev pub entryLength : ℕ
 entryLength = 4
 
-unfoldable pub shareLength : Edition → ℕ
-shareLength First = 2
-shareLength Second = 4
+abbrev pub shortShare : ℕ
+shortShare = 2
+
+abbrev pub longShare : ℕ
+longShare = 4
 
 abbrev pub depthLength : ℕ
 depthLength = 4
+
+-- A share is short in the first edition and long in the second.
+unfoldable pub shareLength : Edition → ℕ
+shareLength First = shortShare
+shareLength Second = longShare
 
 -- The greatest count and the greatest kind.
 abbrev pub lastCount : ℕ

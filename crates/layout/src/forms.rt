@@ -6,7 +6,7 @@ ghost use lib.ListN.{length};
 ghost use Rattle.numbers.specs.Below.{allBelow};
 ghost use Rattle.layout.specs.Bytes.{byteValues, fourValues, byteAt};
 ghost use Rattle.layout.specs.Nodes.{shareIn, heldBy, entryBy};
-ghost use Rattle.layout.specs.Format.{secondEdition, editionNumber, editionOf, markByte, markLength, headLength, lastCount, lastKind, startOf, shareLength, bodyLength, entryAt, bodyAt, planLength, shareValues, editionIn, countIn, entryIn, entryFormed, formed, Framed};
+ghost use Rattle.layout.specs.Format.{secondEdition, editionNumber, editionOf, markByte, markLength, headLength, longShare, depthLength, bodyShareAt, lastCount, lastKind, startOf, shareLength, bodyLength, entryAt, bodyAt, planLength, shareValues, editionIn, countIn, entryIn, entryFormed, formed, Framed};
 use crate::Edition;
 use crate::Format;
 use crate::Kind;
@@ -37,7 +37,7 @@ pub fn edition_of(number: u64) -> Edition
 // Where the head begins.
 pub fn start_of(edition: Edition) -> usize
     ensures start { λ r. ⌜ r ≡ startOf edition ⌝ }
-    ensures small { λ r. ⌜ r ≤ 4 ⌝ }
+    ensures small { λ r. ⌜ r ≤ markLength ⌝ }
 {
     match edition {
         Edition::First => 0,
@@ -48,18 +48,18 @@ pub fn start_of(edition: Edition) -> usize
 // Bytes of a share.
 pub fn share_length(edition: Edition) -> usize
     ensures length { λ r. ⌜ r ≡ shareLength edition ⌝ }
-    ensures small { λ r. ⌜ r ≤ 4 ⌝ }
+    ensures small { λ r. ⌜ r ≤ longShare ⌝ }
 {
     match edition {
-        Edition::First => 2,
-        Edition::Second => 4,
+        Edition::First => Format::SHORT_SHARE,
+        Edition::Second => Format::LONG_SHARE,
     }
 }
 
 // Bytes of a body.
 fn body_length(edition: Edition) -> usize
     ensures length { λ r. ⌜ r ≡ bodyLength edition ⌝ }
-    ensures small { λ r. ⌜ r ≤ 9 ⌝ }
+    ensures small { λ r. ⌜ r ≤ bodyShareAt + longShare + depthLength ⌝ }
 {
     Format::BODY_SHARE + share_length(edition) + Format::DEPTH
 }

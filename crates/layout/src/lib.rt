@@ -50,10 +50,14 @@ impl Format {
 
     pub const MARK_LENGTH: usize = 4;
 
-    // Bytes of the head, of an entry and of a depth; the greatest count.
+    // Bytes of the head, of an entry, of a short and a long share and of a depth; the greatest count.
     pub const HEAD: usize = 9;
 
     pub const ENTRY: usize = 4;
+
+    pub const SHORT_SHARE: usize = 2;
+
+    pub const LONG_SHARE: usize = 4;
 
     pub const DEPTH: usize = 4;
 

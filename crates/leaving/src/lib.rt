@@ -13,6 +13,7 @@ ghost use Rattle.table.specs.Limits.{tableLength, nodes, lastNode};
 ghost use Rattle.table.specs.Places.{balance, waiting};
 ghost use Rattle.table.specs.Tree.{treeOf, isClass, childless};
 ghost use Rattle.table.specs.Order.{inOrder};
+ghost use Rattle.table.specs.Refusals.{lastRefusal};
 ghost use Rattle.table.specs.Answers.{told};
 ghost use Rattle.table.specs.Calls.{cleared, leaveRefusal, leaveTable, leaveAnswer};
 use table::Answer;
@@ -42,7 +43,7 @@ fn in_debt(table: &[i64], k: usize) -> bool
 fn tree_refusal(table: &[i64], k: usize) -> u64
     requires { ⌜ (inOrder (now table) ≡ true) × (withinℤ 0 lastNode (pos k) ≡ true) ⌝ }
     ensures first { λ r. ⌜ r ≡ leaveRefusal (now (table .entry)) (pos k) ⌝ }
-    ensures small { λ r. ⌜ r ≤ 10 ⌝ }
+    ensures small { λ r. ⌜ r ≤ lastRefusal ⌝ }
 {
     if !rating::tree::there(table, k) {
         return 3;
@@ -62,7 +63,7 @@ fn tree_refusal(table: &[i64], k: usize) -> u64
 // The number of the first cause that turns leave back, or 0.
 fn leave_refusal(table: &[i64], node: i64) -> u64
     ensures first { λ r. ⌜ r ≡ leaveRefusal (now (table .entry)) node ⌝ }
-    ensures small { λ r. ⌜ r ≤ 10 ⌝ }
+    ensures small { λ r. ⌜ r ≤ lastRefusal ⌝ }
 {
     if !order::in_order(table) {
         return 1;

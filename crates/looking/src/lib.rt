@@ -4,6 +4,7 @@ ghost use mathlib.Core.Bool.{true};
 ghost use Prim.Native.Nat.{_≤_, _<_};
 ghost use Rattle.table.specs.Limits.{nodes};
 ghost use Rattle.table.specs.Order.{inOrder};
+ghost use Rattle.table.specs.Refusals.{lastRefusal};
 ghost use Rattle.table.specs.Answers.{toldSeen};
 ghost use Rattle.table.specs.Calls.{lostGrains, lookRefusal, lookAnswer};
 use rating::sums;
@@ -15,7 +16,7 @@ use table::Table;
 // The number of the first cause that turns look back, or 0.
 fn look_refusal(table: &[i64], node: i64) -> u64
     ensures first { λ r. ⌜ r ≡ lookRefusal (now (table .entry)) node ⌝ }
-    ensures small { λ r. ⌜ r ≤ 3 ⌝ }
+    ensures small { λ r. ⌜ r ≤ lastRefusal ⌝ }
 {
     if !order::in_order(table) {
         return 1;

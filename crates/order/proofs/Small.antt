@@ -9,13 +9,13 @@ use lib.IntN.{ℤ}
 use Rattle.numbers.specs.Whole.{plus, minus}
 use Rattle.numbers.proofs.Parts.{zarith}
 use Rattle.numbers.proofs.Sums.{sum-bound}
-use Rattle.table.specs.Limits.{nodes, depthAt, balanceAt, fixed, stated, kinds, lastLevel, greatestDepth, greatestRate, grainScale}
+use Rattle.table.specs.Limits.{nodes, depthAt, balanceAt, fixed, stated, lastLevel, greatestDepth, greatestRate, grainScale}
 use Rattle.table.specs.Places.{place, rate, balance, depthGrains}
 use Rattle.table.specs.Tree.{treeOf, childOf, countIf, sumUnder}
 use Rattle.table.proofs.Facts.{limits-of}
 use Rattle.rating.specs.declared.sums.Summand.{Summand}
 use Rattle.rating.specs.declared.sums.Summand.the-variants.{Depths, Credits, Debts}
-use Rattle.rating.specs.Sums.{term, Summable, Shareable, sumAt}
+use Rattle.rating.specs.Sums.{term, Summable, Shareable, shareSums, sumAt}
 use Rattle.rating.specs.declared.sums.UnderClass.{UnderClass}
 use Rattle.rating.proofs.Summable.{summable-of, shareable-of}
 use Rattle.rating.proofs.Under.{child-small, sums-start, sums-end, share-sums-start, share-sums-end}
@@ -53,7 +53,7 @@ sum-small which t h c =
     omega (arith, sum-bound nodes (2 ^ 57) (λ k. countIf (childOf (treeOf t) c k) (term which t) k) (λ k hk. child-small which t (summable which t h) c k hk))
 
 -- All sums are 0 at the start, and at the end those under the classes.
-pub totals-start : (t : List ℤ) → Totals t 1 (replicate (kinds * nodes) 0) (replicate nodes 0) (replicate nodes 0) (replicate nodes 0)
+pub totals-start : (t : List ℤ) → Totals t 1 (replicate shareSums 0) (replicate nodes 0) (replicate nodes 0) (replicate nodes 0)
 totals-start t = record { shares = share-sums-start t; depths = sums-start Depths t; credits = sums-start Credits t; debts = sums-start Debts t }
 
 pub totals-sums : (t : List ℤ) (ss ds ps ms : List ℕ) → Totals t nodes ss ds ps ms → (c : ℕ) → c < nodes → (under : UnderClass) → under .fixed ≡ getD ss (sumAt c fixed) 0 → under .stated ≡ getD ss (sumAt c stated) 0 → Sums t c under (getD ds c 0) (getD ps c 0) (getD ms c 0)

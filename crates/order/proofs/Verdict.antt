@@ -22,7 +22,7 @@ use Rattle.table.specs.Places.{place, rate, balance, waiting, depthGrains}
 use Rattle.table.specs.Tree.{treeOf, there, isClass, isClient, isStated, sumUnder, eachNode, eachClass, eachClient}
 use Rattle.table.specs.Rates.{fixedSum, statedSum}
 use Rattle.table.specs.Order.{isZero, headerInOrder, unusedInOrder, limitsKept, spareInOrder, rootInOrder, parentInOrder, classInOrder, rateInOrder, balanceInOrder, requestInOrder, queueInOrder, arrivalsDiffer, inOrder}
-use Rattle.table.proofs.Facts.{InOrder, Root, Stated, facts, of-stated, each-at, at-each, at-zero, zero-at as zero-of, limits-of, root-of, root-there, child-of, of-balance}
+use Rattle.table.proofs.Facts.{InOrder, Root, Stated, facts, of-stated, each-at, at-each, at-zero, zero-at as zero-of, limits-of, root-of, root-there, root-unstated, child-of, of-balance}
 use Rattle.table.proofs.ShareKinds.{stated-kind}
 use Rattle.treelaws.proofs.Children.{child-of as is-child, balances-parts, class-there}
 use Rattle.treelaws.proofs.Rounding.{no-stated-under, share-le-sum, rate-small, rate-natural}
@@ -93,7 +93,7 @@ covered-stated t top covers node =
     elsewhere k hk e s other =
         let l = limits-of t k (node k hk e .limits) in
         let kind = stated-kind (treeOf t) k s in
-        let below : k ≡ root → ⊥ = λ z. omega (arith, ap (treeOf t .kind) z, ap plus (top .kind), plus-pos 0) in
+        let below : k ≡ root → ⊥ = λ z. true-false (ap (isStated (treeOf t)) (sym z) ∙ s) (root-unstated t top) in
         let child = child-of (treeOf t) k (node k hk e .parent) below in
         omega (
           arith,

@@ -12,11 +12,11 @@ use lib.IntN.{ℤ, pos}
 use Rattle.numbers.specs.Whole.{plus}
 use Rattle.numbers.proofs.Parts.{pos-of-within, zarith}
 use Rattle.numbers.proofs.All.{below-cases}
-use Rattle.table.specs.Limits.{nodes, lastNode, sortAt, parentAt, kindAt, shareAt, depthAt, class, client, fixed, stated, root, lastLevel, wholeShare, greatestDepth, shareLimit}
+use Rattle.table.specs.Limits.{nodes, lastNode, sortAt, parentAt, kindAt, shareAt, depthAt, class, client, fixed, stated, root, lastLevel, greatestDepth, shareLimit}
 use Rattle.table.specs.Places.{place, rate}
 use Rattle.table.specs.Tree.{Tree, treeOf, there, isStated, eachNode}
 use Rattle.table.proofs.Facts.{InOrder, Limits, Child, root-there, each-at, at-each}
-use Rattle.table.proofs.ShareKinds.{unstated-kind, limit-unstated, limit-le}
+use Rattle.table.proofs.ShareKinds.{unstated-kind, unstated-share, limit-le}
 use Rattle.treelaws.proofs.Children.{class-there}
 use Rattle.layout.specs.declared.Edition.{Edition}
 use Rattle.layout.specs.declared.Edition.the-variants.{First, Second}
@@ -45,11 +45,6 @@ unstated-of tree h = record { node = λ k hk e. not-true _ (each-at (there tree)
 pub of-unstated : (tree : Tree) → Unstated tree → anyStated tree ≡ false
 unfolding anyStated eachNode
 of-unstated tree u = ap not (at-each (there tree) (λ j. not (isStated tree j)) (λ k hk e. ap not (u .node k hk e)))
-
--- A share that is not stated is at most 10,000.
-share-small : (t : List ℤ) (k : ℕ) → Limits t k → isStated (treeOf t) k ≡ false → treeOf t .share k ≤ wholeShare
-unfolding treeOf
-share-small t k l e = omega (arith, zarith, rw (limit-unstated (treeOf t .kind k) (unstated-kind (treeOf t) k e)) at (l .share))
 
 -- Sort and share kind are those that the plan's kind stands for.
 pub kind-sort : (t : List ℤ) (k : ℕ) → Limits t k → sortOf (kindOf (treeOf t .sort k) (treeOf t .kind k)) ≡ treeOf t .sort k
@@ -87,7 +82,10 @@ module _ (t : List ℤ) (f : InOrder t) where
 
   share-fits : (e : Edition) → unwritable e (treeOf t) ≡ false → (i : ℕ) → i < length (order (treeOf t)) → treeOf t .share (listed (treeOf t) i) < shareValues e
   unfolding unwritable shareValues treeOf
-  share-fits First h i hi = omega (arith, share-small t (listed (treeOf t) i) (listed-limits i hi) (listed-unstated (unstated-of (treeOf t) h) i hi))
+  share-fits First h i hi =
+      let k : ℕ = listed (treeOf t) i in
+      let share : treeOf t .share k ≤ shareLimit (treeOf t .kind k) = omega (arith, zarith, listed-limits i hi .share) in
+      omega (arith, unstated-share (treeOf t) k share (listed-unstated (unstated-of (treeOf t) h) i hi))
   share-fits Second h i hi = omega (arith, zarith, listed-limits i hi .share, limit-le (treeOf t .kind (listed (treeOf t) i)))
 
   pub plan-fits : (e : Edition) → unwritable e (treeOf t) ≡ false → Fits e (planOf t)

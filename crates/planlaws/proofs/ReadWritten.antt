@@ -23,7 +23,7 @@ use Rattle.layout.specs.Kinds.{clientWeighted, clientStated, kindOf}
 use Rattle.layout.specs.Format.{Entry, Plan, lastKind, editionIn, planIn}
 use Rattle.planlaws.specs.Reading.{joinedFor, standing, rising, planRefusal, planTable}
 use Rattle.planlaws.specs.Writing.{order, entryOf, planOf, planBytes, unwritable}
-use Rattle.layout.proofs.EachKind.{kind-again, unstated-kind}
+use Rattle.layout.proofs.EachKind.{kind-again, first-unstated}
 use Rattle.layout.proofs.Editions.{last-kind-small}
 use Rattle.layout.proofs.Codec.{SamePlan, same-entry, same-bytes, formed-facts, read-bytes}
 use Rattle.planlaws.proofs.Rising.{Rises, rises-by-steps, found-below, Within, rising-same, rising-short}
@@ -108,7 +108,7 @@ entered-unstated p n u known en =
                 elim (found-below n (λ i. p .entry i .node) k) [
                   | yes w ↦
                       ne-eqb (treeOf u .kind k) stated
-                      (λ s. omega (arith, s, ap (treeOf u .kind) (w .2), en .node (w .0) (w .1) .kind, unstated-kind (p .entry (w .0) .kind) (known (w .0) (w .1))))
+                      (λ s. omega (arith, s, ap (treeOf u .kind) (w .2), en .node (w .0) (w .1) .kind, first-unstated (p .entry (w .0) .kind) (known (w .0) (w .1))))
                   | no nobody ↦ absurd (true-false e (en .free k hk ne (λ i hi is. nobody (i, hi, is))))
                 ]
           ];

@@ -11,7 +11,6 @@ use Rattle.numbers.proofs.Parts.{one-is-zero, plus-pos, minus-pos, zarith}
 use Rattle.table.specs.Limits.{nodes}
 use Rattle.table.specs.Places.{rate, balance, depthGrains}
 use Rattle.table.specs.Tree.{treeOf, there}
-use Rattle.table.specs.Rates.{kindShare}
 use Rattle.table.proofs.Facts.{Limits, InOrder}
 use Rattle.table.proofs.ShareKinds.{limit-le, kind-share-le}
 use Rattle.treelaws.proofs.Rounding.{rate-small}

@@ -5,7 +5,7 @@ use mathlib.Core.Bool.{true, false}
 use mathlib.Core.List.{List}
 use native.Mathlib.Omega.{arith}
 use native.Mathlib.Decide.{ℕ-discrete}
-use lib.ListN.{getD, set, length-set, replicate, length-replicate, getD-replicate}
+use lib.ListN.{length, getD, set, length-set, replicate, length-replicate, getD-replicate}
 use lib.Seq.{getD-set-same, getD-set-other}
 use lib.IntN.{ℤ}
 use Rattle.numbers.specs.Below.{sumBelow}
@@ -20,7 +20,7 @@ use Rattle.table.proofs.ShareKinds.{own-share, other-share, kind-share-le}
 use Rattle.treelaws.proofs.Children.{child-facts, child-of, counted, uncounted}
 use Rattle.rating.specs.declared.sums.Summand.{Summand}
 use Rattle.rating.specs.declared.sums.Summand.the-variants.{Credits, Debts}
-use Rattle.rating.specs.Sums.{term, Summable, underBelow, SumsBelow, Shareable, sumAt, ShareSums}
+use Rattle.rating.specs.Sums.{term, Summable, underBelow, SumsBelow, Shareable, shareSums, sumAt, ShareSums}
 
 module _ (tree : Tree) (c : ℕ) (f : ℕ → ℕ) where
   pub under-start : underBelow 0 tree c f ≡ 0
@@ -57,6 +57,18 @@ pub under-small : (which : Summand) (t : List ℤ) → Summable which t → (n c
 unfolding underBelow
 under-small which t s n c h = sum-bound n (2 ^ 57) (λ k. countIf (childOf (treeOf t) c k) (term which t) k) (λ k hk. child-small which t s c k (omega arith))
 
+-- An amount is added at one place of a list of sums: what it does to the sum of f under class c that stands there, and to one that
+-- stands at another place.
+module _ (tree : Tree) (c : ℕ) (f : ℕ → ℕ) (k : ℕ) (sums : List ℕ) (i : ℕ) (so-far : getD sums i 0 ≡ underBelow k tree c f) (a n : ℕ) where
+  added-here : i ≡ a → a < length sums → childOf tree c k ≡ true → n ≡ f k → getD (set sums a (getD sums a 0 + n)) i 0 ≡ underBelow (k + 1) tree c f
+  added-here e room child amount =
+      ap (λ (j : ℕ). getD (set sums a (getD sums a 0 + n)) j 0) e
+      ∙ getD-set-same sums a (getD sums a 0 + n) 0 room
+      ∙ omega (arith, amount, so-far, ap (λ (j : ℕ). getD sums j 0) e, under-next tree c f k, counted (childOf tree c k) f k child)
+
+  added-elsewhere : (i ≡ a → ⊥) → (childOf tree c k ≡ true → f k ≡ 0) → getD (set sums a (getD sums a 0 + n)) i 0 ≡ underBelow (k + 1) tree c f
+  added-elsewhere ne nothing = getD-set-other sums a i (getD sums a 0 + n) 0 ne ∙ so-far ∙ sym (under-skip tree c f k nothing)
+
 -- All sums at once: node k's term is added to the sum of its parent.
 module _ (which : Summand) (t : List ℤ) where
   pub sums-start : SumsBelow which t 1 (replicate nodes 0)
@@ -77,21 +89,14 @@ module _ (which : Summand) (t : List ℤ) where
   sums-next sums k p n here below parent hp amount f =
       record {
         long = length-set sums p (getD sums p 0 + n) ∙ f .long;
-        at = λ c hc. elim (ℕ-discrete c p) [ yes e ↦ same c hc e | no ne ↦ other c hc ne ];
+        at = λ c hc.
+            elim (ℕ-discrete c p) [
+              | yes e ↦
+                  (let child = child-of (treeOf t) c k (record { there = here; below = below; parent = parent ∙ sym e }) in
+                  added-here (treeOf t) c (term which t) k sums c (f .at c hc) p n e (omega (arith, f .long)) child amount)
+              | no ne ↦ added-elsewhere (treeOf t) c (term which t) k sums c (f .at c hc) p n ne (λ child. absurd (ne (sym (child-facts (treeOf t) c k child .parent) ∙ parent)))
+            ];
       }
-    where
-      same : (c : ℕ) → c < nodes → c ≡ p → getD (set sums p (getD sums p 0 + n)) c 0 ≡ underBelow (k + 1) (treeOf t) c (term which t)
-      same c hc e =
-          let child = child-of (treeOf t) c k (record { there = here; below = below; parent = parent ∙ sym e }) in
-          ap (λ (j : ℕ). getD (set sums p (getD sums p 0 + n)) j 0) e
-          ∙ getD-set-same sums p (getD sums p 0 + n) 0 (omega (arith, f .long))
-          ∙ omega (arith, amount, f .at c hc, ap (λ (j : ℕ). getD sums j 0) e, under-next (treeOf t) c (term which t) k, counted (childOf (treeOf t) c k) (term which t) k child)
-
-      other : (c : ℕ) → c < nodes → (c ≡ p → ⊥) → getD (set sums p (getD sums p 0 + n)) c 0 ≡ underBelow (k + 1) (treeOf t) c (term which t)
-      other c hc ne =
-          getD-set-other sums p c (getD sums p 0 + n) 0 ne
-          ∙ f .at c hc
-          ∙ sym (under-skip (treeOf t) c (term which t) k (λ e. absurd (ne (sym (child-facts (treeOf t) c k e .parent) ∙ parent))))
 
 -- A balance is not on both sides of 0.
 pub one-side : (t : List ℤ) (k : ℕ) → min (term Credits t k) (term Debts t k) ≡ 0
@@ -100,8 +105,8 @@ one-side t k = one-is-zero (balance t k)
 
 -- All sums of shares at once: node k's share is added to the sum of its kind under its parent.
 module _ (t : List ℤ) where
-  pub share-sums-start : ShareSums t 1 (replicate (kinds * nodes) 0)
-  share-sums-start = record { long = length-replicate {A = ℕ} (kinds * nodes) 0; at = λ c kind hc hk. getD-replicate (kinds * nodes) (sumAt c kind) 0 0 (omega arith) ∙ sym (under-root (treeOf t) c (kindShare (treeOf t) kind)) }
+  pub share-sums-start : ShareSums t 1 (replicate shareSums 0)
+  share-sums-start = record { long = length-replicate {A = ℕ} shareSums 0; at = λ c kind hc hk. getD-replicate shareSums (sumAt c kind) 0 0 (omega arith) ∙ sym (under-root (treeOf t) c (kindShare (treeOf t) kind)) }
 
   pub share-sums-end : (sums : List ℕ) → ShareSums t nodes sums → (c kind : ℕ) → c < nodes → kind < kinds → getD sums (sumAt c kind) 0 ≡ kindSum (treeOf t) kind c
   unfolding kindSum
@@ -116,10 +121,10 @@ module _ (t : List ℤ) where
       omega (arith, counted (childOf (treeOf t) c k) (kindShare (treeOf t) kind) k e, kind-share-le (treeOf t) kind k, s .small k hk (child .there) (child .below)))
       (λ e. omega (arith, uncounted (childOf (treeOf t) c k) (kindShare (treeOf t) kind) k e))
 
-  pub share-sums-small : Shareable t → (n : ℕ) → n ≤ nodes → (sums : List ℕ) → ShareSums t n sums → (c kind : ℕ) → c < nodes → kind < kinds → getD sums (sumAt c kind) 0 ≤ n * greatestRate
+  pub share-sums-small : Shareable t → (n : ℕ) → n ≤ nodes → (sums : List ℕ) → ShareSums t n sums → (c kind a : ℕ) → c < nodes → kind < kinds → a ≡ sumAt c kind → getD sums a 0 ≤ n * greatestRate
   unfolding underBelow
-  share-sums-small s n hn sums f c kind hc hk =
-      omega (arith, f .at c kind hc hk, sum-bound n greatestRate (λ k. countIf (childOf (treeOf t) c k) (kindShare (treeOf t) kind) k) (λ k h. share-small s kind c k (omega arith)))
+  share-sums-small s n hn sums f c kind a hc hk at =
+      omega (arith, ap (λ (i : ℕ). getD sums i 0) at, f .at c kind hc hk, sum-bound n greatestRate (λ k. countIf (childOf (treeOf t) c k) (kindShare (treeOf t) kind) k) (λ k h. share-small s kind c k (omega arith)))
 
   -- A node that is not there leaves all sums.
   pub share-sums-same : (sums : List ℕ) (k : ℕ) → there (treeOf t) k ≡ false → ShareSums t k sums → ShareSums t (k + 1) sums
@@ -129,33 +134,18 @@ module _ (t : List ℤ) where
         at = λ c kind hc hk. f .at c kind hc hk ∙ sym (under-skip (treeOf t) c (kindShare (treeOf t) kind) k (λ e. absurd (true-false (child-facts (treeOf t) c k e .there) gone)));
       }
 
-  pub share-sums-next : (sums : List ℕ) (k p d s : ℕ) → there (treeOf t) k ≡ true → (k ≡ 0 → ⊥) → treeOf t .parent k ≡ p → p < nodes → treeOf t .kind k ≡ d → d < kinds → s ≡ treeOf t .share k → ShareSums t k sums → ShareSums t (k + 1) (set sums (sumAt p d) (getD sums (sumAt p d) 0 + s))
-  share-sums-next sums k p d s here below parent hp own hd share f =
+  pub share-sums-next : (sums : List ℕ) (k p d a n : ℕ) → there (treeOf t) k ≡ true → (k ≡ 0 → ⊥) → treeOf t .parent k ≡ p → p < nodes → treeOf t .kind k ≡ d → d < kinds → a ≡ sumAt p d → n ≡ treeOf t .share k → ShareSums t k sums → ShareSums t (k + 1) (set sums a (getD sums a 0 + n))
+  share-sums-next sums k p d a n here below parent hp own hd at amount f =
       record {
-        long = length-set sums (sumAt p d) (getD sums (sumAt p d) 0 + s) ∙ f .long;
+        long = length-set sums a (getD sums a 0 + n) ∙ f .long;
         at = λ c kind hc hk.
-            elim (ℕ-discrete (sumAt c kind) (sumAt p d)) [
-              | yes e ↦ same c kind hc hk (omega arith) (omega arith)
-              | no ne ↦ getD-set-other sums (sumAt p d) (sumAt c kind) (getD sums (sumAt p d) 0 + s) 0 ne ∙ f .at c kind hc hk ∙ sym (under-skip (treeOf t) c (kindShare (treeOf t) kind) k (other c kind ne))
+            let shares = kindShare (treeOf t) kind in
+            elim (ℕ-discrete (sumAt c kind) a) [
+              | yes e ↦
+                  (let child = child-of (treeOf t) c k (record { there = here; below = below; parent = omega (arith, parent) }) in
+                  added-here (treeOf t) c shares k sums (sumAt c kind) (f .at c kind hc hk) a n e (omega (arith, f .long)) child (amount ∙ sym (own-share (treeOf t) kind k (omega (arith, own)))))
+              | no ne ↦
+                  added-elsewhere (treeOf t) c shares k sums (sumAt c kind) (f .at c kind hc hk) a n ne
+                  (λ child. other-share (treeOf t) kind k (λ e. ne (omega (arith, child-facts (treeOf t) c k child .parent))))
             ];
       }
-    where
-      same : (c kind : ℕ) → c < nodes → kind < kinds → c ≡ p → kind ≡ d → getD (set sums (sumAt p d) (getD sums (sumAt p d) 0 + s)) (sumAt c kind) 0 ≡ underBelow (k + 1) (treeOf t) c (kindShare (treeOf t) kind)
-      same c kind hc hk ep ed =
-          let child = child-of (treeOf t) c k (record { there = here; below = below; parent = parent ∙ sym ep }) in
-          let at : sumAt c kind ≡ sumAt p d = omega arith in
-          ap (λ (j : ℕ). getD (set sums (sumAt p d) (getD sums (sumAt p d) 0 + s)) j 0) at
-          ∙ getD-set-same sums (sumAt p d) (getD sums (sumAt p d) 0 + s) 0 (omega (arith, f .long))
-          ∙ omega (
-            arith,
-            share,
-            f .at c kind hc hk,
-            ap (λ (j : ℕ). getD sums j 0) at,
-            under-next (treeOf t) c (kindShare (treeOf t) kind) k,
-            counted (childOf (treeOf t) c k) (kindShare (treeOf t) kind) k child,
-            own-share (treeOf t) kind k (own ∙ sym ed),
-          )
-
-      -- The node adds nothing to the sum of another class or another kind.
-      other : (c kind : ℕ) → (sumAt c kind ≡ sumAt p d → ⊥) → childOf (treeOf t) c k ≡ true → kindShare (treeOf t) kind k ≡ 0
-      other c kind ne child = other-share (treeOf t) kind k (λ e. ne (omega (arith, child-facts (treeOf t) c k child .parent)))

@@ -44,11 +44,14 @@ pub record Shareable (t : List ℤ) : Type 0 where
   pub kind : (k : ℕ) → k < nodes → there (treeOf t) k ≡ true → (k ≡ root → ⊥) → treeOf t .kind k < kinds
   pub small : (k : ℕ) → k < nodes → there (treeOf t) k ≡ true → (k ≡ root → ⊥) → treeOf t .share k ≤ greatestRate
 
--- Where the sum of one kind under class c stands in the list of all of them.
+-- How many sums of shares there are, and where the sum of one kind under class c stands among them.
+abbrev pub shareSums : ℕ
+shareSums = kinds * nodes
+
 abbrev pub sumAt : ℕ → ℕ → ℕ
 sumAt c kind = kind * nodes + c
 
 -- A list has the sums of the shares of each kind under each class, of the nodes below n.
 pub record ShareSums (t : List ℤ) (n : ℕ) (sums : List ℕ) : Type 0 where
-  pub long : length sums ≡ kinds * nodes
+  pub long : length sums ≡ shareSums
   pub at : (c kind : ℕ) → c < nodes → kind < kinds → getD sums (sumAt c kind) 0 ≡ underBelow n (treeOf t) c (kindShare (treeOf t) kind)

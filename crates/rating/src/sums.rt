@@ -4,11 +4,11 @@ ghost use mathlib.Core.Bool.{cond};
 ghost use Prim.Native.Nat.{_+_, _-_, _^_, _≤_, _<_, min};
 ghost use lib.ListN.{length, getD, set};
 ghost use lib.Dec.{eqb, ltb};
-ghost use Rattle.table.specs.Limits.{tableLength, nodes, root, fixed, weighted, stated, wholeShare, greatestRate};
+ghost use Rattle.table.specs.Limits.{tableLength, nodes, root, kinds, fixed, weighted, stated, wholeShare, greatestRate};
 ghost use Rattle.table.specs.Tree.{treeOf, childOf, countIf, sumUnder};
 ghost use Rattle.table.specs.Rates.{kindShare, kindSum, fixedSum, statedSum};
 ghost use Rattle.treelaws.specs.Stated.{statedWrongWith};
-ghost use Rattle.rating.specs.Sums.{term, Summable, SumsBelow, Shareable, sumAt, ShareSums};
+ghost use Rattle.rating.specs.Sums.{term, Summable, SumsBelow, Shareable, shareSums, sumAt, ShareSums};
 use super::tree;
 use table::Table;
 
@@ -157,6 +157,15 @@ pub fn add_one_of(
     }
 }
 
+// Where the sum of one kind under class c stands among the sums of shares, which stand kind by kind.
+fn sum_at(c: usize, kind: usize) -> usize
+    requires { ⌜ (c < nodes) × (kind < kinds) ⌝ }
+    ensures place { λ r. ⌜ r ≡ sumAt c kind ⌝ }
+    ensures small { λ r. ⌜ r < shareSums ⌝ }
+{
+    kind * Table::NODES + c
+}
+
 // Adds the share of node k, where it is there, to the sum of its kind under its class.
 pub fn add_share(table: &[i64], shares: &mut [u64; Table::SHARE_SUMS], k: usize)
     requires { ⌜ (length (now table) ≡ tableLength) × Shareable (now table) × (0 < k) × (k < nodes) × ShareSums (now table) k (now shares) ⌝ }
@@ -167,7 +176,7 @@ pub fn add_share(table: &[i64], shares: &mut [u64; Table::SHARE_SUMS], k: usize)
     }
     let c = Table::natural(table, k, Table::PARENT) as usize;
     let kind = Table::natural(table, k, Table::KIND) as usize;
-    let at = kind * Table::NODES + c;
+    let at = sum_at(c, kind);
     shares[at] = shares[at] + Table::natural(table, k, Table::SHARE);
 }
 
@@ -189,8 +198,8 @@ pub fn under(shares: &[u64; Table::SHARE_SUMS], c: usize) -> UnderClass
     ensures { λ r. ⌜ (r .fixed ≡ getD (now (shares .entry)) (sumAt c fixed) 0) × (r .weights ≡ getD (now (shares .entry)) (sumAt c weighted) 0) × (r .stated ≡ getD (now (shares .entry)) (sumAt c stated) 0) ⌝ }
 {
     UnderClass {
-        fixed: shares[Table::FIXED as usize * Table::NODES + c],
-        weights: shares[Table::WEIGHTED as usize * Table::NODES + c],
-        stated: shares[Table::STATED as usize * Table::NODES + c],
+        fixed: shares[sum_at(c, Table::FIXED as usize)],
+        weights: shares[sum_at(c, Table::WEIGHTED as usize)],
+        stated: shares[sum_at(c, Table::STATED as usize)],
     }
 }

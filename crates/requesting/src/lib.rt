@@ -7,6 +7,7 @@ ghost use lib.IntN.{pos};
 ghost use Rattle.table.specs.Limits.{tableLength, nodes, mostWaiting, tagAt, sizeAt, arrivalAt};
 ghost use Rattle.table.specs.Places.{put, queuePlace, count, waiting};
 ghost use Rattle.table.specs.Order.{inOrder};
+ghost use Rattle.table.specs.Refusals.{lastRefusal};
 ghost use Rattle.table.specs.Answers.{told};
 ghost use Rattle.table.specs.Calls.{requested, requestRefusal, requestTable, requestAnswer};
 ghost use Rattle.requesting.specs.Limits.{requestLimits};
@@ -48,7 +49,7 @@ fn request_limits(client: i64, size: i64) -> bool
 fn tree_refusal(table: &[i64], k: usize, size: u64) -> u64
     requires { ⌜ (inOrder (now table) ≡ true) × (requestLimits (pos k) (pos size) ≡ true) ⌝ }
     ensures first { λ r. ⌜ r ≡ requestRefusal (now (table .entry)) (pos k) (pos 0) (pos size) ⌝ }
-    ensures small { λ r. ⌜ r ≤ 12 ⌝ }
+    ensures small { λ r. ⌜ r ≤ lastRefusal ⌝ }
 {
     if !rating::tree::there(table, k) {
         return 3;
@@ -82,7 +83,7 @@ pub fn request_in_order(table: &mut [i64], k: usize, tag: i64, size: u64)
 // The number of the first cause that turns a request back, or 0.
 fn request_refusal(table: &[i64], client: i64, tag: i64, size: i64) -> u64
     ensures first { λ r. ⌜ r ≡ requestRefusal (now (table .entry)) client tag size ⌝ }
-    ensures small { λ r. ⌜ r ≤ 12 ⌝ }
+    ensures small { λ r. ⌜ r ≤ lastRefusal ⌝ }
 {
     if !order::in_order(table) {
         return 1;

@@ -1,6 +1,7 @@
 // Tick: balances grow, and waiting requests go.
 ghost use mathlib.Core.Path.{_≡_};
 ghost use Prim.Native.Nat.{_≤_};
+ghost use Rattle.table.specs.Refusals.{lastRefusal};
 ghost use Rattle.table.specs.Answers.{told};
 ghost use Rattle.table.specs.Tick.{tickRefusal, tickTable, tickList, tickAnswer};
 use table::Answer;
@@ -9,7 +10,7 @@ use table::Table;
 // The number of the first cause that turns a tick back, or 0.
 fn tick_refusal(table: &[i64], list: &[i64]) -> u64
     ensures first { λ r. ⌜ r ≡ tickRefusal (now (table .entry)) (now (list .entry)) ⌝ }
-    ensures small { λ r. ⌜ r ≤ 13 ⌝ }
+    ensures small { λ r. ⌜ r ≤ lastRefusal ⌝ }
 {
     if !order::in_order(table) {
         return 1;

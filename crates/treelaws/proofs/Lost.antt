@@ -4,11 +4,10 @@
 -- are of them.
 use Prim.Native.Nat.{ℕ, _+_, _*_, _-_, _≤_, _<_}
 use mathlib.Core.Path.{_≡_, refl, ap}
-use mathlib.Core.Bool.{true, false}
+use mathlib.Core.Bool.{true}
 use mathlib.Core.List.{List, [], _∷_}
 use native.Mathlib.Omega.{arith}
 use native.Mathlib.Nat.{div-zero, lt-of-mul-lt-mul-right}
-use lib.ListN.{length}
 use lib.IntN.{ℤ, pos}
 use lib.Signed.{leZ}
 use Rattle.numbers.specs.Whole.{plus, minus}
@@ -16,8 +15,8 @@ use Rattle.numbers.proofs.Tests.{by-test, cond-true}
 use Rattle.numbers.proofs.Parts.{one-is-zero, plus-pos, minus-pos, eq-parts, add-parts, zarith}
 use Rattle.table.specs.Limits.{nodes, weighted as weightedKind, wholeShare}
 use Rattle.table.specs.Places.{rate}
-use Rattle.table.specs.Tree.{treeOf, isClass, isStated, childOf, sumUnder}
-use Rattle.table.specs.Rates.{kindShare, kindSum, fixedSum, weightSum, statedSum, fixedRate, leftRate, weightedRate, unstatedRate}
+use Rattle.table.specs.Tree.{treeOf, isClass, childOf, sumUnder}
+use Rattle.table.specs.Rates.{kindShare, kindSum, fixedSum, weightSum, fixedRate, leftRate, weightedRate, unstatedRate}
 use Rattle.table.specs.Calls.{lostGrains}
 use Rattle.table.proofs.Facts.{InOrder}
 use Rattle.table.proofs.Rates.{fixed-rounded, left-rounded, weighted-rounded}

@@ -4,7 +4,7 @@
 -- is left.
 use Prim.Native.Nat.{ℕ, zero, suc, _+_, _*_, _-_, _/_, _≤_, _<_}
 use mathlib.Core.Path.{_≡_, refl, sym, ap, _∙_}
-use mathlib.Core.Bool.{Bool, true, false, cond}
+use mathlib.Core.Bool.{true, false, cond}
 use mathlib.Core.List.{List, [], _∷_}
 use native.Mathlib.Omega.{arith}
 use native.Mathlib.Nat.{div-mul-le-self, le-div-iff-mul-le, div-le-of-le-mul, div-zero, mul-le-mul-left, add-zero}
@@ -20,7 +20,7 @@ use Rattle.table.specs.Tree.{Tree, treeOf, there, isClass, isFixed, isStated, c
 use Rattle.table.specs.Places.{place, rate}
 use Rattle.table.specs.Rates.{kindShare, kindSum, fixedSum, weightSum, statedSum, fixedRate, leftRate, weightedRate, dividedRate, unstatedRate, childRate, rateAtLevel, rateIn}
 use Rattle.table.proofs.Facts.{InOrder}
-use Rattle.table.proofs.ShareKinds.{stated-kind, unstated-kind, fixed-kind, weighted-kind, own-share, other-share, limit-unstated}
+use Rattle.table.proofs.ShareKinds.{stated-kind, unstated-kind, fixed-kind, weighted-kind, own-share, other-share, unstated-share}
 use Rattle.treelaws.proofs.Children.{class-there, child-facts, child-of, child-le-sum, under-cong, under-zero}
 use Rattle.treelaws.specs.Shares.{Share, fixed, weighted, stated, fixedPart, weightPart, statedPart, dividedPart, sumOf, shareRate, restOf, ratesOf}
 use Rattle.treelaws.specs.Lost.{dividedCount}
@@ -216,14 +216,11 @@ pub record Shared (tree : Tree) (m k : ℕ) : Type 0 where
   pub share : tree .share k ≤ shareLimit (tree .kind k)
   pub stated : isStated tree k ≡ true → tree .share k ≤ m
 
-unstated-share-le : (tree : Tree) (m k : ℕ) → Shared tree m k → isStated tree k ≡ false → tree .share k ≤ wholeShare
-unstated-share-le tree m k f e = rw (limit-unstated (tree .kind k) (unstated-kind tree k e)) at (f .share)
-
 -- Then a child's rate is at most m where its class's is.
 fixed-child-le : (tree : Tree) (r m k : ℕ) → Shared tree m k → r ≤ m → isStated tree k ≡ false → isFixed tree k ≡ true → childRate tree r k ≤ m
 fixed-child-le tree r m k shared h s f =
     let rest : ℕ = unstatedRate r (statedSum tree (tree .parent k)) in
-    omega (arith, fixed-child tree (tree .parent k) r k refl s f, fixed-le rest (tree .share k) (unstated-share-le tree m k shared s), unstated-le r (statedSum tree (tree .parent k)))
+    omega (arith, fixed-child tree (tree .parent k) r k refl s f, fixed-le rest (tree .share k) (unstated-share tree k (shared .share) s), unstated-le r (statedSum tree (tree .parent k)))
 
 pub child-rate-le : (tree : Tree) (c r m k : ℕ) → k < nodes → childOf tree c k ≡ true → Shared tree m k → r ≤ m → childRate tree r k ≤ m
 child-rate-le tree c r m k hk h shared small =

@@ -1,11 +1,13 @@
 -- `sharing::stated_wrong` meets its contract: the stated rates as they are, with the new share in the place of the old.
-use mathlib.Core.Path.{_≡_, sym, ap, _∙_}
+use Prim.Native.Nat.{ℕ}
+use mathlib.Core.Path.{_≡_, sym, ap₂, _∙_}
 use native.Mathlib.Omega.{arith}
 use borrow.Author.Needs.{needs}
 use Rattle.table.specs.Tree.{treeOf}
 use Rattle.table.specs.Limits.{stated}
 use Rattle.table.proofs.Facts.{facts}
 use Rattle.table.proofs.Passed.{long}
+use Rattle.treelaws.specs.Stated.{statedWrongWith}
 use Rattle.rating.specs.declared.sums.Summand.the-variants.{Shares}
 use Rattle.rating.proofs.Summable.{in-order-summable}
 use Rattle.sharing.proofs.Sums.{own-stated, stated-with}
@@ -31,7 +33,9 @@ stated-wrong-requires c κs =
 returns : tie.Need-returns
 returns c =
     let s = c .before .before .before in
-    (rw (above (c .before .before), c .before .kind-share .ensures) at (c .stated-wrong .ensures))
+    let x = s .args in
+    c .stated-wrong .ensures
+    ∙ ap₂ (λ (p old : ℕ). statedWrongWith (x .table .now) p old (x .kind) (x .share)) (above (c .before .before)) (c .before .kind-share .ensures)
     ∙ sym (stated-with _ _ (facts _ (s .pre .0)) (s .pre .1) (s .pre .2) (s .pre .3) (s .args .kind) (s .args .share))
 
 pub stated-wrong-spec : {M : Type 1} → statement M

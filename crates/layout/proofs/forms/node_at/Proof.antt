@@ -4,10 +4,10 @@ use mathlib.Core.Path.{_≡_, ap, ap₂, _∙_}
 use native.Mathlib.Omega.{arith}
 use lib.ListN.{length}
 use Rattle.layout.specs.declared.Edition.{Edition}
-use Rattle.layout.specs.Bytes.{byteAt, le4}
-use Rattle.layout.specs.Format.{entryParentAt, bodyShareAt, shareLength, bodyLength, entryAt, bodyAt, planLength, editionIn, countIn, shareFrom, entryIn}
+use Rattle.layout.specs.Bytes.{pairValues, byteAt, le4}
+use Rattle.layout.specs.Format.{entryParentAt, bodyShareAt, shareLength, bodyLength, entryAt, bodyAt, editionIn, countIn, shareFrom, entryIn}
 use Rattle.layout.specs.Nodes.{entryBy}
-use Rattle.layout.proofs.Editions.{start-small, body-within, body-small, share-length-small, last-kind-small}
+use Rattle.layout.proofs.Editions.{body-within, body-small, last-kind-small}
 use Rattle.layout.proofs.Codec.{same-entry}
 use borrow.Author.Needs.{needs}
 use Rattle.layout.proofs.forms.node_at.Statement.{statement}
@@ -23,7 +23,7 @@ within c =
     let s = start c in
     omega (arith, c .body-at .ensures, s .pre .0 .long, body-within (s .args .edition) (s .args .n) (s .args .i) (s .pre .1))
 
-small : (c : tie.After-body-at) → c .body-at .result < 65536
+small : (c : tie.After-body-at) → c .body-at .result < pairValues
 small c =
     let s = start c in
     omega (arith, c .body-at .ensures, body-small (s .args .edition) (s .args .n) (s .args .i) (s .pre .0 .few) (omega (arith, s .pre .1)))

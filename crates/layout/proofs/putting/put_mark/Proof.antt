@@ -8,6 +8,7 @@ use Rattle.layout.specs.declared.Edition.the-variants.{Second}
 use Rattle.layout.specs.Bytes.{bytes2, bytes4}
 use Rattle.layout.specs.Format.{startOf, markBytes}
 use Rattle.layout.specs.Written.{written}
+use Rattle.layout.proofs.Editions.{markValue}
 use Rattle.layout.proofs.Written.{written-none}
 use borrow.Author.Needs.{needs}
 use Rattle.layout.proofs.putting.put_mark.Statement.{statement}
@@ -18,7 +19,7 @@ mark-told : {e d : Edition} (b : List ℕ) → e ≡ d → written b 0 (markByte
 mark-told b same = ap (λ (x : Edition). written b 0 (markBytes x)) (sym same)
 
 -- Four bytes FF as one integer.
-mark-bytes : bytes4 0xFFFFFFFF ≡ markBytes Second
+mark-bytes : bytes4 markValue ≡ markBytes Second
 unfolding markBytes bytes4 bytes2
 mark-bytes = refl
 

@@ -49,13 +49,13 @@ returns c =
 
 returns-2 : tie.Need-returns-2
 returns-2 c =
-    let halved = c .before .before in
-    let known = halved .before in
+    let divided = c .before .before in
+    let known = divided .before in
     let start = known .before in
     let pre = start .pre .0 in
     let tree = treeOf (start .args .table .now) in
     let unfixed = sym (c .before .is-fixed .ensures) ∙ c .if1 .left in
-    let left = halved .left-rate .ensures in
+    let left = divided .left-rate .ensures in
     record {
       rate =
           weighted-child tree (tree .parent (start .args .k)) (start .args .rate) (start .args .k) refl (start .pre .1) unfixed

@@ -1,6 +1,5 @@
 -- `rating::sums::kind_share` meets its contract, by the kind.
 use mathlib.Core.Path.{sym, _∙_}
-use borrow.Author.Tests.{eq-eqb, ne-eqb}
 use Rattle.table.specs.Tree.{treeOf}
 use Rattle.table.proofs.ShareKinds.{own-share, other-share}
 use borrow.Author.Needs.{needs}

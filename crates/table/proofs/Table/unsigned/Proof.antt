@@ -1,11 +1,9 @@
 -- `table::Table::unsigned` meets its contract, by those of `get` and `numbers::unsigned`.
-use mathlib.Core.Path.{_≡_, ap, _∙_}
-use lib.IntN.{ℤ}
+use mathlib.Core.Path.{ap, _∙_}
 use mir.Syntax.{w64}
 use mir.ValLaws.{toZ-ofZ}
 use borrow.Author.Needs.{sfits-of, needs}
 use Rattle.numbers.specs.Whole.{plus, minus}
-use Rattle.table.specs.Places.{place}
 use Rattle.table.proofs.Table.unsigned.Statement.{statement}
 use Rattle.table.proofs.Table.unsigned.Tie as tie
 

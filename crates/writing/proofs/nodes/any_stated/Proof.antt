@@ -1,6 +1,6 @@
 -- `writing::nodes::any_stated` meets its contract. The invariant: whether none of the nodes so far is stated.
 use Prim.Native.Nat.{_≤_, _-_}
-use mathlib.Core.Path.{_≡_, refl, ap, _∙_}
+use mathlib.Core.Path.{_≡_, refl, ap}
 use mathlib.Core.Bool.{not}
 use native.Mathlib.Omega.{arith}
 use Rattle.numbers.specs.Below.{allBelow}

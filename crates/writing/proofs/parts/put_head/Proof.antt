@@ -1,6 +1,6 @@
 -- `writing::parts::put_head` meets its contract: disk rate, root depth and count.
 use Prim.Native.Nat.{ℕ}
-use mathlib.Core.Path.{_≡_, ap, _∙_}
+use mathlib.Core.Path.{_≡_, _∙_}
 use mathlib.Core.List.{List, [], _∷_, _++_}
 use native.Mathlib.Omega.{arith}
 use Rattle.table.specs.Places.{rate}
