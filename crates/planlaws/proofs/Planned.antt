@@ -75,13 +75,13 @@ module _ (t : List ℤ) (f : InOrder t) where
 
   -- Kinds and shares by the edition.
   kind-fits : (e : Edition) → unwritable e (treeOf t) ≡ false → (i : ℕ) → i < length (order (treeOf t)) → kindOf (treeOf t .sort (listed (treeOf t) i)) (treeOf t .kind (listed (treeOf t) i)) ≤ lastKind e
-  unfolding unwritable lastKind treeOf
+  unfolding unwritable anyStated lastKind treeOf
   kind-fits First h i hi =
       first-kind _ _ (omega (arith, zarith, listed-limits i hi .kind, unstated-kind (treeOf t) (listed (treeOf t) i) (listed-unstated (unstated-of (treeOf t) h) i hi)))
   kind-fits Second h i hi = kind-small _ _
 
   share-fits : (e : Edition) → unwritable e (treeOf t) ≡ false → (i : ℕ) → i < length (order (treeOf t)) → treeOf t .share (listed (treeOf t) i) < shareValues e
-  unfolding unwritable shareValues treeOf
+  unfolding unwritable anyStated shareValues treeOf
   share-fits First h i hi =
       let k : ℕ = listed (treeOf t) i in
       let share : treeOf t .share k ≤ shareLimit (treeOf t .kind k) = omega (arith, zarith, listed-limits i hi .share) in

@@ -22,7 +22,7 @@ use Rattle.layout.specs.declared.Edition.the-variants.{First, Second}
 use Rattle.layout.specs.Kinds.{clientWeighted, clientStated, kindOf}
 use Rattle.layout.specs.Format.{Entry, Plan, lastKind, editionIn, planIn}
 use Rattle.planlaws.specs.Reading.{joinedFor, standing, rising, planRefusal, planTable}
-use Rattle.planlaws.specs.Writing.{order, entryOf, planOf, planBytes, unwritable}
+use Rattle.planlaws.specs.Writing.{order, entryOf, planOf, planBytes, anyStated, unwritable}
 use Rattle.layout.proofs.EachKind.{kind-again, first-unstated}
 use Rattle.layout.proofs.Editions.{last-kind-small}
 use Rattle.layout.proofs.Codec.{SamePlan, same-entry, same-bytes, formed-facts, read-bytes}
@@ -126,7 +126,7 @@ plan-keeps t s h = rw (plan-table t s h) (from-facts _ (plan-entered t s h .orde
 
 -- Its edition has a kind for each node of the table.
 entered-writable : (e : Edition) (p : Plan) (n : ℕ) (u : List ℤ) → ((i : ℕ) → i < n → p .entry i .kind ≤ lastKind e) → Entered p n u → unwritable e (treeOf u) ≡ false
-unfolding unwritable lastKind
+unfolding unwritable anyStated lastKind
 entered-writable First p n u known en = of-unstated (treeOf u) (entered-unstated p n u known en)
 entered-writable Second p n u known en = refl
 
