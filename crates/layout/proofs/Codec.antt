@@ -14,7 +14,8 @@ use Rattle.numbers.proofs.Every.{head-holds, rest-hold, none-left, holds-with}
 use Rattle.numbers.proofs.All.{all-at, all-intro}
 use Rattle.layout.specs.declared.Edition.{Edition}
 use Rattle.layout.specs.Bytes.{byteValues, fourValues, byteAt, le2, le4, bytes2, bytes4, bytesBelow}
-use Rattle.layout.specs.Format.{Entry, Plan, markBytes, startOf, headLength, entryLength, bodyLength, shareValues, lastCount, lastKind, diskRateAt, rootDepthAt, countAt, entryParentAt, entryOffsetAt, bodyShareAt, bodyDepthAt, entryAt, bodyAt, planLength, headBytes, entryBytes, shareBytes, bodyBytes, bytesOf, editionIn, countIn, shareFrom, entryIn, planIn, entryFormed, formed, Framed}
+use Rattle.layout.specs.Format.{Entry, Plan, markBytes, startOf, headLength, entryLength, bodyLength, shareValues, lastCount, lastKind, diskRateAt, rootDepthAt, countAt, entryParentAt, entryOffsetAt, bodyShareAt, bodyDepthAt, entryAt, bodyAt, planLength, headBytes, entryBytes, shareBytes, bodyBytes, bytesOf, editionIn, countIn, shareFrom, entryIn, planIn, entryFormed, formed}
+use Rattle.layout.specs.Framed.{Framed}
 use Rattle.layout.proofs.Shows.{Shows, same-byte, shown, shows-from, shows-self, shows-all, shows-none, shows-next, shows-left, shows-right, shows-both, length-below, shows-each, each-shows, shown2, shows2, shown4, shows4}
 use Rattle.layout.proofs.Editions.{markValue, length-mark, length-share, shown-share, shows-share, mark-tells, shows-mark, body-small}
 

@@ -1,5 +1,5 @@
--- Two plans in bytes whose nodes are worked by hand. Of the first edition: disk 1000, root depth 40; class 1 has weight 2 and depth 20; client 2 in it
--- has the fixed half of its rate and depth 10. Its kinds are 1 and 2, so it tells the two apart.
+-- Two plans in bytes whose nodes are worked by hand, one of each edition. The first: disk 1000, root depth 40; class 1 has weight
+-- 2 and depth 20; client 2 in it has the fixed half of its rate and depth 10. Its kinds are 1 and 2, so it tells the two apart.
 use Prim.Native.Nat.{ℕ}
 use mathlib.Core.Path.{_≡_, refl}
 use mathlib.Core.Bool.{true, false}

@@ -1,7 +1,6 @@
 -- The plan file: what a plan says, where its bytes stand in each edition, and when they are well formed. Document 01, "Same
 -- tree, and the plan file", and document 02, (f).
-use Prim.Native.Nat.{ℕ, _+_, _*_, _≤_}
-use mathlib.Core.Path.{_≡_}
+use Prim.Native.Nat.{ℕ, _+_, _*_}
 use mathlib.Core.Bool.{Bool, cond}
 use mathlib.Core.List.{List, [], _∷_, _++_}
 use lib.ListN.{length}
@@ -139,6 +138,11 @@ unfoldable pub shareBytes : Edition → ℕ → List ℕ
 shareBytes First n = bytes2 n
 shareBytes Second n = bytes4 n
 
+-- How many values a share has.
+unfoldable pub shareValues : Edition → ℕ
+shareValues First = pairValues
+shareValues Second = fourValues
+
 -- Body i of 7 bytes, and in the second edition of 9: kind 1, share, depth 4.
 unfoldable pub bodyBytes : Edition → Plan → ℕ → List ℕ
 bodyBytes e p i = p .entry i .kind ∷ shareBytes e (p .entry i .share) ++ bytes4 (p .entry i .depth)
@@ -194,15 +198,3 @@ formed s =
     ∷ eqb (length s) (planLength (editionIn s) (countIn s))
     ∷ allBelow (countIn s) (entryFormed s)
     ∷ [])
-
--- The bytes s are of edition e and have n entries, as far as mark, count and length tell.
-pub record Framed (s : List ℕ) (e : Edition) (n : ℕ) : Type 0 where
-  pub edition : e ≡ editionIn s
-  pub counted : n ≡ countIn s
-  pub few : n ≤ lastCount
-  pub long : length s ≡ planLength e n
-
--- How many values a share has.
-unfoldable pub shareValues : Edition → ℕ
-shareValues First = pairValues
-shareValues Second = fourValues

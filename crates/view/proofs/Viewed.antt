@@ -6,7 +6,8 @@ use mathlib.Core.List.{List}
 use native.Mathlib.Omega.{arith}
 use lib.ListN.{length}
 use Rattle.layout.specs.declared.Edition.{Edition}
-use Rattle.layout.specs.Format.{headLength, lastKind, startOf, editionIn, countIn, entryIn, formed, Framed}
+use Rattle.layout.specs.Format.{headLength, lastKind, startOf, editionIn, countIn, entryIn, formed}
+use Rattle.layout.specs.Framed.{Framed}
 use Rattle.layout.proofs.Codec.{formed-facts, formed-frame}
 use Rattle.view.specs.Views.{Views}
 

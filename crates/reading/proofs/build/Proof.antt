@@ -5,7 +5,8 @@ use native.Mathlib.Omega.{arith}
 use borrow.Author.Tests.{not-true, not-false}
 use lib.IntN.{pos}
 use Rattle.table.specs.Calls.{openRefusal}
-use Rattle.layout.specs.Format.{startOf, planLength, planIn, formed, Framed}
+use Rattle.layout.specs.Format.{startOf, planLength, planIn, formed}
+use Rattle.layout.specs.Framed.{Framed}
 use Rattle.planlaws.specs.Reading.{openedFor, entriesRefusal, rising}
 use Rattle.layout.proofs.Codec.{formed-facts}
 use Rattle.planlaws.proofs.Accepted.{accepted-plan}

@@ -32,7 +32,7 @@ number : (c : tie.After-build) → c .build .result ≡ planRefusal (start c .ar
 unfolding checkAnswer blank
 number c = c .build .ensures .0 ∙ check-any _ _ (c .before .before .if1 .left)
 
--- Refused, the number only counts.
+-- Where it is refused, only the number counts.
 refused-as : {n m : ℕ} (values others : List ℤ) → (n ≡ 0 → ⊥) → n ≡ m → outcome n values ≡ outcome m others
 refused-as {n} values others ne same = outcome-refused n values ne ∙ sym (outcome-refused n others ne) ∙ ap (λ (k : ℕ). outcome k others) same
 
