@@ -3,6 +3,7 @@
 use crate::cost::{largest_size, RANGE_ENDS};
 use crate::rng::Rng;
 use crate::table::*;
+use crate::tick::ENTRY_LEN;
 
 /// Depths that the cost of a size at the end of a range just fits, or that are
 /// one below it.
@@ -80,6 +81,42 @@ pub(crate) fn depth(rng: &mut Rng, table: &[i64], class: usize, parts: i64) -> i
         depth = rng.pick(&[1, left / 2, left, left + 1]);
     }
     depth.clamp(1, MAX_DEPTH)
+}
+
+/// A port for a joining node: so many of a hundred clients are on port 1, and few nodes
+/// of either sort ask for another.
+pub(crate) fn port(rng: &mut Rng, sort: i64, on_second: usize) -> i64 {
+    if rng.chance(2) {
+        let any = rng.number();
+        return rng.pick(&[1, 1, 1, 2, 2, -1, -1, 3, 256, 1 << 32, (1 << 32) + 1, any]);
+    }
+    i64::from(sort == CLIENT && rng.chance(on_second))
+}
+
+/// Lengths of the two lists of a tick, by how many requests wait on each port: mostly just
+/// enough or a little more, or one long enough for all. At times one lacks up to an entry,
+/// one has room for all and the other for none, or both are in each other's place.
+pub(crate) fn list_lens(rng: &mut Rng, waiting: [usize; PORTS]) -> [usize; PORTS] {
+    let needed = waiting.map(|count| ENTRY_LEN * count);
+    let all: usize = needed.iter().sum();
+    let enough = needed.map(|needed| {
+        let more = rng.below(9);
+        rng.pick(&[needed, needed, needed, needed + more, needed + more, all])
+    });
+    let one = rng.below(PORTS);
+    let mut lens = enough;
+    match rng.below(90) {
+        0..=3 => lens[one] = needed[one].saturating_sub(1 + rng.below(ENTRY_LEN)),
+        4 | 5 => lens = [needed[1], needed[0]],
+        6 => {
+            lens[one] = all + 4;
+            lens[1 - one] = needed[1 - one].saturating_sub(rng.pick(&[1, ENTRY_LEN, all]));
+        }
+        7 => lens = needed.map(|needed| needed / 2),
+        8 => lens = needed.map(|needed| needed.saturating_sub(1)),
+        _ => {}
+    }
+    lens
 }
 
 /// A class, often one of the lowest.

@@ -41,6 +41,7 @@ pub(crate) fn join(table: &mut [i64], new: &NewNode) -> Answer<i64> {
     set(table, node, KIND, new.kind);
     set(table, node, SHARE, new.share);
     set(table, node, DEPTH, new.depth);
+    set(table, node, PORT, new.port);
     rates::renew_below(table, parent);
     Ok(0)
 }
@@ -53,6 +54,7 @@ fn joining_numbers(new: &NewNode) -> Answer<(usize, usize)> {
     require([CLASS, CLIENT].contains(&new.sort), OUTSIDE_LIMITS)?;
     share_within_limits(new.kind, new.share)?;
     require((1..=MAX_DEPTH).contains(&new.depth), OUTSIDE_LIMITS)?;
+    require(port_is_lawful(new.sort, new.port), OUTSIDE_LIMITS)?;
     Ok((node, parent))
 }
 
@@ -117,7 +119,7 @@ pub(crate) fn look(table: &[i64], node: i64) -> Answer<Seen> {
 }
 
 /// Same: both tables have the same nodes with equal sorts and places 1 to 5,
-/// and equal disk rates.
+/// and equal disk rates. Ports do not count.
 pub(crate) fn same(first: &[i64], second: &[i64]) -> bool {
     let equal_rates = get(first, ROOT, RATE) == get(second, ROOT, RATE);
     equal_rates
@@ -182,7 +184,8 @@ mod tests {
             (3, 1, CLIENT, WEIGHTED, 1, 40),
             (4, 2, CLIENT, WEIGHTED, 1, 40),
         ] {
-            join(&mut table, &NewNode { node, parent, sort, kind, share, depth }).unwrap();
+            let new = NewNode { node, parent, sort, kind, share, depth, port: 0 };
+            join(&mut table, &new).unwrap();
         }
         for (node, rate) in [(0, -7), (1, 100), (2, i64::MAX), (3, -1), (4, i64::MIN)] {
             set(&mut table, node, RATE, rate);
@@ -198,7 +201,8 @@ mod tests {
     #[test]
     fn only_what_stands_below_the_class_is_renewed() {
         let mut table = wrong();
-        let new = NewNode { node: 5, parent: 1, sort: CLIENT, kind: WEIGHTED, share: 1, depth: 1 };
+        let (node, parent, sort, kind) = (5, 1, CLIENT, WEIGHTED);
+        let new = NewNode { node, parent, sort, kind, share: 1, depth: 1, port: 1 };
         // Halves of 100, then all of it, then a quarter.
         assert_eq!(join(&mut table, &new), Ok(0));
         assert_eq!(rates(&table), [-7, 100, i64::MAX, 50, i64::MIN, 50]);

@@ -2,6 +2,7 @@
 
 use crate::order;
 use crate::refusal::Answer;
+use crate::table::PORTS;
 use crate::{calls, plan, tick};
 
 /// The arguments of a join, any numbers.
@@ -19,11 +20,20 @@ pub struct NewNode {
     pub share: i64,
     /// Depth in tokens.
     pub depth: i64,
+    /// 0 or 1 for a client, 0 for a class.
+    pub port: i64,
 }
 
 /// What a look answers: rate, balance, waiting count, and the grains nobody
 /// gets.
 pub type Seen = [i64; 4];
+
+/// The dispatch lists of a tick: the first is that of port 0's clients, the second that
+/// of port 1's.
+pub type Lists<'a> = [&'a mut [i64]; PORTS];
+
+/// What a tick answers: how many dispatches each list received.
+pub type Counts = [i64; PORTS];
 
 /// A disk share controller: one method for each call, over raw buffers.
 ///
@@ -53,8 +63,8 @@ pub trait Controller {
     /// Request: answers its arrival number.
     fn request(&mut self, table: &mut [i64], client: i64, tag: i64, size: i64) -> Answer<i64>;
 
-    /// Tick, with a dispatch list: answers how many were dispatched.
-    fn tick(&mut self, table: &mut [i64], list: &mut [i64]) -> Answer<i64>;
+    /// Tick, with a dispatch list for each port: answers how many each received.
+    fn tick(&mut self, table: &mut [i64], lists: Lists) -> Answer<Counts>;
 
     /// Look at a node.
     fn look(&mut self, table: &[i64], node: i64) -> Answer<Seen>;
@@ -108,9 +118,9 @@ impl Controller for Engine {
         calls::request(table, client, tag, size)
     }
 
-    fn tick(&mut self, table: &mut [i64], list: &mut [i64]) -> Answer<i64> {
+    fn tick(&mut self, table: &mut [i64], lists: Lists) -> Answer<Counts> {
         order::check(table)?;
-        tick::tick(table, list)
+        tick::tick(table, lists)
     }
 
     fn look(&mut self, table: &[i64], node: i64) -> Answer<Seen> {

@@ -1,6 +1,6 @@
 //! Damage to the table: every clause of the in-order test broken alone, rates that
-//! are wrong at one node or below a whole class, stated nodes where there may be none,
-//! places written at random, wrong lengths, and lawful changes.
+//! are wrong at one node or below a whole class, stated nodes and ports where there may be
+//! none, places written at random, wrong lengths, and lawful changes.
 
 use crate::cost::{cost, largest_size, RANGE_ENDS};
 use crate::order::{self, *};
@@ -13,7 +13,7 @@ use crate::table::*;
 pub fn any(rng: &mut Rng, table: &[i64]) -> Vec<Step> {
     let clause = rng.below(CLAUSES.len());
     let of_shares = rng.pick(&[LIMITS_CLAUSE, STATED_PLACES_CLAUSE, STATED_RATES_CLAUSE]);
-    match rng.below(15) {
+    match rng.below(17) {
         0..=4 => isolated(rng, table, clause).unwrap_or_default(),
         5 | 6 => random_pokes(rng, table),
         7 => near_pokes(rng, table),
@@ -22,6 +22,8 @@ pub fn any(rng: &mut Rng, table: &[i64]) -> Vec<Step> {
         10 => other_depth(rng, table),
         11 | 12 => isolated(rng, table, RATES_CLAUSE).unwrap_or_default(),
         13 => isolated(rng, table, of_shares).unwrap_or_default(),
+        14 => other_port(rng, table),
+        15 => spare_place(rng, table),
         _ => vec![Step::Resize { len: wrong_length(rng) }],
     }
 }
@@ -37,18 +39,19 @@ pub fn isolated(rng: &mut Rng, table: &[i64], clause: usize) -> Option<Vec<Step>
     None
 }
 
-/// Steps that change one number of the tree, and the rates with it, so that
+/// Steps that change one number of the tree, and the rates with it, or a port, so that
 /// the table stays in order. There are none if no try succeeds.
 pub fn other_tree(rng: &mut Rng, table: &[i64]) -> Vec<Step> {
     for _ in 0..20 {
         let mut changed = table.to_vec();
         let node = some(rng, used_nodes(table)).unwrap_or(ROOT);
-        let place = rng.pick(&[SORT, PARENT, KIND, SHARE, DEPTH, RATE]);
+        let place = rng.pick(&[SORT, PARENT, KIND, SHARE, DEPTH, RATE, PORT]);
         let old = get(table, node, place);
         let value = match place {
             SORT => CLASS + CLIENT - old,
             PARENT => rng.between(0, 63),
             KIND => rng.pick(&KINDS),
+            PORT => 1 - old,
             _ => old + rng.pick(&[-1, 1]),
         };
         set(&mut changed, node, place, value);
@@ -152,6 +155,37 @@ fn other_depth(rng: &mut Rng, table: &[i64]) -> Vec<Step> {
     pokes(table, &changed)
 }
 
+/// Puts a client on the other port, or gives it, a class or an unused record a port that
+/// none has.
+fn other_port(rng: &mut Rng, table: &[i64]) -> Vec<Step> {
+    let client = some(rng, clients(table)).unwrap_or(ROOT);
+    let value = if rng.chance(50) { 1 - get(table, client, PORT) } else { wrong_port(rng) };
+    let unused = some(rng, (0..NODES).filter(|&node| !is_used(table, node))).unwrap_or(ROOT);
+    let class = some(rng, classes(table)).unwrap_or(ROOT);
+    let node = rng.pick(&[client, client, client, class, unused]);
+    vec![Step::Poke { place: at(node, PORT), value }]
+}
+
+/// A port that no client has.
+fn wrong_port(rng: &mut Rng) -> i64 {
+    let any = rng.number() | 2;
+    rng.pick(&[2, 2, -1, -1, 3, 255, 256, 1 << 32, (1 << 32) + 1, i64::MIN, i64::MAX, any])
+}
+
+/// Writes a place of a record beside its port, the first or the last of those that are
+/// always zero, or that of an unused record's port.
+fn spare_place(rng: &mut Rng, table: &[i64]) -> Vec<Step> {
+    let node = rng.below(NODES);
+    let used = some(rng, used_nodes(table)).unwrap_or(ROOT);
+    let value = rng.pick(&[1, 1, -1, 2, i64::MAX]);
+    let (node, place) = match rng.below(3) {
+        0 if !is_used(table, node) => (node, PORT),
+        1 => (node, rng.pick(&[SPARE, QUEUE - 1])),
+        _ => (used, rng.pick(&[SPARE, QUEUE - 1])),
+    };
+    vec![Step::Poke { place: at(node, place), value }]
+}
+
 /// Makes a client's depth so many tokens less than its largest waiting cost, and
 /// its balance no more than that.
 fn tighten(table: &mut [i64], client: usize, missing: i64) {
@@ -203,7 +237,7 @@ fn break_clause(rng: &mut Rng, table: &mut [i64], clause: usize) -> Option<()> {
             let node = some(rng, used_nodes(table))?;
             set(table, node, SORT, rng.pick(&[i64::MIN, -1, 3, i64::MAX]));
         }
-        4 => break_zeros(rng, table)?,
+        ZEROS_CLAUSE => break_zeros(rng, table)?,
         LIMITS_CLAUSE => break_limits(rng, table)?,
         6 => break_parent(rng, table)?,
         7 => break_class_level(rng, table)?,
@@ -243,6 +277,7 @@ fn break_clause(rng: &mut Rng, table: &mut [i64], clause: usize) -> Option<()> {
         17 => break_arrivals(rng, table)?,
         STATED_PLACES_CLAUSE => break_stated_places(rng, table)?,
         STATED_RATES_CLAUSE => break_stated_rates(rng, table)?,
+        PORTS_CLAUSE => break_ports(rng, table)?,
         _ => return None,
     }
     Some(())
@@ -266,7 +301,8 @@ fn break_root(rng: &mut Rng, table: &mut [i64]) {
 fn break_zeros(rng: &mut Rng, table: &mut [i64]) -> Option<()> {
     let node = rng.below(NODES);
     let place = if !is_used(table, node) {
-        1 + rng.below(RECORD_LEN - 1)
+        let any = 1 + rng.below(RECORD_LEN - 1);
+        rng.pick(&[any, any, PORT])
     } else if rng.chance(40) {
         SPARE + rng.below(QUEUE - SPARE)
     } else {
@@ -329,6 +365,20 @@ fn break_stated_rates(rng: &mut Rng, table: &mut [i64]) -> Option<()> {
     Some(())
 }
 
+/// Gives a client a port that none has, or a class one other than 0.
+fn break_ports(rng: &mut Rng, table: &mut [i64]) -> Option<()> {
+    let client = some(rng, clients(table));
+    match client.filter(|_| rng.chance(60)) {
+        Some(client) => set(table, client, PORT, wrong_port(rng)),
+        None => {
+            let class = some(rng, classes(table))?;
+            let port = wrong_port(rng);
+            set(table, class, PORT, rng.pick(&[1, 1, port]));
+        }
+    }
+    Some(())
+}
+
 fn break_parent(rng: &mut Rng, table: &mut [i64]) -> Option<()> {
     let node = some(rng, used_nodes(table).filter(|&node| node != ROOT))?;
     if rng.chance(50) {
@@ -348,6 +398,7 @@ fn break_class_level(rng: &mut Rng, table: &mut [i64]) -> Option<()> {
     let client = some(rng, deepest)?;
     set(table, client, SORT, CLASS);
     set(table, client, WAITING, 0);
+    set(table, client, PORT, 0);
     table[at(client, QUEUE)..at(client, RECORD_LEN)].fill(0);
     Some(())
 }

@@ -16,8 +16,8 @@ pub(crate) fn rate(rng: &mut Rng) -> i64 {
     in_grains(ROOT_DEPTH) / rng.pick(&[400, 200, 100, 50, 25])
 }
 
-/// A class or a client that mostly fits into the tree. Under the root so many of a
-/// hundred are stated.
+/// A class or a client that mostly fits into the tree, on port 0. Under the root so many of
+/// a hundred are stated.
 pub(crate) fn new_node(rng: &mut Rng, table: &[i64], stated: usize) -> NewNode {
     let parent = arguments::class(rng, table);
     let level = get(table, parent, LEVEL);
@@ -37,6 +37,7 @@ pub(crate) fn new_node(rng: &mut Rng, table: &[i64], stated: usize) -> NewNode {
         kind,
         share,
         depth: rng.between(most / 3, most),
+        port: 0,
     }
 }
 

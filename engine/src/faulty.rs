@@ -1,14 +1,16 @@
 //! Controllers with one known fault each: the paper's slips, the fakes that
 //! document 01 names, misreadings of what a request costs, of the grains nobody
-//! gets, of what step 4 picks, of which rates are renewed, of stated rates and of the
-//! editions of plans, and some more. The judge or the differential must object to every one of them.
+//! gets, of what step 4 picks, of which rates are renewed, of stated rates, of the
+//! editions of plans and of ports, and some more. The judge or the differential must object to every one of them.
 
-use crate::controller::{Controller, Engine, NewNode, Seen};
+use crate::controller::{Controller, Counts, Engine, Lists, NewNode, Seen};
 use crate::damage::failing;
+use crate::faulty_parts::Dispatched;
 use crate::faulty_renewals::{self, Cause, Change};
 use crate::refusal::*;
+use crate::steps::with_lent_counts;
 use crate::table::*;
-use crate::{calls, faulty_parts, faulty_plans, faulty_stated, order, rates, tick};
+use crate::{calls, faulty_parts, faulty_plans, faulty_ports, faulty_stated, order, rates};
 
 /// A fault.
 #[derive(Clone, Copy, Debug, PartialEq, Eq)]
@@ -104,6 +106,8 @@ pub enum Fault {
     WrongStated(Stated),
     /// The editions of plans are misread.
     WrongEditions(Editions),
+    /// Ports are misread.
+    WrongPorts(Ports),
     /// The in-order test lacks the clause of that number.
     LacksClause(usize),
 }
@@ -479,8 +483,147 @@ pub enum Editions {
     NumberBeforeOrder,
 }
 
+/// Misreadings of ports. Where nothing else is said, a client joins with port 0 or 1 and a
+/// class with 0, a port is the list on which a client's dispatches stand, and each list is
+/// long enough for all that waits at its own port's clients.
+#[derive(Clone, Copy, Debug, PartialEq, Eq)]
+pub enum Ports {
+    /// A join puts every client on port 0.
+    NotStored,
+    /// A client may join with port 2.
+    TwoAccepted,
+    /// A client may join with port −1.
+    MinusOneAccepted,
+    /// Of the port at a join only the low 32 bits count.
+    LowBitsAccepted,
+    /// A class may join with port 1, and has it.
+    ClassOnOne,
+    /// A class may join with any port, and has 0.
+    ClassIgnored,
+    /// A class that joins with port 1 gets 5.
+    ClassIsFive,
+    /// At a join the port is judged behind 5.
+    BehindFive,
+    /// At a join the port is judged behind 8, and before 16.
+    BehindEight,
+    /// At a join the port is judged behind all others.
+    BehindAll,
+    /// A leave zeroes the record save for its port.
+    KeptAtLeave,
+    /// A client that joins at the number of one that left has the port of that one.
+    KeptForNext,
+    /// A change of share puts a client on port 0.
+    ShareResets,
+    /// A change of share of a client on port 1 gets 2.
+    ShareRefuses,
+    /// The in-order test lets a class or a client have any port.
+    OrderAny,
+    /// The in-order test lets a class have port 1.
+    OrderClassOne,
+    /// The in-order test lets a client have port 2.
+    OrderUpToTwo,
+    /// By the in-order test place 9 is zero.
+    OrderStillZero,
+    /// The in-order test looks at the low 32 bits of a port.
+    OrderLowBits,
+    /// The in-order test does not look at places 10 to 15 of a node.
+    OrderSpareFree,
+    /// The in-order test does not look at the port of an unused record.
+    OrderUnusedFree,
+    /// Each list must be long enough for all that waits.
+    ShortByAll,
+    /// Only the first list must be long enough.
+    ShortFirstOnly,
+    /// Only the second list must be long enough.
+    ShortSecondOnly,
+    /// Both lists together must be long enough for all that waits.
+    ShortBySum,
+    /// Each list must be long enough for what waits at the other port's clients.
+    ShortByOther,
+    /// 13 is for two lists that are both too short.
+    ShortIfBoth,
+    /// Each list must be long enough for what the tick dispatches on it.
+    ShortByGone,
+    /// An empty list is too short also where nothing waits.
+    ShortIfEmpty,
+    /// A tick whose second list is too short writes the first one before it is refused.
+    FirstWritten,
+    /// All dispatches stand on the first list.
+    AllOnFirst,
+    /// The first list is that of port 1, and the second that of port 0.
+    Exchanged,
+    /// A dispatch stands on the list of its supplier's port, which of a class is 0.
+    BySupplier,
+    /// A dispatch stands at its place in the sequence of both lists' dispatches.
+    Gaps,
+    /// The dispatches of a list stand by client number.
+    ByClient,
+    /// The dispatches of a list stand by arrival number.
+    ByArrival,
+    /// A list is zeroed beyond its dispatches.
+    ClearsRest,
+    /// The counts are in each other's place.
+    CountsExchanged,
+    /// The first count is that of both lists.
+    FirstTotal,
+    /// The second count is that of both lists.
+    SecondTotal,
+    /// A refused tick writes its counts.
+    RefusedCounts,
+    /// The second count is 0.
+    SecondZero,
+    /// The dispatches of the second list stand there once more, as far as it has room, and
+    /// are counted.
+    SecondTwice,
+    /// Steps 2 to 4 are gone through for the clients of port 0, then for those of port 1.
+    PortByPort,
+    /// Step 4 picks the requests of port 0's clients first.
+    FirstPicks,
+    /// Among equal steps step 4 picks the requests of port 0's clients first.
+    FirstAmongEqual,
+    /// Step 4 picks from the ports in turn.
+    TakesTurns,
+    /// Each port has balances of its own, which its dispatches charge. Those of the first
+    /// are the classes'.
+    OwnBalances,
+    /// Plan reading leaves a client the port that stood in its place.
+    ReadKeeps,
+    /// Plan reading puts every client on port 1.
+    ReadPutsOne,
+    /// A tree with a client on port 1 is refused with 16 at plan writing.
+    WriteRefuses,
+    /// A plan has kinds of its own for clients on port 1.
+    WriteMarks,
+    /// A plan has no clients of port 1.
+    WriteLeavesOut,
+    /// Same compares the ports too.
+    SameCompares,
+}
+
+impl Ports {
+    /// Whether the misreading is of the in-order test, of plans or of same alone.
+    fn needs_wild_runs(self) -> bool {
+        matches!(
+            self,
+            Ports::OrderAny
+                | Ports::OrderClassOne
+                | Ports::OrderUpToTwo
+                | Ports::OrderStillZero
+                | Ports::OrderLowBits
+                | Ports::OrderSpareFree
+                | Ports::OrderUnusedFree
+                | Ports::ReadKeeps
+                | Ports::ReadPutsOne
+                | Ports::WriteRefuses
+                | Ports::WriteMarks
+                | Ports::WriteLeavesOut
+                | Ports::SameCompares
+        )
+    }
+}
+
 /// All faults that are no lacking clause.
-pub const FAULTS: [Fault; 199] = [
+pub const FAULTS: [Fault; 253] = [
     Fault::CutsFirst,
     Fault::ChargesClient,
     Fault::SparesRoot,
@@ -682,6 +825,60 @@ pub const FAULTS: [Fault; 199] = [
     Fault::WrongEditions(Editions::LengthOfSecond),
     Fault::WrongEditions(Editions::NumberBehindLength),
     Fault::WrongEditions(Editions::NumberBeforeOrder),
+    Fault::WrongPorts(Ports::NotStored),
+    Fault::WrongPorts(Ports::TwoAccepted),
+    Fault::WrongPorts(Ports::MinusOneAccepted),
+    Fault::WrongPorts(Ports::LowBitsAccepted),
+    Fault::WrongPorts(Ports::ClassOnOne),
+    Fault::WrongPorts(Ports::ClassIgnored),
+    Fault::WrongPorts(Ports::ClassIsFive),
+    Fault::WrongPorts(Ports::BehindFive),
+    Fault::WrongPorts(Ports::BehindEight),
+    Fault::WrongPorts(Ports::BehindAll),
+    Fault::WrongPorts(Ports::KeptAtLeave),
+    Fault::WrongPorts(Ports::KeptForNext),
+    Fault::WrongPorts(Ports::ShareResets),
+    Fault::WrongPorts(Ports::ShareRefuses),
+    Fault::WrongPorts(Ports::OrderAny),
+    Fault::WrongPorts(Ports::OrderClassOne),
+    Fault::WrongPorts(Ports::OrderUpToTwo),
+    Fault::WrongPorts(Ports::OrderStillZero),
+    Fault::WrongPorts(Ports::OrderLowBits),
+    Fault::WrongPorts(Ports::OrderSpareFree),
+    Fault::WrongPorts(Ports::OrderUnusedFree),
+    Fault::WrongPorts(Ports::ShortByAll),
+    Fault::WrongPorts(Ports::ShortFirstOnly),
+    Fault::WrongPorts(Ports::ShortSecondOnly),
+    Fault::WrongPorts(Ports::ShortBySum),
+    Fault::WrongPorts(Ports::ShortByOther),
+    Fault::WrongPorts(Ports::ShortIfBoth),
+    Fault::WrongPorts(Ports::ShortByGone),
+    Fault::WrongPorts(Ports::ShortIfEmpty),
+    Fault::WrongPorts(Ports::FirstWritten),
+    Fault::WrongPorts(Ports::AllOnFirst),
+    Fault::WrongPorts(Ports::Exchanged),
+    Fault::WrongPorts(Ports::BySupplier),
+    Fault::WrongPorts(Ports::Gaps),
+    Fault::WrongPorts(Ports::ByClient),
+    Fault::WrongPorts(Ports::ByArrival),
+    Fault::WrongPorts(Ports::ClearsRest),
+    Fault::WrongPorts(Ports::CountsExchanged),
+    Fault::WrongPorts(Ports::FirstTotal),
+    Fault::WrongPorts(Ports::SecondTotal),
+    Fault::WrongPorts(Ports::RefusedCounts),
+    Fault::WrongPorts(Ports::SecondZero),
+    Fault::WrongPorts(Ports::SecondTwice),
+    Fault::WrongPorts(Ports::PortByPort),
+    Fault::WrongPorts(Ports::FirstPicks),
+    Fault::WrongPorts(Ports::FirstAmongEqual),
+    Fault::WrongPorts(Ports::TakesTurns),
+    Fault::WrongPorts(Ports::OwnBalances),
+    Fault::WrongPorts(Ports::ReadKeeps),
+    Fault::WrongPorts(Ports::ReadPutsOne),
+    Fault::WrongPorts(Ports::WriteRefuses),
+    Fault::WrongPorts(Ports::WriteMarks),
+    Fault::WrongPorts(Ports::WriteLeavesOut),
+    Fault::WrongPorts(Ports::SameCompares),
 ];
 
 impl Fault {
@@ -698,6 +895,7 @@ impl Fault {
             | Fault::WrongEditions(_)
             | Fault::LacksClause(_) => true,
             Fault::WrongStated(wrong) => wrong.needs_wild_runs(),
+            Fault::WrongPorts(wrong) => wrong.needs_wild_runs(),
             _ => false,
         }
     }
@@ -714,12 +912,15 @@ pub struct Faulty {
     /// The table before this controller last changed its tree, at first a zeroed
     /// one.
     before: Vec<i64>,
+    /// For [`Ports::KeptForNext`]: the ports of the clients that left, by number.
+    left: [Option<i64>; NODES],
 }
 
 impl Faulty {
     /// A controller with that fault.
     pub fn new(fault: Fault) -> Faulty {
-        Faulty { fault, fired: false, own: Vec::new(), before: vec![0; TABLE_LEN] }
+        let (own, before) = (Vec::new(), vec![0; TABLE_LEN]);
+        Faulty { fault, fired: false, own, before, left: [None; NODES] }
     }
 
     fn has(&self, fault: Fault) -> bool {
@@ -739,11 +940,11 @@ impl Faulty {
     }
 
     /// A call that may change the table.
-    fn change(
+    fn change<T>(
         &mut self,
         table: &mut [i64],
-        body: impl FnOnce(&mut Faulty, &mut [i64]) -> Answer<i64>,
-    ) -> Answer<i64> {
+        body: impl FnOnce(&mut Faulty, &mut [i64]) -> Answer<T>,
+    ) -> Answer<T> {
         self.check(table)?;
         let before = table.to_vec();
         let answer = body(self, table);
@@ -773,6 +974,10 @@ impl Faulty {
         let before = table.to_vec();
         let answer = match self.fault {
             Fault::WrongStated(wrong) => faulty_stated::join(wrong, table, new),
+            Fault::WrongPorts(wrong) => {
+                let left = node_number(new.node).and_then(|node| self.left[node]);
+                faulty_ports::join(wrong, table, new, left)
+            }
             _ => calls::join(table, new),
         };
         if self.has(Fault::DepthsBeforeShares) && answer == Err(SHARES_ABOVE) {
@@ -800,6 +1005,12 @@ impl Faulty {
             table.copy_from_slice(&before);
             set(table, node as usize, SORT, UNUSED);
         }
+        if self.has(Fault::WrongPorts(Ports::KeptAtLeave)) {
+            table[at(node as usize, PORT)] = before[at(node as usize, PORT)];
+        }
+        if is_client(&before, node as usize) {
+            self.left[node as usize] = Some(before[at(node as usize, PORT)]);
+        }
         if self.has(Fault::KeepsRates) {
             for other in (0..NODES).filter(|&other| other != node as usize) {
                 table[at(other, RATE)] = before[at(other, RATE)];
@@ -822,6 +1033,7 @@ impl Faulty {
             Fault::WrongStated(wrong) => {
                 faulty_stated::change_share(wrong, table, node, kind, share)
             }
+            Fault::WrongPorts(wrong) => faulty_ports::change_share(wrong, table, node, kind, share),
             _ => calls::change_share(table, node, kind, share),
         };
         if self.has(Fault::CountsOldShare) && answer.is_ok() && kind == FIXED {
@@ -864,19 +1076,26 @@ impl Faulty {
         answer
     }
 
-    fn tick_body(&mut self, table: &mut [i64], list: &mut [i64]) -> Answer<i64> {
-        let needed = tick::ENTRY_LEN * waiting_in_all(table);
-        let too_early = self.has(Fault::ShortTooEarly) && needed > 0;
-        require(list.len() >= needed + usize::from(too_early), BUFFER_SHORT)?;
-        match self.fault {
-            Fault::AllAtOnce if self.fired => Ok(0),
-            Fault::AllAtOnce => {
-                self.fired = needed > 0;
-                Ok(faulty_parts::dispatch_all(table, list))
-            }
-            Fault::NamesNobody => Ok(faulty_parts::dispatch_all_from_nobody(table, list)),
-            fault => Ok(faulty_parts::tick(fault, table, list)),
+    fn tick_body(&mut self, table: &mut [i64], lists: Lists) -> Answer<Counts> {
+        let waits = waiting_in_all(table) > 0;
+        let judged = faulty_ports::room_judged(self.fault, table, &lists);
+        if let (Fault::WrongPorts(Ports::FirstWritten), Err(number)) = (self.fault, judged) {
+            faulty_ports::write_first(table, lists);
+            return Err(number);
         }
+        judged?;
+        let gone: Vec<Dispatched> = match self.fault {
+            Fault::AllAtOnce if self.fired => Vec::new(),
+            Fault::AllAtOnce => {
+                self.fired = waits;
+                faulty_parts::dispatch_all(table)
+            }
+            Fault::NamesNobody => faulty_parts::dispatch_all_from_nobody(table),
+            Fault::WrongPorts(Ports::OwnBalances) => faulty_ports::tick_of_each(table),
+            fault => faulty_parts::tick(fault, table),
+        };
+        let [first, second] = faulty_ports::listed(self.fault, table, gone, lists);
+        Ok([first + i64::from(self.has(Fault::InventsCount)), second])
     }
 }
 
@@ -909,8 +1128,17 @@ impl Controller for Faulty {
         self.change(table, |this, table| this.request_body(table, client, tag, size))
     }
 
-    fn tick(&mut self, table: &mut [i64], list: &mut [i64]) -> Answer<i64> {
-        self.change(table, |this, table| this.tick_body(table, list))
+    fn tick(&mut self, table: &mut [i64], lists: Lists) -> Answer<Counts> {
+        if !self.has(Fault::WrongPorts(Ports::RefusedCounts)) {
+            return self.change(table, |this, table| this.tick_body(table, lists));
+        }
+        // Counts that are written show by a refusal that no call has.
+        let told = with_lent_counts(|counts| {
+            let answer = self.change(table, |this, table| this.tick_body(table, lists));
+            *counts = answer.unwrap_or_default();
+            answer.map_or_else(|number| -number, |_| 0)
+        });
+        told.unwrap_or(Err(0))
     }
 
     fn look(&mut self, table: &[i64], node: i64) -> Answer<Seen> {
@@ -929,6 +1157,10 @@ impl Controller for Faulty {
     fn same(&mut self, first: &[i64], second: &[i64]) -> Answer<bool> {
         self.check(first)?;
         self.check(second)?;
+        if self.has(Fault::WrongPorts(Ports::SameCompares)) {
+            let are_equal = |node: usize| get(first, node, PORT) == get(second, node, PORT);
+            return Ok(calls::same(first, second) && (0..NODES).all(are_equal));
+        }
         if !self.has(Fault::SameForgetsDepths) {
             return Ok(calls::same(first, second));
         }

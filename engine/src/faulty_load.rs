@@ -587,7 +587,8 @@ impl FaultyLoad {
 
     fn make_tick(&mut self) {
         let mut list = vec![0; tick::ENTRY_LEN * waiting_in_all(&self.table)];
-        let count = tick::tick(&mut self.table, &mut list).unwrap_or(0) as usize;
+        let counts = tick::tick(&mut self.table, [&mut list, &mut []]);
+        let count = counts.map_or(0, |counts| counts[0]) as usize;
         let mut entries: Vec<[i64; 4]> = list
             .chunks_exact(tick::ENTRY_LEN)
             .take(count)

@@ -1,16 +1,25 @@
 //! Parts of the controllers with faults: wrong rates, costs and lost grains, and
 //! a request and a tick that can go wrong. Without a fault these are the
-//! documents' once more.
+//! documents' once more. What a tick dispatches is kept as one sequence; `faulty_ports`
+//! puts it on the lists.
 
 use crate::cost::cost;
-use crate::faulty::{Fault, Lost, Pick};
+use crate::faulty::{Fault, Lost, Pick, Ports};
 use crate::faulty_picks::StepFour;
 use crate::order::{sizes_fit, CLAUSES, SIZES_CLAUSE};
 use crate::rates::Division;
 use crate::refusal::*;
 use crate::table::*;
-use crate::tick::{cut, grow, has_enough, oldest, path_to_root, DispatchList};
-use crate::{arguments, calls, faulty_stated, rates};
+use crate::tick::{cut, grow, has_enough, oldest, path_to_root};
+use crate::{arguments, calls, faulty_ports, faulty_stated, rates};
+
+/// A dispatch, in the sequence of a tick's.
+#[derive(Clone, Copy, Debug)]
+pub(crate) struct Dispatched {
+    pub(crate) client: usize,
+    pub(crate) request: Waiting,
+    pub(crate) supplier: usize,
+}
 
 /// The cost of a size, wherever a cost counts.
 fn cost_with(fault: Fault, size: i64) -> i64 {
@@ -45,6 +54,7 @@ pub(crate) fn in_order(fault: Fault, table: &[i64]) -> bool {
             sizes_fit(table, |size| tokens_to_fit(fault, Fault::OrdersBySize, size))
         }
         Fault::WrongStated(wrong) => faulty_stated::holds(wrong, clause, table),
+        Fault::WrongPorts(wrong) => faulty_ports::holds(wrong, clause, table),
         _ => CLAUSES[clause].1(table),
     };
     (0..CLAUSES.len()).all(holds)
@@ -71,15 +81,30 @@ pub(crate) fn request(
     Ok(arrival)
 }
 
-/// A tick with that fault, over a list that is long enough.
-pub(crate) fn tick(fault: Fault, table: &mut [i64], list: &mut [i64]) -> i64 {
-    let mut list = DispatchList::new(list);
+/// A tick with that fault: all dispatches, as they come.
+pub(crate) fn tick(fault: Fault, table: &mut [i64]) -> Vec<Dispatched> {
+    let mut gone = Vec::new();
     grow(table);
+    match fault {
+        Fault::WrongPorts(Ports::PortByPort) => {
+            for port in 0..PORTS {
+                faulty_ports::with_port_alone(table, port, |table| {
+                    serve(fault, table, &mut gone);
+                });
+            }
+        }
+        _ => serve(fault, table, &mut gone),
+    }
+    gone
+}
+
+/// Steps 2 to 4.
+fn serve(fault: Fault, table: &mut [i64], gone: &mut Vec<Dispatched>) {
     if fault == Fault::CutsFirst {
         cut(table);
     }
     if fault != Fault::ListsNothing {
-        serve_own(fault, table, &mut list);
+        serve_own(fault, table, gone);
     }
     match fault {
         Fault::TakesLarger => take_larger(table),
@@ -87,54 +112,53 @@ pub(crate) fn tick(fault: Fault, table: &mut [i64], list: &mut [i64]) -> i64 {
         _ => cut(table),
     }
     if fault != Fault::ListsNothing {
-        serve_rest(fault, table, &mut list);
+        serve_rest(fault, table, gone);
     }
     if fault == Fault::CutsLast {
         cut(table);
     }
-    list.count() + i64::from(fault == Fault::InventsCount)
 }
 
 /// Dispatches all that waits, and charges it to the root.
-pub(crate) fn dispatch_all(table: &mut [i64], list: &mut [i64]) -> i64 {
-    let mut list = DispatchList::new(list);
+pub(crate) fn dispatch_all(table: &mut [i64]) -> Vec<Dispatched> {
+    let mut gone = Vec::new();
     for client in 0..NODES {
         while oldest(table, client).is_some() {
-            dispatch(Fault::AllAtOnce, table, &mut list, client, ROOT);
+            dispatch(Fault::AllAtOnce, table, &mut gone, client, ROOT);
         }
     }
-    list.count()
+    gone
 }
 
 /// Dispatches all that waits, with a supplier that is not there: the lowest
 /// unused number, or 64 if there is none. Balances grow and are cut, and nobody
 /// is charged, so the table stays in order.
-pub(crate) fn dispatch_all_from_nobody(table: &mut [i64], list: &mut [i64]) -> i64 {
-    let mut list = DispatchList::new(list);
+pub(crate) fn dispatch_all_from_nobody(table: &mut [i64]) -> Vec<Dispatched> {
+    let mut gone = Vec::new();
     let nobody = (0..NODES).find(|&node| !is_used(table, node)).unwrap_or(NODES);
     grow(table);
     cut(table);
     for client in 0..NODES {
         while oldest(table, client).is_some() {
             let request = take_oldest(table, client);
-            list.add(client, request, nobody);
+            gone.push(Dispatched { client, request, supplier: nobody });
         }
     }
-    list.count()
+    gone
 }
 
 /// Step 2.
-fn serve_own(fault: Fault, table: &mut [i64], list: &mut DispatchList) {
+fn serve_own(fault: Fault, table: &mut [i64], gone: &mut Vec<Dispatched>) {
     match fault {
         Fault::WrongPick(Pick::WithoutStepTwo) => return,
         Fault::WrongPick(Pick::StepTwoByArrival) => {
-            return serve_own_by_arrival(fault, table, list)
+            return serve_own_by_arrival(fault, table, gone)
         }
         _ => {}
     }
     for client in 0..NODES {
         while pays_itself(fault, table, client) {
-            dispatch(fault, table, list, client, client);
+            dispatch(fault, table, gone, client, client);
             if fault == Fault::OwnOnce {
                 break;
             }
@@ -143,13 +167,13 @@ fn serve_own(fault: Fault, table: &mut [i64], list: &mut DispatchList) {
 }
 
 /// Step 2 by arrival number.
-fn serve_own_by_arrival(fault: Fault, table: &mut [i64], list: &mut DispatchList) {
+fn serve_own_by_arrival(fault: Fault, table: &mut [i64], gone: &mut Vec<Dispatched>) {
     let next = |table: &[i64]| {
         let paying = clients(table).filter(|&client| pays_itself(fault, table, client));
         paying.min_by_key(|&client| oldest(table, client).map(|request| request.arrival))
     };
     while let Some(client) = next(table) {
-        dispatch(fault, table, list, client, client);
+        dispatch(fault, table, gone, client, client);
     }
 }
 
@@ -170,12 +194,12 @@ fn take_larger(table: &mut [i64]) {
 }
 
 /// Step 4.
-fn serve_rest(fault: Fault, table: &mut [i64], list: &mut DispatchList) {
+fn serve_rest(fault: Fault, table: &mut [i64], gone: &mut Vec<Dispatched>) {
     let grains = |size| grains_with(fault, Fault::ComparesSizeInStepFour, size);
     let mut step_four = StepFour::new(fault, &grains);
     while let Some(next) = step_four.next(table) {
         bring_forward(table, next.client, next.place);
-        dispatch(fault, table, list, next.client, next.supply.supplier);
+        dispatch(fault, table, gone, next.client, next.supply.supplier);
     }
 }
 
@@ -188,7 +212,7 @@ fn bring_forward(table: &mut [i64], client: usize, place: usize) {
 fn dispatch(
     fault: Fault,
     table: &mut [i64],
-    list: &mut DispatchList,
+    gone: &mut Vec<Dispatched>,
     client: usize,
     supplier: usize,
 ) {
@@ -198,7 +222,7 @@ fn dispatch(
         Fault::ListsCost => Waiting { size: cost(request.size), ..request },
         _ => request,
     };
-    list.add(client, listed, supplier);
+    gone.push(Dispatched { client, request: listed, supplier });
     let lowest = if fault == Fault::ChargesClient { client } else { supplier };
     let payers: Vec<usize> = path_to_root(table, lowest).collect();
     for payer in payers {

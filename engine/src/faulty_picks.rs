@@ -1,7 +1,7 @@
 //! Step 4 with a fault: which requests may go, which of them goes next, and who
 //! supplies it. Without a fault it is the documents' once more.
 
-use crate::faulty::{Fault, Pick};
+use crate::faulty::{Fault, Pick, Ports};
 use crate::table::*;
 use crate::tick::{find_supply, has_enough, oldest, path_to_root, Supply};
 
@@ -142,12 +142,17 @@ impl<'a> StepFour<'a> {
         let level = |node: usize| get(table, node, LEVEL);
         let (number, supplier) = (client as i64, supply.supplier as i64);
         let steps = supply.steps as i64;
-        let Fault::WrongPick(pick) = self.fault else {
-            return if self.fault == Fault::ByNumber {
-                [number, 0, 0]
-            } else {
-                [steps, arrival, 0]
-            };
+        let own_port = port(table, client);
+        let pick = match self.fault {
+            Fault::WrongPick(pick) => pick,
+            Fault::ByNumber => return [number, 0, 0],
+            Fault::WrongPorts(Ports::FirstPicks) => return [own_port as i64, steps, arrival],
+            Fault::WrongPorts(Ports::FirstAmongEqual) => return [steps, own_port as i64, arrival],
+            Fault::WrongPorts(Ports::TakesTurns) => {
+                let unlike = self.unlike_last(|last| port(table, last.client) == own_port);
+                return [-unlike, steps, arrival];
+            }
+            _ => return [steps, arrival, 0],
         };
         match pick {
             Pick::ArrivalAlone => [arrival, 0, 0],

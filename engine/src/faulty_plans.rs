@@ -2,7 +2,8 @@
 //! more.
 
 use crate::controller::NewNode;
-use crate::faulty::{Editions, Fault, Stated};
+use crate::faulty::{Editions, Fault, Ports, Stated};
+use crate::faulty_ports;
 use crate::plan::{Edition, Form, Plan, MARK};
 use crate::refusal::*;
 use crate::table::*;
@@ -12,7 +13,10 @@ pub(crate) fn read(fault: Fault, bytes: &[u8], table: &mut [i64]) -> Answer<i64>
     let edition = edition_met(fault, bytes);
     let mut plan = form_read(fault, edition).decode(bytes)?;
     misread_numbers(fault, edition, &mut plan);
-    let fresh = joined(fault, &plan)?;
+    let mut fresh = joined(fault, &plan)?;
+    if let Fault::WrongPorts(wrong) = fault {
+        faulty_ports::put_after_read(wrong, table, &mut fresh);
+    }
     table.copy_from_slice(&fresh);
     Ok(match fault {
         Fault::WrongEditions(Editions::SaysOne) => 1,
@@ -136,6 +140,11 @@ pub(crate) fn edition_told(fault: Fault, number: i64) -> Answer<Edition> {
 /// Plan write with that fault. The table is in order.
 pub(crate) fn write(fault: Fault, table: &[i64], edition: i64, buffer: &mut [u8]) -> Answer<i64> {
     let mut plan = Plan::of_table(table);
+    let is_on_second = |new: &NewNode| port(table, new.node as usize) == 1;
+    let has_second = plan.nodes.iter().any(is_on_second);
+    if fault == Fault::WrongPorts(Ports::WriteLeavesOut) {
+        plan.nodes.retain(|new| !is_on_second(new));
+    }
     let count = plan.nodes.len();
     if fault == Fault::WrongEditions(Editions::NumberBehindLength) {
         let edition = Edition::of_number(edition).unwrap_or(Edition::First);
@@ -153,7 +162,13 @@ pub(crate) fn write(fault: Fault, table: &[i64], edition: i64, buffer: &mut [u8]
         plan.nodes.sort_by_key(|new| new.node);
     }
     misread_numbers(fault, edition, &mut plan);
-    let bytes = form_written(fault, edition).encode(&plan);
+    let form = form_written(fault, edition);
+    let mut bytes = form.encode(&plan);
+    if fault == Fault::WrongPorts(Ports::WriteMarks) {
+        for (index, _) in plan.nodes.iter().enumerate().filter(|(_, new)| is_on_second(new)) {
+            bytes[form.body_at(count, index)] += 6;
+        }
+    }
     let needed = match fault {
         Fault::WrongEditions(Editions::LengthOfFirst) => Edition::First.plan_len(count),
         Fault::WrongEditions(Editions::LengthOfSecond) => Edition::Second.plan_len(count),
@@ -161,6 +176,7 @@ pub(crate) fn write(fault: Fault, table: &[i64], edition: i64, buffer: &mut [u8]
     };
     require(buffer.len() >= needed, BUFFER_SHORT)?;
     require(!is_refused, STATED_WRONG)?;
+    require(!has_second || fault != Fault::WrongPorts(Ports::WriteRefuses), STATED_WRONG)?;
     let written = bytes.len().min(buffer.len());
     buffer[..written].copy_from_slice(&bytes[..written]);
     Ok(bytes.len() as i64)

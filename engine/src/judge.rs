@@ -17,16 +17,20 @@
 //!
 //! # Entries
 //!
-//! An accepted tick dispatches as many entries as it answers, from the front of
-//! its list. Every one of them counts for the disk, once, whatever client and
-//! supplier it names. For the client that it names it counts if that is a joined
-//! client, and for the classes below the root if they are met on the way up from
-//! the supplier that it names; a number that no joined node has leads nowhere.
+//! An accepted tick dispatches as many entries of each of its lists, from the front, as
+//! it answers for that list; those of both lists count alike. Every one of them counts
+//! for the disk, once, whatever client and supplier it names. For the client that it
+//! names it counts if that is a joined client, and for the classes below the root if
+//! they are met on the way up from the supplier that it names; a number that no joined
+//! node has leads nowhere.
 //!
 //! An entry counts cost × 1000 grains, the cost being that of the size in the
 //! list.
 //!
-//! Two things only a faulty controller does. Where a tick answers more than its
+//! The port that a client joins with counts for nothing, and neither does the list
+//! on which its entries stand.
+//!
+//! Two things only a faulty controller does. Where a tick answers more than a
 //! list has whole entries, those in the list count. A size below 1 counts 0
 //! grains: it makes up for nothing that was dispatched beside it.
 //!
@@ -46,12 +50,12 @@
 use std::fmt;
 use std::ops::Range;
 
-use crate::controller::{Controller, NewNode};
+use crate::controller::{Controller, Counts, NewNode};
 use crate::cost::cost;
 use crate::rates::Division;
 use crate::steps::{Call, Reply, Step, World};
 use crate::table::{
-    node_number, CLASS, CLIENT, FIXED, GRAINS, MAX_SHARE, NODES, ROOT, STATED, WEIGHTED,
+    node_number, CLASS, CLIENT, FIXED, GRAINS, MAX_SHARE, NODES, PORTS, ROOT, STATED, WEIGHTED,
 };
 
 /// Depths by which the disk or a class may exceed its rates.
@@ -173,7 +177,7 @@ pub fn watch(controller: &mut dyn Controller, steps: &[Step]) -> Vec<Violation> 
     for step in steps {
         let reply = world.run(controller, step);
         match (step, reply) {
-            (Step::Call(call), Some(reply)) => judge.observe(call, reply, world.list.inner()),
+            (Step::Call(call), Some(reply)) => judge.observe(call, reply, world.lists()),
             (Step::Keep, _) => {}
             _ => judge.end_list(),
         }
@@ -192,10 +196,10 @@ impl Judge {
         self.tree.clear();
     }
 
-    /// Takes in one call with its reply, and for a tick its list afterwards.
+    /// Takes in one call with its reply, and for a tick its lists afterwards.
     /// An accepted open starts a list; an accepted plan read, which leaves
     /// another table, ends it; the other calls outside demand 3 do not count.
-    pub fn observe(&mut self, call: &Call, reply: Reply, list: &[i64]) {
+    pub fn observe(&mut self, call: &Call, reply: Reply, lists: [&[i64]; PORTS]) {
         let accepted = matches!(reply, Reply::Number(_));
         match *call {
             Call::Open { rate, depth } if accepted => self.start_list(rate, depth),
@@ -209,8 +213,10 @@ impl Judge {
                 if !self.tree.is_empty() =>
             {
                 self.position += 1;
-                if let Reply::Number(answer) = reply {
-                    self.accept(call, answer, list);
+                match reply {
+                    Reply::Number(_) => self.accept(call),
+                    Reply::Counts(counts) => self.tick(counts, lists),
+                    _ => {}
                 }
                 self.settle();
             }
@@ -225,9 +231,9 @@ impl Judge {
         self.position = 0;
     }
 
-    /// An accepted call of the list. What no right controller accepts, such as
-    /// a join of 64 or of the root, counts for nothing.
-    fn accept(&mut self, call: &Call, answer: i64, list: &[i64]) {
+    /// An accepted call of the list that is no tick. What no right controller accepts,
+    /// such as a join of 64 or of the root, counts for nothing.
+    fn accept(&mut self, call: &Call) {
         match *call {
             Call::Join(ref new) => self.add(new),
             Call::Leave { node } => self.take_out(node),
@@ -243,7 +249,6 @@ impl Judge {
                     account.accepted += 1;
                 }
             }
-            Call::Tick { .. } => self.tick(answer, list),
             _ => {}
         }
     }
@@ -267,9 +272,9 @@ impl Judge {
         }
     }
 
-    /// An accepted tick: every node earns its rate, then the entries count, as
-    /// many as it answers and the list has whole.
-    fn tick(&mut self, answer: i64, list: &[i64]) {
+    /// An accepted tick: every node earns its rate, then the entries count, of each list
+    /// as many as it answers and the list has whole.
+    fn tick(&mut self, counts: Counts, lists: [&[i64]; PORTS]) {
         let rates = self.rates();
         for (account, rate) in self.tree.iter_mut().zip(rates) {
             match account {
@@ -278,8 +283,10 @@ impl Judge {
                 None => {}
             }
         }
-        let count = usize::try_from(answer).unwrap_or(0);
-        for entry in list.chunks_exact(4).take(count) {
+        let dispatched = lists.into_iter().zip(counts).flat_map(|(list, count)| {
+            list.chunks_exact(4).take(usize::try_from(count).unwrap_or(0))
+        });
+        for entry in dispatched {
             let grains = i128::from(cost(entry[2])) * i128::from(GRAINS);
             self.count_for_client(entry[0], grains);
             self.count_for_disk(grains);

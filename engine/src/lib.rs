@@ -1,7 +1,7 @@
 //! The second engine of the disk share controller.
 //!
 //! It is written from document 01 ("Hierarchical Disk Sharing: the account
-//! table and its calls") and document 02 up to request (f) alone, to check another
+//! table and its calls") and document 02 up to request (g) alone, to check another
 //! implementation of them call by call. Quoted words in the comments are the
 //! documents'.
 //!
@@ -29,6 +29,7 @@ pub mod faulty_load;
 mod faulty_parts;
 mod faulty_picks;
 mod faulty_plans;
+mod faulty_ports;
 mod faulty_renewals;
 mod faulty_stated;
 pub mod judge;
@@ -46,5 +47,5 @@ pub mod steps;
 pub mod table;
 mod tick;
 
-pub use controller::{Controller, Engine, NewNode, Seen};
+pub use controller::{Controller, Counts, Engine, Lists, NewNode, Seen};
 pub use refusal::Answer;

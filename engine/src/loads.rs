@@ -251,7 +251,8 @@ fn tree(rng: &mut Rng, classes: usize, clients: usize) -> Vec<NewNode> {
         let (level, parent) = if rng.chance(deep) { lowest } else { rng.pick(&above) };
         let (kind, most) = rng.pick(&[(FIXED, largest_share), (FIXED, 1), (WEIGHTED, 5)]);
         let share = rng.between(1, most);
-        nodes.push((level + 1, NewNode { node, parent, sort, kind, share, depth: 0 }));
+        let new = NewNode { node, parent, sort, kind, share, depth: 0, port: 0 };
+        nodes.push((level + 1, new));
         if sort == CLASS {
             parents.push((level + 1, node));
         }
@@ -304,9 +305,9 @@ fn second(plan: &Plan) -> Vec<u8> {
 }
 
 fn class(node: i64, parent: i64, kind: i64, share: i64, depth: i64) -> NewNode {
-    NewNode { node, parent, sort: CLASS, kind, share, depth }
+    NewNode { node, parent, sort: CLASS, kind, share, depth, port: 0 }
 }
 
 fn client(node: i64, parent: i64, kind: i64, share: i64, depth: i64) -> NewNode {
-    NewNode { node, parent, sort: CLIENT, kind, share, depth }
+    NewNode { node, parent, sort: CLIENT, kind, share, depth, port: 0 }
 }

@@ -13,7 +13,7 @@ use crate::table::*;
 pub type Clause = fn(&[i64]) -> bool;
 
 /// All clauses, with their names.
-pub const CLAUSES: [(&str, Clause); 20] = [
+pub const CLAUSES: [(&str, Clause); 21] = [
     ("header count within limits", header_count),
     ("other header places zero", header_zeros),
     ("root is the root", root),
@@ -34,10 +34,13 @@ pub const CLAUSES: [(&str, Clause); 20] = [
     ("arrival numbers", arrivals),
     ("stated under the root only", stated_places),
     ("stated rates at most the disk's", stated_rates),
+    ("ports 0 or 1, of classes 0", ports),
 ];
 
 /// The number of the clause on the root.
 pub const ROOT_CLAUSE: usize = 2;
+/// The number of the clause on unused records and places.
+pub const ZEROS_CLAUSE: usize = 4;
 /// The number of the clause on kinds, shares and depths.
 pub const LIMITS_CLAUSE: usize = 5;
 /// The number of the clause on rates.
@@ -48,6 +51,8 @@ pub const SIZES_CLAUSE: usize = 16;
 pub const STATED_PLACES_CLAUSE: usize = 18;
 /// The number of the clause on the sum of stated rates.
 pub const STATED_RATES_CLAUSE: usize = 19;
+/// The number of the clause on ports.
+pub const PORTS_CLAUSE: usize = 20;
 
 /// Whether a slice is a table of right length that is in order.
 pub fn in_order(table: &[i64]) -> bool {
@@ -197,6 +202,21 @@ fn stated_places(table: &[i64]) -> bool {
 
 fn stated_rates(table: &[i64]) -> bool {
     shares_under(table, ROOT, STATED) <= i128::from(get(table, ROOT, RATE))
+}
+
+/// "Place 9 of a client's record becomes its port, 0 or 1"; "for classes it stays zero".
+/// That of an unused record is left to the clause on these.
+fn ports(table: &[i64]) -> bool {
+    ports_hold(table, port_is_lawful)
+}
+
+/// Whether the ports of all classes and clients are lawful by that function of sort and
+/// port.
+pub(crate) fn ports_hold(table: &[i64], is_lawful: impl Fn(i64, i64) -> bool) -> bool {
+    used_nodes(table).all(|node| match get(table, node, SORT) {
+        sort @ (CLASS | CLIENT) => is_lawful(sort, get(table, node, PORT)),
+        _ => true,
+    })
 }
 
 /// A node's depth in grains, wide enough for any contents.

@@ -226,6 +226,7 @@ impl Form {
             kind,
             share: unsigned(share),
             depth: unsigned(depth),
+            port: 0,
         })
     }
 
@@ -251,6 +252,8 @@ impl Form {
     }
 }
 
+/// What a plan says of a node: all but its port, for which 0 stands, since "plans put every
+/// client on port 0".
 fn node_of_table(table: &[i64], node: usize) -> NewNode {
     NewNode {
         node: node as i64,
@@ -259,6 +262,7 @@ fn node_of_table(table: &[i64], node: usize) -> NewNode {
         kind: get(table, node, KIND),
         share: get(table, node, SHARE),
         depth: get(table, node, DEPTH),
+        port: 0,
     }
 }
 

@@ -15,7 +15,7 @@ const MARKED_RATES: [i64; 7] =
 pub fn any(rng: &mut Rng, right: &Plan) -> Vec<u8> {
     let edition = edition_for(rng, right);
     let form = edition.form();
-    match rng.below(13) {
+    match rng.below(14) {
         0 | 1 => right.encode(edition),
         2 => {
             let plan = random_tree(rng);
@@ -27,6 +27,11 @@ pub fn any(rng: &mut Rng, right: &Plan) -> Vec<u8> {
         8 => change_length(rng, form.encode(right)),
         9 => change_bytes(rng, form.encode(right)),
         10 | 11 => other_form(rng, right),
+        12 => {
+            let changed =
+                if rng.chance(50) { state_more(rng, right) } else { change_number(rng, right) };
+            shuffle(rng, &changed).encode(edition)
+        }
         _ => random_bytes(rng),
     }
 }
@@ -57,7 +62,7 @@ fn random_tree(rng: &mut Rng) -> Plan {
         };
         let most = if kind == STATED { rate / 2 } else { 3000 };
         let share = rng.between(1, most);
-        nodes.push(NewNode { node, parent, sort, kind, share, depth: 1 });
+        nodes.push(NewNode { node, parent, sort, kind, share, depth: 1, port: 0 });
         if sort == CLASS || rng.chance(5) {
             parents.push(node);
         }
@@ -108,7 +113,7 @@ fn change_number(rng: &mut Rng, right: &Plan) -> Plan {
     let other = rng.pick(&plan.nodes).node;
     let any = rng.between(0, 63);
     let new = &mut plan.nodes[index];
-    match rng.below(7) {
+    match rng.below(8) {
         0 => new.node = rng.pick(&[0, 1, 63, 64, 255, any, other]),
         1 => new.parent = rng.pick(&[0, 1, 63, 64, 255, any, other]),
         2 => new.sort = CLASS + CLIENT - new.sort,
@@ -118,7 +123,23 @@ fn change_number(rng: &mut Rng, right: &Plan) -> Plan {
             new.kind = STATED;
             new.share = any_share(rng, rate, new.share);
         }
+        6 => {
+            // Too much beside another fixed share.
+            new.kind = FIXED;
+            new.share = MAX_SHARE;
+        }
         _ => new.depth = rng.pick(&[0, 1, new.depth + 1, MAX_DEPTH, MAX_DEPTH + 1, 0xFFFF_FFFF]),
+    }
+    plan
+}
+
+/// Makes a node stated, with more than the disk has.
+fn state_more(rng: &mut Rng, right: &Plan) -> Plan {
+    let mut plan = right.clone();
+    if !plan.nodes.is_empty() {
+        let index = rng.below(plan.nodes.len());
+        plan.nodes[index].kind = STATED;
+        plan.nodes[index].share = (plan.rate + 1).min(MAX_RATE);
     }
     plan
 }

@@ -56,6 +56,8 @@ struct Generator {
     spread: i64,
     /// Percentage of stated rates among the shares under the root.
     stated: usize,
+    /// Percentage of joining clients on port 1.
+    on_second: usize,
 }
 
 impl Generator {
@@ -65,9 +67,20 @@ impl Generator {
         let busy = rng.pick(&[30, 50, 65, 88]);
         let spread = rng.pick(&[2, 5, 30, 200]);
         let stated = rng.pick(&[0, 10, 25, 50]);
-        let world = World::default();
-        let (damaged, steps, counted) = (false, Vec::new(), 0);
-        Generator { rng, profile, world, damaged, steps, counted, bent, busy, spread, stated }
+        let on_second = rng.pick(&[0, 20, 50, 50, 80, 100]);
+        Generator {
+            rng,
+            profile,
+            world: World::default(),
+            damaged: false,
+            steps: Vec::new(),
+            counted: 0,
+            bent,
+            busy,
+            spread,
+            stated,
+            on_second,
+        }
     }
 
     /// Opens the table and joins some nodes.
@@ -233,7 +246,7 @@ impl Generator {
     }
 
     fn join(&mut self) {
-        let (spread, stated) = (self.spread, self.stated);
+        let (spread, stated, on_second) = (self.spread, self.stated, self.on_second);
         let (rng, view) = self.rng_and_view();
         let mut class = arguments::class(rng, view);
         if arguments::depth_left(view, class) == 0 {
@@ -254,6 +267,7 @@ impl Generator {
             kind,
             share,
             depth: arguments::depth(rng, view, class, parts),
+            port: arguments::port(rng, sort, on_second),
         };
         if rng.chance(2) {
             new.node = arguments::any_node(rng, view);
@@ -268,15 +282,17 @@ impl Generator {
             kind: self.bend(new.kind, FIXED, STATED),
             share: self.bend(new.share, 1, largest_share(new.kind).unwrap_or(MAX_SHARE)),
             depth: self.bend(new.depth, 1, MAX_DEPTH),
+            port: self.bend(new.port, 0, 1),
         };
         self.call(Call::Join(new));
     }
 
     fn join_family(&mut self) {
-        let stated = self.stated;
+        let (stated, on_second) = (self.stated, self.on_second);
         let (rng, view) = self.rng_and_view();
         let new = families::new_node(rng, view, stated);
-        self.call(Call::Join(new));
+        let port = arguments::port(rng, new.sort, on_second);
+        self.call(Call::Join(NewNode { port, ..new }));
     }
 
     fn leave(&mut self) {
@@ -350,13 +366,8 @@ impl Generator {
 
     fn tick(&mut self) {
         let (rng, view) = self.rng_and_view();
-        let needed = 4 * waiting_in_all(view);
-        let more = rng.below(9);
-        let mut list_len = rng.pick(&[needed, needed, needed + more]);
-        if rng.chance(4) {
-            list_len = rng.pick(&[0, needed / 2, needed.saturating_sub(1)]);
-        }
-        self.call(Call::Tick { list_len });
+        let list_lens = arguments::list_lens(rng, waiting_by_port(view));
+        self.call(Call::Tick { list_lens });
     }
 
     /// Looks at two classes, one of which has the most children, and at any node.

@@ -6,7 +6,8 @@ pub type Answer<T> = Result<T, i64>;
 
 /// Table not 2,568 long, or (save for open and plan reading) not in order.
 pub const NOT_IN_ORDER: i64 = 1;
-/// A number outside its limits, an unknown sort or kind.
+/// A number outside its limits, an unknown sort or kind, a port other than 0 and 1, or 1
+/// for a class.
 pub const OUTSIDE_LIMITS: i64 = 2;
 /// Node or parent not there.
 pub const NOT_THERE: i64 = 3;
@@ -28,7 +29,8 @@ pub const IN_DEBT: i64 = 10;
 pub const QUEUE_FULL: i64 = 11;
 /// Header count at its end.
 pub const COUNT_AT_END: i64 = 12;
-/// List shorter than 4 × all waiting, or plan buffer shorter than the plan.
+/// A list shorter than 4 × all waiting at its port's clients, or plan buffer shorter than
+/// the plan.
 pub const BUFFER_SHORT: i64 = 13;
 /// Plan length, count, offset or kind wrong.
 pub const PLAN_WRONG: i64 = 14;

@@ -2,9 +2,9 @@
 
 use std::panic::{catch_unwind, AssertUnwindSafe};
 
-use crate::controller::{Controller, NewNode, Seen};
+use crate::controller::{Controller, Counts, NewNode, Seen};
 use crate::refusal::Answer;
-use crate::table::TABLE_LEN;
+use crate::table::{PORTS, TABLE_LEN};
 
 /// One call with its arguments.
 #[derive(Clone, Debug, PartialEq, Eq)]
@@ -46,10 +46,10 @@ pub enum Call {
         /// Size in tokens.
         size: i64,
     },
-    /// Tick, with a list of that length.
+    /// Tick, with lists of these lengths.
     Tick {
-        /// Numbers in the dispatch list.
-        list_len: usize,
+        /// Numbers in the dispatch list of each port.
+        list_lens: [usize; PORTS],
     },
     /// Look at a node.
     Look {
@@ -108,6 +108,8 @@ pub enum Step {
 pub enum Reply {
     /// A number.
     Number(i64),
+    /// What a tick answers.
+    Counts(Counts),
     /// What a look answers.
     Look(Seen),
     /// Yes or no.
@@ -151,8 +153,8 @@ impl<T: Copy + PartialEq> Guarded<T> {
 
     /// Whether all guard values are as they were.
     pub fn is_intact(&self) -> bool {
-        let walls = [&self.cells[..GUARD_LEN], &self.cells[self.cells.len() - GUARD_LEN..]];
-        walls.concat().iter().all(|value| *value == self.guard)
+        let wall = [self.guard; GUARD_LEN];
+        self.cells.starts_with(&wall) && self.cells.ends_with(&wall)
     }
 }
 
@@ -163,19 +165,19 @@ pub struct World {
     pub table: Guarded<i64>,
     /// The table kept by [`Step::Keep`], and the other one of a same.
     pub kept: Guarded<i64>,
-    /// The list of the last tick.
-    pub list: Guarded<i64>,
+    /// The lists of the last tick.
+    pub lists: [Guarded<i64>; PORTS],
     /// The plan or the plan buffer of the last call that had one.
     pub plan: Guarded<u8>,
 }
 
 impl Default for World {
-    /// Two zeroed tables, no list and no plan.
+    /// Two zeroed tables, empty lists and no plan.
     fn default() -> World {
         World {
             table: Guarded::new(&[0; TABLE_LEN], NUMBER_GUARD),
             kept: Guarded::new(&[0; TABLE_LEN], NUMBER_GUARD),
-            list: Guarded::new(&[], NUMBER_GUARD),
+            lists: [(); PORTS].map(|()| Guarded::new(&[], NUMBER_GUARD)),
             plan: Guarded::new(&[], BYTE_GUARD),
         }
     }
@@ -211,17 +213,25 @@ impl World {
 
     /// Whether the guards of every buffer are as they were.
     pub fn is_intact(&self) -> bool {
-        let lists = [&self.table, &self.kept, &self.list];
-        lists.iter().all(|buffer| buffer.is_intact()) && self.plan.is_intact()
+        let tables = [&self.table, &self.kept];
+        tables.into_iter().chain(&self.lists).all(Guarded::is_intact) && self.plan.is_intact()
     }
 
-    /// Makes the list or the plan buffer ready that a call needs.
+    /// What the lists hold.
+    pub fn lists(&self) -> [&[i64]; PORTS] {
+        self.lists.each_ref().map(Guarded::inner)
+    }
+
+    /// Makes the lists or the plan buffer ready that a call needs. No number stands in both
+    /// lists.
     fn lend(&mut self, call: &Call) {
         match call {
-            Call::Tick { list_len } => {
-                let list: Vec<i64> =
-                    (0..*list_len as i64).map(|place| -7_000_000 - place).collect();
-                self.list.replace(&list);
+            Call::Tick { list_lens } => {
+                for (port, (list, &len)) in self.lists.iter_mut().zip(list_lens).enumerate() {
+                    let first = -7_000_000 * (port as i64 + 1);
+                    let numbers: Vec<i64> = (0..len as i64).map(|place| first - place).collect();
+                    list.replace(&numbers);
+                }
             }
             Call::PlanWrite { buffer_len, .. } => {
                 let buffer: Vec<u8> =
@@ -235,7 +245,7 @@ impl World {
 
     fn make_call(&mut self, controller: &mut dyn Controller, call: &Call) -> Reply {
         let kept = self.kept.inner();
-        let list = self.list.inner_mut();
+        let lists = self.lists.each_mut().map(Guarded::inner_mut);
         let plan = self.plan.inner_mut();
         let table = self.table.inner_mut();
         match *call {
@@ -249,7 +259,7 @@ impl World {
             Call::Request { client, tag, size } => {
                 number(controller.request(table, client, tag, size))
             }
-            Call::Tick { .. } => number(controller.tick(table, list)),
+            Call::Tick { .. } => reply(controller.tick(table, lists), Reply::Counts),
             Call::Look { node } => reply(controller.look(table, node), Reply::Look),
             Call::Same { swapped: false } => reply(controller.same(table, kept), Reply::Same),
             Call::Same { swapped: true } => reply(controller.same(kept, table), Reply::Same),
@@ -257,6 +267,30 @@ impl World {
             Call::PlanWrite { edition, .. } => number(controller.plan_write(table, edition, plan)),
             Call::PlanCheck { .. } => Reply::Number(controller.plan_check(plan)),
         }
+    }
+}
+
+/// Makes a tick that is lent room for its counts, as those of `include/hds.h` are. It answers
+/// 0 and has written both counts, or answers a refusal's number negated and leaves them. What
+/// is wrong with it otherwise is said.
+pub fn with_lent_counts(tick: impl FnOnce(&mut Counts) -> i64) -> Result<Answer<Counts>, String> {
+    const BEFORE: [i64; 3 * PORTS] = [-41, -42, -43, -44, -45, -46];
+    let mut cells = BEFORE;
+    let answer = match cells.split_at_mut(PORTS).1.first_chunk_mut() {
+        Some(counts) => tick(counts),
+        None => return Err("no room for the counts".into()),
+    };
+    let [before, counts, behind] = [0, PORTS, 2 * PORTS].map(|at| &cells[at..at + PORTS]);
+    if before != &BEFORE[..PORTS] || behind != &BEFORE[2 * PORTS..] {
+        return Err("a tick wrote beside its counts".into());
+    }
+    let counts: Counts = std::array::from_fn(|port| counts[port]);
+    match answer {
+        0 if counts.iter().all(|&count| count >= 0) => Ok(Ok(counts)),
+        0 => Err(format!("an accepted tick counts {counts:?}")),
+        1.. => Err(format!("an accepted tick answers {answer}")),
+        _ if counts != BEFORE[PORTS..2 * PORTS] => Err("a refused tick wrote its counts".into()),
+        _ => Ok(Err(answer.wrapping_neg())),
     }
 }
 

@@ -32,8 +32,10 @@ pub const RATE: usize = 6;
 pub const BALANCE: usize = 7;
 /// Record place: how many requests wait.
 pub const WAITING: usize = 8;
+/// Record place: port of a client.
+pub const PORT: usize = 9;
 /// First of the record places that are always zero.
-pub const SPARE: usize = 9;
+pub const SPARE: usize = 10;
 /// First place of the waiting requests.
 pub const QUEUE: usize = 16;
 /// Waiting requests that a record has room for.
@@ -56,6 +58,9 @@ pub const WEIGHTED: i64 = 1;
 pub const STATED: i64 = 2;
 /// All share kinds.
 pub const KINDS: [i64; 3] = [FIXED, WEIGHTED, STATED];
+
+/// Ports of the cabinet, numbered from 0. Each has a dispatch list of its own.
+pub const PORTS: usize = 2;
 
 /// The root's node number.
 pub const ROOT: usize = 0;
@@ -95,6 +100,14 @@ pub fn largest_share(kind: i64) -> Option<i64> {
 /// Whether a kind is known and a share is within the limits of that kind.
 pub fn share_is_lawful(kind: i64, share: i64) -> bool {
     largest_share(kind).is_some_and(|largest| (1..=largest).contains(&share))
+}
+
+/// Whether a node of that sort may have that port: "0 or 1", and of a class 0.
+pub fn port_is_lawful(sort: i64, port: i64) -> bool {
+    match sort {
+        CLIENT => (0..PORTS as i64).contains(&port),
+        _ => port == 0,
+    }
 }
 
 /// Tokens in grains. They are no more than a depth may be.
@@ -220,6 +233,20 @@ pub fn waiting(table: &[i64], node: usize) -> impl Iterator<Item = Waiting> + '_
 /// All waiting requests together.
 pub fn waiting_in_all(table: &[i64]) -> usize {
     clients(table).map(|client| waiting_count(table, client)).sum()
+}
+
+/// The port of a node, 0 or 1 on any contents.
+pub fn port(table: &[i64], node: usize) -> usize {
+    get(table, node, PORT).clamp(0, PORTS as i64 - 1) as usize
+}
+
+/// For each port the waiting requests of its clients together.
+pub fn waiting_by_port(table: &[i64]) -> [usize; PORTS] {
+    let mut waiting = [0; PORTS];
+    for client in clients(table) {
+        waiting[port(table, client)] += waiting_count(table, client);
+    }
+    waiting
 }
 
 /// Puts a request behind the others of a client that has room.

@@ -1,34 +1,39 @@
 //! Tick, in its four steps. The table is in order.
 
+use crate::controller::{Counts, Lists};
 use crate::cost::grains;
 use crate::refusal::{require, Answer, BUFFER_SHORT};
 use crate::table::*;
 
-/// Numbers that the list gets for each dispatch.
+/// Numbers that a list gets for each dispatch.
 pub const ENTRY_LEN: usize = 4;
 
-/// The caller's dispatch list, filled from the front.
-pub(crate) struct DispatchList<'a> {
-    list: &'a mut [i64],
-    count: usize,
+/// The callers' dispatch lists, one for each port, filled from the front.
+struct DispatchLists<'a> {
+    lists: Lists<'a>,
+    counts: [usize; PORTS],
 }
 
-impl<'a> DispatchList<'a> {
-    pub(crate) fn new(list: &'a mut [i64]) -> Self {
-        DispatchList { list, count: 0 }
+impl<'a> DispatchLists<'a> {
+    fn new(lists: Lists<'a>) -> Self {
+        DispatchLists { lists, counts: [0; PORTS] }
     }
 
-    /// Adds an entry: client, tag, size, supplier.
-    pub(crate) fn add(&mut self, client: usize, request: Waiting, supplier: usize) {
-        let entry = [client as i64, request.tag, request.size, supplier as i64];
-        let start = ENTRY_LEN * self.count;
-        self.list[start..start + ENTRY_LEN].copy_from_slice(&entry);
-        self.count += 1;
+    /// Adds an entry to the list of a port.
+    fn add(&mut self, port: usize, entry: [i64; ENTRY_LEN]) {
+        let start = ENTRY_LEN * self.counts[port];
+        self.lists[port][start..start + ENTRY_LEN].copy_from_slice(&entry);
+        self.counts[port] += 1;
     }
 
-    pub(crate) fn count(&self) -> i64 {
-        self.count as i64
+    fn counts(&self) -> Counts {
+        self.counts.map(|count| count as i64)
     }
+}
+
+/// What the list gets of a dispatch: client, tag, size, supplier.
+pub(crate) fn entry(client: usize, request: Waiting, supplier: usize) -> [i64; ENTRY_LEN] {
+    [client as i64, request.tag, request.size, supplier as i64]
 }
 
 /// What the search for a supplier reports.
@@ -41,15 +46,19 @@ pub(crate) struct Supply {
     pub(crate) steps: usize,
 }
 
-/// Tick: returns how many requests were dispatched.
-pub(crate) fn tick(table: &mut [i64], list: &mut [i64]) -> Answer<i64> {
-    require(list.len() >= ENTRY_LEN * waiting_in_all(table), BUFFER_SHORT)?;
-    let mut list = DispatchList::new(list);
+/// Tick: returns how many dispatches each list received. A list is long enough for all
+/// that waits at its own port's clients. The steps know no ports: a port is only the list
+/// on which a client's dispatches stand.
+pub(crate) fn tick(table: &mut [i64], lists: Lists) -> Answer<Counts> {
+    let waiting = waiting_by_port(table);
+    let is_long_enough = |port: usize| lists[port].len() >= ENTRY_LEN * waiting[port];
+    require((0..PORTS).all(is_long_enough), BUFFER_SHORT)?;
+    let mut lists = DispatchLists::new(lists);
     grow(table);
-    serve_from_own_balance(table, &mut list);
+    serve_from_own_balance(table, &mut lists);
     cut(table);
-    serve_nearest_first(table, &mut list);
-    Ok(list.count())
+    serve_nearest_first(table, &mut lists);
+    Ok(lists.counts())
 }
 
 /// Step 1: every node's balance grows by its rate. Unused records have rate 0.
@@ -60,12 +69,12 @@ pub(crate) fn grow(table: &mut [i64]) {
 }
 
 /// Step 2: clients in rising number dispatch what their own balance covers.
-fn serve_from_own_balance(table: &mut [i64], list: &mut DispatchList) {
+fn serve_from_own_balance(table: &mut [i64], lists: &mut DispatchLists) {
     for client in 0..NODES {
         while oldest(table, client)
             .is_some_and(|request| has_enough(table, client, grains(request.size)))
         {
-            dispatch(table, list, client, client);
+            dispatch(table, lists, client, client);
         }
     }
 }
@@ -82,9 +91,9 @@ pub(crate) fn cut(table: &mut [i64]) {
 
 /// Step 4: again and again the request whose supplier is the fewest steps above
 /// its client goes, until no request has a supplier.
-fn serve_nearest_first(table: &mut [i64], list: &mut DispatchList) {
+fn serve_nearest_first(table: &mut [i64], lists: &mut DispatchLists) {
     while let Some((client, supplier)) = next_supplied(table) {
-        dispatch(table, list, client, supplier);
+        dispatch(table, lists, client, supplier);
     }
 }
 
@@ -115,11 +124,11 @@ pub(crate) fn path_to_root(table: &[i64], node: usize) -> impl Iterator<Item = u
     std::iter::successors(Some(node), |&node| parent(table, node))
 }
 
-/// Takes the client's oldest request out, lists it, and charges its cost to the
-/// supplier and every node above it.
-fn dispatch(table: &mut [i64], list: &mut DispatchList, client: usize, supplier: usize) {
+/// Takes the client's oldest request out, puts it on the list of the client's port, and
+/// charges its cost to the supplier and every node above it.
+fn dispatch(table: &mut [i64], lists: &mut DispatchLists, client: usize, supplier: usize) {
     let request = take_oldest(table, client);
-    list.add(client, request, supplier);
+    lists.add(port(table, client), entry(client, request, supplier));
     let mut payer = Some(supplier);
     while let Some(node) = payer {
         table[at(node, BALANCE)] -= grains(request.size);

@@ -1,5 +1,5 @@
--- Requests and ticks leave the clients as they are, and a table in order.
-use Prim.Native.Nat.{_<_}
+-- Requests and ticks leave the clients and their ports as they are, and a table in order.
+use Prim.Native.Nat.{ℕ, _<_}
 use mathlib.Core.Path.{_≡_, ap, _∙_}
 use mathlib.Core.Bool.{true}
 use mathlib.Core.List.{List}
@@ -11,18 +11,18 @@ use lib.IntN.{ℤ}
 use Rattle.numbers.specs.Whole.{plus}
 use Rattle.numbers.proofs.Tests.{by-test}
 use Rattle.table.specs.Limits.{nodes, mostWaiting}
-use Rattle.table.specs.Places.{waiting}
+use Rattle.table.specs.Places.{waiting, port}
 use Rattle.table.specs.Tree.{Tree, treeOf}
 use Rattle.table.specs.Order.{inOrder}
-use Rattle.table.specs.Calls.{requestRefusal, requestTable}
+use Rattle.table.specs.Calls.{requested, requestRefusal, requestTable}
 use Rattle.table.specs.Tick.{ticked}
 use Rattle.table.proofs.Facts.{facts}
 use Rattle.table.proofs.Refusals.{kept-new, kept-old}
 use Rattle.table.proofs.Passed.{request-passed}
-use Rattle.table.proofs.Edits.{requested-edit}
+use Rattle.table.proofs.Edits.{Requested, requested-edit}
 use Rattle.calllaws.proofs.Nodes.{ready, most-waiting}
-use Rattle.calllaws.proofs.Request.{requested-tree, request-keeps-order}
-use Rattle.ticklaws.proofs.Frame.{frame-tree}
+use Rattle.calllaws.proofs.Request.{requested-tree, requested-port, request-keeps-order}
+use Rattle.ticklaws.proofs.Frame.{frame-tree, frame-port}
 use Rattle.ticklaws.proofs.Keeps.{ticked-settled}
 use Rattle.asking.specs.Asking.{clientsBelow, clients, Load, afterRequest, asked}
 
@@ -30,18 +30,32 @@ same-clients : (t u : List ℤ) → treeOf u ≡ treeOf t → clients u ≡ clie
 unfolding clients
 same-clients t u e = ap (λ (tree : Tree). clientsBelow tree nodes) e
 
-request-tree : (t : List ℤ) (node tag size : ℤ) → treeOf (requestTable t node tag size) ≡ treeOf t
-unfolding requestTable
-request-tree t node tag size =
-    elim (ℕ-discrete (requestRefusal t node tag size) 0) [
-      | yes h ↦
-          let passed = request-passed t node tag size h in
-          let r = ready t (facts t (passed .order)) in
-          let w : waiting t (plus node) < mostWaiting = omega (arith, most-waiting t (plus node) (r .node (plus node) (passed .node)), passed .room) in
-          ap treeOf (kept-new _ _ t h)
-          ∙ requested-tree t _ (plus node) tag size (passed .node) (requested-edit t (plus node) tag size (r .long) (passed .node) w)
-      | no ne ↦ ap treeOf (kept-old _ _ t ne)
-    ]
+-- What an accepted request writes.
+written : (t : List ℤ) (node tag size : ℤ) → (h : requestRefusal t node tag size ≡ 0) → Requested t (requested t (plus node) tag size) (plus node) tag size
+written t node tag size h =
+    let passed = request-passed t node tag size h in
+    let r = ready t (facts t (passed .order)) in
+    let w : waiting t (plus node) < mostWaiting = omega (arith, most-waiting t (plus node) (r .node (plus node) (passed .node)), passed .room) in
+    requested-edit t (plus node) tag size (r .long) (passed .node) w
+
+module _ (t : List ℤ) (node tag size : ℤ) where
+  request-tree : treeOf (requestTable t node tag size) ≡ treeOf t
+  unfolding requestTable
+  request-tree =
+      elim (ℕ-discrete (requestRefusal t node tag size) 0) [
+        | yes h ↦ ap treeOf (kept-new _ _ t h) ∙ requested-tree t _ (plus node) tag size (request-passed t node tag size h .node) (written t node tag size h)
+        | no ne ↦ ap treeOf (kept-old _ _ t ne)
+      ]
+
+  request-port : (k : ℕ) → port (requestTable t node tag size) k ≡ port t k
+  unfolding requestTable
+  request-port k =
+      elim (ℕ-discrete (requestRefusal t node tag size) 0) [
+        | yes h ↦
+            ap (λ (u : List ℤ). port u k) (kept-new _ _ t h)
+            ∙ requested-port t _ (plus node) tag size (request-passed t node tag size h .node) (written t node tag size h) k
+        | no ne ↦ ap (λ (u : List ℤ). port u k) (kept-old _ _ t ne)
+      ]
 
 -- After a load's next request.
 module _ (load : Load) where
@@ -59,6 +73,16 @@ module _ (load : Load) where
       (λ e. rw e)
       (λ e. rw e (same-clients (load .table) _ (request-tree (load .table) _ _ _)))
 
+  pub asked-port : (k : ℕ) → port (asked load .table) k ≡ port (load .table) k
+  unfolding asked afterRequest
+  asked-port k =
+      by-test (eqb (length (clients (load .table))) 0)
+      (λ e. rw e)
+      (λ e. rw e (request-port (load .table) _ _ _ k))
+
 -- After a tick.
 pub ticked-clients : (t : List ℤ) → inOrder t ≡ true → clients (ticked t .table) ≡ clients t
 ticked-clients t order = same-clients t _ (frame-tree t (ticked t .table) (ticked-settled t (facts t order) .reached .frame))
+
+pub ticked-port : (t : List ℤ) → inOrder t ≡ true → (k : ℕ) → port (ticked t .table) k ≡ port t k
+ticked-port t order = frame-port t (ticked t .table) (ticked-settled t (facts t order) .reached .frame)

@@ -5,8 +5,8 @@ use mathlib.Core.List.{List}
 use lib.ListN.{length}
 use lib.IntN.{ℤ}
 use Rattle.numbers.specs.Whole.{plus, minus}
-use Rattle.table.specs.Limits.{tableLength, nodes, lastLevel, greatestDepth, greatestRate, mostWaiting}
-use Rattle.table.specs.Places.{rate, balance, waiting, size}
+use Rattle.table.specs.Limits.{tableLength, nodes, lastLevel, greatestDepth, greatestRate, mostWaiting, secondPort}
+use Rattle.table.specs.Places.{rate, balance, waiting, port, size}
 use Rattle.table.specs.Tree.{treeOf}
 
 pub record Within (t : List ℤ) : Type 0 where
@@ -18,4 +18,5 @@ pub record Within (t : List ℤ) : Type 0 where
   pub credit : (k : ℕ) → k < nodes → plus (balance t k) ≤ 2 ^ 60
   pub debt : (k : ℕ) → k < nodes → minus (balance t k) ≤ 2 ^ 60
   pub waiting : (k : ℕ) → k < nodes → waiting t k ≤ mostWaiting
+  pub port : (k : ℕ) → k < nodes → port t k ≤ secondPort
   pub size : (k : ℕ) → k < nodes → size t k 0 ≤ greatestDepth

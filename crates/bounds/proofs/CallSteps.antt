@@ -30,21 +30,21 @@ calls-change :
     (t : List ℤ) (o : Observer) (call : Call) → isTick call ≡ false → Agrees t o
     → Change t (tableAfter t call) o (observed o (eventOf t call)) (λ c. every (leaves c call ∷ accepts (answerOf t call) ∷ []))
 unfolding tableAfter answerOf eventOf observed entries entriesOf isTick joinTable joinAnswer leaveTable leaveAnswer changeShareTable changeShareAnswer changeRateTable changeRateAnswer requestTable requestAnswer
-calls-change t o (join node parent sort kind share depth) quiet a = by-answer _ _ t _ o (join node parent sort kind share depth) a (join-change t o node parent sort kind share depth a)
+calls-change t o (join node parent sort kind share depth port) quiet a = by-answer _ _ t _ o (join node parent sort kind share depth port) a (join-change t o node parent sort kind share depth port a)
 calls-change t o (leave node) quiet a = by-answer _ _ t _ o (leave node) a (leave-change t o node a)
 calls-change t o (changeShare node kind share) quiet a = by-answer _ _ t _ o (changeShare node kind share) a (share-change t o node kind share a)
 calls-change t o (changeRate rate) quiet a = by-answer _ _ t _ o (changeRate rate) a (rate-change t o rate a)
 calls-change t o (request client tag size) quiet a = by-answer _ _ t _ o (request client tag size) a (request-change t o client tag size a)
-calls-change t o (tick list) quiet a = absurd (true-false refl quiet)
+calls-change t o (tick first second) quiet a = absurd (true-false refl quiet)
 
 no-entries : (t : List ℤ) (call : Call) → isTick call ≡ false → entries (eventOf t call) ≡ []
 unfolding eventOf entries entriesOf isTick
-no-entries t (join node parent sort kind share depth) quiet = refl
+no-entries t (join node parent sort kind share depth port) quiet = refl
 no-entries t (leave node) quiet = refl
 no-entries t (changeShare node kind share) quiet = refl
 no-entries t (changeRate rate) quiet = refl
 no-entries t (request client tag size) quiet = refl
-no-entries t (tick list) quiet = absurd (true-false refl quiet)
+no-entries t (tick first second) quiet = absurd (true-false refl quiet)
 
 no-rate : (t : List ℤ) (o : Observer) (call : Call) (k : ℕ) → isTick call ≡ false → rateAt o k (eventOf t call) ≡ 0
 unfolding eventOf rateAt
@@ -92,11 +92,11 @@ calls-client t o call quiet a k e busy =
     }
 
 -- What holds of every tick and of every other call holds of every call.
-pub by-call : (P : Call → Type 0) → ((call : Call) → isTick call ≡ false → P call) → ((list : List ℤ) → P (tick list)) → (call : Call) → P call
+pub by-call : (P : Call → Type 0) → ((call : Call) → isTick call ≡ false → P call) → ((first second : List ℤ) → P (tick first second)) → (call : Call) → P call
 unfolding isTick
-by-call P quiet ticked (join node parent sort kind share depth) = quiet (join node parent sort kind share depth) refl
+by-call P quiet ticked (join node parent sort kind share depth port) = quiet (join node parent sort kind share depth port) refl
 by-call P quiet ticked (leave node) = quiet (leave node) refl
 by-call P quiet ticked (changeShare node kind share) = quiet (changeShare node kind share) refl
 by-call P quiet ticked (changeRate rate) = quiet (changeRate rate) refl
 by-call P quiet ticked (request client tag size) = quiet (request client tag size) refl
-by-call P quiet ticked (tick list) = ticked list
+by-call P quiet ticked (tick first second) = ticked first second

@@ -12,7 +12,8 @@ use Rattle.table.specs.Places.{size}
 use Rattle.table.specs.Tick.{State, grains, dispatched}
 use Rattle.bounds.specs.Observer.{Entry, entriesFor}
 use Rattle.bounds.specs.Counts.{entryGrains, grainsForClient, grainsToNode, sumOver}
-use Rattle.bounds.proofs.Decoded.{sum-last, entriesFor-last, told, whole, entryOf, told-dispatched}
+use Rattle.table.proofs.Ports.{whole}
+use Rattle.bounds.proofs.Decoded.{sum-last, entriesFor-last, told, entryOf, told-dispatched}
 
 pub eqb-swap : (a b : ℕ) → eqb a b ≡ eqb b a
 eqb-swap a b = same-truth (eqb a b) (eqb b a) (λ e. eq-eqb b a (sym (eqb-true a b e))) (λ e. eq-eqb a b (sym (eqb-true b a e)))

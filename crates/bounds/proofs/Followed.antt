@@ -22,7 +22,9 @@ use Rattle.treelaws.proofs.Way.{Ways, At, way-class, above-there, above-root}
 use Rattle.ticklaws.proofs.Dispatch.{Dispatch, takes, dispatch-shifted}
 use Rattle.bounds.specs.Observer.{entriesFor}
 use Rattle.bounds.specs.Counts.{entryGrains, grainsForClient, grainsToNode, sumOver}
-use Rattle.bounds.proofs.Decoded.{told, whole, whole-dispatched}
+use Rattle.table.proofs.Ports.{whole}
+use Rattle.ticklaws.proofs.Ports.{entry-whole}
+use Rattle.bounds.proofs.Decoded.{told}
 use Rattle.bounds.proofs.Dispatched.{eqb-swap, sent-more, all-more, grains-more, charged-more}
 
 -- What the dispatches from one state to another did.
@@ -91,7 +93,7 @@ own-supplier tree w k s x at way on client =
 pub fair-next : (tree : Tree) → Ways tree → (st : State) (k s : ℕ) → At tree (tree .level k) k → atOrAbove tree k s ≡ true → Fair tree (st .entries) → Fair tree (dispatched st k s .entries)
 fair-next tree w st k s at way f =
     record {
-      whole = whole-dispatched st k s (f .whole);
+      whole = entry-whole st k s (f .whole);
       own = λ x client.
           let g = grains (size (st .table) k 0) in
           by-test (atOrAbove tree s x)

@@ -56,7 +56,7 @@ root-refused t node zero h =
 
 root-stays-once : (t : List ℤ) (call : Call) → every (leaves 0 call ∷ accepts (answerOf t call) ∷ []) ≡ false
 unfolding leaves answerOf leaveAnswer accepts
-root-stays-once t (join node parent sort kind share depth) = head-fails _ _ refl
+root-stays-once t (join node parent sort kind share depth port) = head-fails _ _ refl
 root-stays-once t (leave node) =
     by-test (lib.Dec.eqb (plus node) 0)
     (λ e. rest-fail _ _ (head-fails _ _ (leave-refused t node (eqb-true (plus node) 0 e))))
@@ -67,7 +67,7 @@ root-stays-once t (leave node) =
 root-stays-once t (changeShare node kind share) = head-fails _ _ refl
 root-stays-once t (changeRate rate) = head-fails _ _ refl
 root-stays-once t (request client tag size) = head-fails _ _ refl
-root-stays-once t (tick list) = head-fails _ _ refl
+root-stays-once t (tick first second) = head-fails _ _ refl
 
 pub root-stays : (t : List ℤ) (calls : List Call) → staysThroughout 0 (events t calls) ≡ true
 unfolding staysThroughout events eventOf

@@ -24,23 +24,23 @@ steps =
       agrees = λ t o call a.
           by-call (λ call. Agrees (tableAfter t call) (observed o (eventOf t call)))
           (λ call quiet. calls-agree t o call quiet a)
-          (λ list. tick-agrees t o list a)
+          (λ first second. tick-agrees t o first second a)
           call;
       class = λ t o call a c e.
           by-call (λ call. every (leaves c call ∷ accepts (answerOf t call) ∷ []) ≡ false → ClassStep t o call c)
           (λ call quiet. calls-class t o call quiet a c e)
-          (λ list stays. tick-class t o list a c e)
+          (λ first second stays. tick-class t o first second a c e)
           call;
       client = λ t o call a k.
           by-call
           (λ call. isClient (observed o (eventOf t call) .tree) k ≡ true → waits (observed o (eventOf t call)) k ≡ true → ClientStep t o call k)
           (λ call quiet. calls-client t o call quiet a k)
-          (λ list. tick-client t o list a k)
+          (λ first second. tick-client t o first second a k)
           call;
       all = λ t o call a.
           by-call (λ call. sumOver (grainsToNode (o .tree) root) (entries (eventOf t call)) ≡ sumOver entryGrains (entries (eventOf t call)))
           (λ call quiet. calls-all t o call quiet)
-          (λ list. tick-all t o list a)
+          (λ first second. tick-all t o first second a)
           call;
     }
 

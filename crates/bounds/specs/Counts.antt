@@ -19,12 +19,12 @@ accepts (accepted values) = true
 accepts (refused number) = false
 
 unfoldable pub isTick : Call → Bool
-isTick (join node parent sort kind share depth) = false
+isTick (join node parent sort kind share depth port) = false
 isTick (leave node) = false
 isTick (changeShare node kind share) = false
 isTick (changeRate rate) = false
 isTick (request client tag size) = false
-isTick (tick list) = true
+isTick (tick first second) = true
 
 -- A node's rate at an event: at an accepted tick the one that the tree before it gives, else 0.
 unfoldable pub rateAt : Observer → ℕ → Event → ℕ
@@ -76,12 +76,12 @@ waitsThroughout o k (e ∷ stretch) = every (waits (observed o e) k ∷ waitsThr
 
 -- Whether a call takes node c out where it is accepted.
 unfoldable pub leaves : ℕ → Call → Bool
-leaves c (join node parent sort kind share depth) = false
+leaves c (join node parent sort kind share depth port) = false
 leaves c (leave node) = eqb (plus node) c
 leaves c (changeShare node kind share) = false
 leaves c (changeRate rate) = false
 leaves c (request client tag size) = false
-leaves c (tick list) = false
+leaves c (tick first second) = false
 
 -- No accepted leave of the stretch takes node c out.
 unfoldable pub staysThroughout : ℕ → List Event → Bool

@@ -1,8 +1,9 @@
 -- What an observer knows from calls, answers and lists alone: the tree, the disk's rate, and for each client how many
--- requests were accepted and how many entries dispatched since its join. Document 01, "What demand 3 counts".
+-- requests were accepted and how many entries dispatched since its join. Document 01, "What demand 3 counts", and document 02,
+-- (g): the bounds cover both lists together.
 use Prim.Native.Nat.{ℕ, zero, suc, _+_}
 use mathlib.Core.Bool.{cond}
-use mathlib.Core.List.{List, [], _∷_}
+use mathlib.Core.List.{List, [], _∷_, _++_}
 use lib.ListN.{getD, drop}
 use lib.Dec.{eqb}
 use lib.IntN.{ℤ, pos}
@@ -16,7 +17,7 @@ use Rattle.bounds.specs.Events.{Call, join, leave, changeShare, changeRa
 unfoldable pub setAt : ℕ → ℕ → (ℕ → ℕ) → ℕ → ℕ
 setAt k v f j = cond (eqb j k) v (f j)
 
--- One dispatch of a tick's list.
+-- One dispatch of a tick's lists.
 pub record Entry : Type 0 where
   pub client : ℕ
   pub size : ℕ
@@ -29,21 +30,23 @@ entriesIn (suc n) list =
     record { client = plus (getD list 0 (pos 0)); size = plus (getD list 2 (pos 0)); supplier = plus (getD list 3 (pos 0)) }
     ∷ entriesIn n (drop entryLength list)
 
--- An accepted tick dispatches as many entries of its list, from the front, as it answers.
-unfoldable pub dispatchedBy : Outcome → List ℤ → List Entry
-dispatchedBy (accepted values) list = entriesIn (plus (getD values 0 (pos 0))) list
-dispatchedBy (refused number) list = []
+-- An accepted tick dispatches as many entries of each list, from the front, as it answers: the first number for the first list,
+-- the second for the second.
+unfoldable pub dispatchedBy : Outcome → List ℤ → List ℤ → List Entry
+dispatchedBy (accepted values) first second =
+    entriesIn (plus (getD values 0 (pos 0))) first ++ entriesIn (plus (getD values 1 (pos 0))) second
+dispatchedBy (refused number) first second = []
 
-unfoldable pub entriesOf : Call → Outcome → List ℤ → List Entry
-entriesOf (join node parent sort kind share depth) answer list = []
-entriesOf (leave node) answer list = []
-entriesOf (changeShare node kind share) answer list = []
-entriesOf (changeRate rate) answer list = []
-entriesOf (request client tag size) answer list = []
-entriesOf (tick before) answer list = dispatchedBy answer list
+unfoldable pub entriesOf : Call → Outcome → List ℤ → List ℤ → List Entry
+entriesOf (join node parent sort kind share depth port) answer first second = []
+entriesOf (leave node) answer first second = []
+entriesOf (changeShare node kind share) answer first second = []
+entriesOf (changeRate rate) answer first second = []
+entriesOf (request client tag size) answer first second = []
+entriesOf (tick before₀ before₁) answer first second = dispatchedBy answer first second
 
 unfoldable pub entries : Event → List Entry
-entries e = entriesOf (e .call) (e .answer) (e .list)
+entries e = entriesOf (e .call) (e .answer) (e .first) (e .second)
 
 -- How many entries were dispatched for client k.
 unfoldable pub entriesFor : ℕ → List Entry → ℕ
@@ -101,7 +104,7 @@ withShare tree k kind share =
 -- change share gives it kind and share; change rate gives the root its rate; a request is one more asked; a tick sends
 -- its entries.
 unfoldable pub afterAccepted : Observer → Call → List Entry → Observer
-afterAccepted o (join node parent sort kind share depth) list =
+afterAccepted o (join node parent sort kind share depth port) list =
     record {
       tree = withNode (o .tree) (plus node) (plus sort) (plus parent) (suc (o .tree .level (plus parent))) (plus kind) (plus share) (plus depth);
       disk = o .disk;
@@ -115,7 +118,7 @@ afterAccepted o (changeShare node kind share) list =
 afterAccepted o (changeRate rate) list = record { tree = o .tree; disk = plus rate; asked = o .asked; sent = o .sent }
 afterAccepted o (request client tag size) list =
     record { tree = o .tree; disk = o .disk; asked = setAt (plus client) (suc (o .asked (plus client))) (o .asked); sent = o .sent }
-afterAccepted o (tick before) list =
+afterAccepted o (tick first second) list =
     record { tree = o .tree; disk = o .disk; asked = o .asked; sent = λ k. o .sent k + entriesFor k list }
 
 -- Refused calls leave all as it is.

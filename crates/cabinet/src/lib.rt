@@ -4,7 +4,7 @@ ghost use mathlib.Core.Path.{_≡_};
 ghost use lib.IntN.{pos, _-ℤ_};
 ghost use Rattle.table.specs.Answers.{numberOf, told, toldCompared};
 ghost use Rattle.table.specs.Calls.{openAnswer, openTable, joinAnswer, joinTable, leaveAnswer, leaveTable, changeShareAnswer, changeShareTable, changeRateAnswer, changeRateTable, requestAnswer, requestTable, lookAnswer, sameAnswer};
-ghost use Rattle.table.specs.Tick.{tickAnswer, tickTable, tickList};
+ghost use Rattle.table.specs.Tick.{tickAnswer, tickTable, tickFirst, tickSecond};
 ghost use Rattle.planlaws.specs.Reading.{planAnswer, planTable};
 ghost use Rattle.planlaws.specs.Writing.{writeAnswer, writeBuffer};
 ghost use Rattle.cabinet.specs.Exported.{exported, exportedBare, shown};
@@ -13,6 +13,7 @@ use table::Compared;
 use table::Refusal;
 use table::Seen;
 use table::Table;
+use table::Ticked;
 
 // The negated number of a refusal.
 fn negated(why: Refusal) -> i64
@@ -51,7 +52,7 @@ pub extern "C" fn hds_open(table: &mut [i64], rate: i64, depth: i64) -> i64
     answer_number(Table::open(table, rate, depth))
 }
 
-// Join (node, parent, sort, kind, share, depth).
+// Join (node, parent, sort, kind, share, depth, port).
 #[no_mangle]
 pub extern "C" fn hds_join(
     table: &mut [i64],
@@ -61,11 +62,21 @@ pub extern "C" fn hds_join(
     kind: i64,
     share: i64,
     depth: i64,
+    port: i64,
 ) -> i64
-    ensures answer { λ r. ⌜ r ≡ exported (joinAnswer (now (table .entry)) node parent sort kind share depth) ⌝ }
-    ensures table { λ _. ⌜ now (table .exit) ≡ joinTable (now (table .entry)) node parent sort kind share depth ⌝ }
+    ensures answer { λ r. ⌜ r ≡ exported (joinAnswer (now (table .entry)) node parent sort kind share depth port) ⌝ }
+    ensures table { λ _. ⌜ now (table .exit) ≡ joinTable (now (table .entry)) node parent sort kind share depth port ⌝ }
 {
-    answer_number(accounts::join(table, node, parent, sort, kind, share, depth))
+    answer_number(accounts::join(
+        table,
+        node,
+        parent,
+        sort,
+        kind,
+        share,
+        depth,
+        port,
+    ))
 }
 
 // Leave (node).
@@ -104,14 +115,31 @@ pub extern "C" fn hds_request(table: &mut [i64], client: i64, tag: i64, size: i6
     answer_number(accounts::request(table, client, tag, size))
 }
 
-// Tick: how many were dispatched, and the list of them.
+// Tick: 0, the dispatches of each port on its list, and in counts how many they are.
 #[no_mangle]
-pub extern "C" fn hds_tick(table: &mut [i64], list: &mut [i64]) -> i64
-    ensures answer { λ r. ⌜ r ≡ exported (tickAnswer (now (table .entry)) (now (list .entry))) ⌝ }
-    ensures table { λ _. ⌜ now (table .exit) ≡ tickTable (now (table .entry)) (now (list .entry)) ⌝ }
-    ensures list { λ _. ⌜ now (list .exit) ≡ tickList (now (table .entry)) (now (list .entry)) ⌝ }
+pub extern "C" fn hds_tick(
+    table: &mut [i64],
+    first: &mut [i64],
+    second: &mut [i64],
+    counts: &mut [i64; Table::PORTS],
+) -> i64
+    ensures answer { λ r. ⌜ r ≡ exportedBare (tickAnswer (now (table .entry)) (now (first .entry)) (now (second .entry))) ⌝ }
+    ensures table { λ _. ⌜ now (table .exit) ≡ tickTable (now (table .entry)) (now (first .entry)) (now (second .entry)) ⌝ }
+    ensures first { λ _. ⌜ now (first .exit) ≡ tickFirst (now (table .entry)) (now (first .entry)) (now (second .entry)) ⌝ }
+    ensures second { λ _. ⌜ now (second .exit) ≡ tickSecond (now (table .entry)) (now (first .entry)) (now (second .entry)) ⌝ }
+    ensures counts { λ _. ⌜ now (counts .exit) ≡ shown (tickAnswer (now (table .entry)) (now (first .entry)) (now (second .entry))) (now (counts .entry)) ⌝ }
 {
-    answer_number(accounts::tick(table, list))
+    let made = accounts::tick(table, first, second);
+    match made {
+        Ticked::Dispatched {
+            first: to_first,
+            second: to_second,
+        } => {
+            *counts = [to_first, to_second];
+            0
+        }
+        Ticked::Refused(why) => negated(why),
+    }
 }
 
 // Look (node): 0, and in seen the rate, balance, waiting count and lost grains.

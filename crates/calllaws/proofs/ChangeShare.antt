@@ -10,7 +10,7 @@ use native.Mathlib.Decide.{ℕ-discrete}
 use lib.IntN.{ℤ}
 use Rattle.numbers.specs.Whole.{plus, minus, withinℤ}
 use Rattle.numbers.proofs.Tests.{true-false}
-use Rattle.table.specs.Limits.{recordLength, nodes, sortAt, parentAt, levelAt, kindAt, shareAt, depthAt, balanceAt, waitingAt, arrivalAt, fixed, stated, wholeShare, shareLimit}
+use Rattle.table.specs.Limits.{recordLength, nodes, sortAt, parentAt, levelAt, kindAt, shareAt, depthAt, balanceAt, waitingAt, portAt, arrivalAt, fixed, stated, wholeShare, shareLimit}
 use Rattle.table.specs.Places.{queuePlace, place, count, balance, waiting, arrival}
 use Rattle.table.specs.Tree.{treeOf, there, childOf, countIf}
 use Rattle.table.specs.Rates.{fixedSum, renewed}
@@ -82,6 +82,7 @@ module _ (t u : List ℤ) (k : ℕ) (f : ℕ → ℤ) (hk : k < nodes) (edited :
         share = share;
         depth = rw (rest k depthAt (omega arith) (omega arith) (omega arith)) (old .depth);
         waiting = rw (rest k waitingAt (omega arith) (omega arith) (omega arith)) (old .waiting);
+        port = rw (rest k sortAt (omega arith) (omega arith) (omega arith), rest k portAt (omega arith) (omega arith) (omega arith)) (old .port);
       })
       (λ e root. same-child k)
       (λ e. share-sums within k (r .node k hk .class e))

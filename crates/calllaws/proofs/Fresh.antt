@@ -9,7 +9,7 @@ use lib.IntN.{ℤ, pos}
 use Rattle.numbers.specs.Whole.{plus, minus}
 use Rattle.numbers.proofs.Tests.{true-false}
 use Rattle.numbers.proofs.Parts.{zarith, plus-pos, minus-pos, add-parts}
-use Rattle.table.specs.Limits.{recordLength, nodes, sortAt, balanceAt, waitingAt, spareAt, queueAt, fixed, lastClassLevel}
+use Rattle.table.specs.Limits.{recordLength, nodes, sortAt, balanceAt, waitingAt, portAt, spareAt, queueAt, fixed, lastClassLevel}
 use Rattle.table.specs.Places.{place, balance, waiting, depthGrains}
 use Rattle.table.specs.Tree.{treeOf, there, isClass, isClient, sumUnder}
 use Rattle.table.specs.Rates.{kindShare, kindSum}
@@ -37,10 +37,10 @@ unused-node t k h =
     none : there (treeOf t) k ≡ true → ⊥
     none e = true-false e (zero-unused t k (h sortAt (omega arith)))
 
-module _ (t : List ℤ) (k : ℕ) (zeros : (p : ℕ) → p < recordLength → balanceAt ≤ p → place t k p ≡ pos 0) (childless : (j : ℕ) → j < nodes → ChildOf (treeOf t) k j → ⊥) where
+module _ (t : List ℤ) (k : ℕ) (zeros : (p : ℕ) → p < recordLength → balanceAt ≤ p → (p ≡ portAt → ⊥) → place t k p ≡ pos 0) (childless : (j : ℕ) → j < nodes → ChildOf (treeOf t) k j → ⊥) where
   idle : waiting t k ≡ 0
   unfolding waiting
-  idle = ap plus (zeros waitingAt (omega arith) (omega arith)) ∙ plus-pos 0
+  idle = ap plus (zeros waitingAt (omega arith) (omega arith) (λ e. omega arith)) ∙ plus-pos 0
 
   none : (f : ℕ → ℕ) → sumUnder (treeOf t) k f ≡ 0
   none f = under-zero (treeOf t) k f (λ j hj child. absurd (childless j hj child))
@@ -58,8 +58,8 @@ module _ (t : List ℤ) (k : ℕ) (zeros : (p : ℕ) → p < recordLength → ba
   fresh-balance : Balance t k
   unfolding balance
   fresh-balance =
-      let zero-plus : plus (place t k balanceAt) ≡ 0 = ap plus (zeros balanceAt (omega arith) (omega arith)) ∙ plus-pos 0 in
-      let zero-minus : minus (place t k balanceAt) ≡ 0 = ap minus (zeros balanceAt (omega arith) (omega arith)) ∙ minus-pos 0 in
+      let zero-plus : plus (place t k balanceAt) ≡ 0 = ap plus (zeros balanceAt (omega arith) (omega arith) (λ e. omega arith)) ∙ plus-pos 0 in
+      let zero-minus : minus (place t k balanceAt) ≡ 0 = ap minus (zeros balanceAt (omega arith) (omega arith) (λ e. omega arith)) ∙ minus-pos 0 in
       record {
         most = omega (arith, zarith, minus-pos (depthGrains t k));
         class = λ e.
@@ -80,7 +80,7 @@ module _ (t : List ℤ) (k : ℕ) (zeros : (p : ℕ) → p < recordLength → ba
       record {
         empty = λ e. absurd (true-false here e);
         limits = λ e. limits;
-        spare = λ e. record { places = λ p hp. zeros (spareAt + p) (omega arith) (omega arith); queue = λ p hp low. zeros (queueAt + p) (omega arith) (omega arith) };
+        spare = λ e. record { places = λ p hp. zeros (spareAt + p) (omega arith) (omega arith) (λ e. omega arith); queue = λ p hp low. zeros (queueAt + p) (omega arith) (omega arith) (λ e. omega arith) };
         child = λ e. child;
         class = λ e. fresh-class (level e);
         balance = λ e. fresh-balance;

@@ -36,13 +36,13 @@ renewed-stay : (t u : List ℤ) → NoBalanceRises t u → NoBalanceRises t (ren
 unfolding NoBalanceRises balance
 renewed-stay t u h k hk = rw (renewed-place u k balanceAt (omega arith) (omega arith)) (h k hk)
 
-join-balances : (t : List ℤ) (node parent sort kind share depth : ℤ) → joinRefusal t node parent sort kind share depth ≡ 0 → NoBalanceRises t (joinTable t node parent sort kind share depth)
+join-balances : (t : List ℤ) (node parent sort kind share depth port : ℤ) → joinRefusal t node parent sort kind share depth port ≡ 0 → NoBalanceRises t (joinTable t node parent sort kind share depth port)
 unfolding joinTable
-join-balances t node parent sort kind share depth h =
-    let passed = join-passed t node parent sort kind share depth h in
+join-balances t node parent sort kind share depth port h =
+    let passed = join-passed t node parent sort kind share depth port h in
     let long = facts t (passed .order) .long in
-    rw (kept-new (joinRefusal t node parent sort kind share depth) (renewed (joined t (plus node) (plus parent) sort kind share depth)) t h)
-    (renewed-stay t _ (all-stay t _ (λ k hk. joined-rest t (plus node) (plus parent) sort kind share depth long (passed .node) k balanceAt (omega arith) (omega arith))))
+    rw (kept-new (joinRefusal t node parent sort kind share depth port) (renewed (joined t (plus node) (plus parent) sort kind share depth port)) t h)
+    (renewed-stay t _ (all-stay t _ (λ k hk. joined-rest t (plus node) (plus parent) sort kind share depth port long (passed .node) k balanceAt (omega arith) (omega arith) (λ e. omega arith))))
 
 cleared-balances : (t : List ℤ) (k : ℕ) → LeavePassed t k → NoBalanceRises t (cleared t k)
 unfolding NoBalanceRises balance plus minus
@@ -89,8 +89,8 @@ unfolding NoBalanceRises
 call-laws =
     record {
       opening = open-keeps;
-      joining = λ t node parent sort kind share depth h.
-          record { order = join-keeps t node parent sort kind share depth h; balances = λ k hk. omega (arith, join-balances t node parent sort kind share depth h k hk) };
+      joining = λ t node parent sort kind share depth port h.
+          record { order = join-keeps t node parent sort kind share depth port h; balances = λ k hk. omega (arith, join-balances t node parent sort kind share depth port h k hk) };
       leaving = λ t node h. record { order = leave-keeps t node h; balances = λ k hk. omega (arith, leave-balances t node h k hk) };
       share = λ t node kind share h.
           record { order = change-share-keeps t node kind share h; balances = λ k hk. omega (arith, share-balances t node kind share h k hk) };

@@ -14,7 +14,7 @@ use lib.Signed.{leZ}
 use Rattle.numbers.specs.Whole.{plus, withinℤ}
 use Rattle.numbers.proofs.Tests.{by-test, true-false}
 use Rattle.numbers.proofs.Parts.{zarith, plus-pos}
-use Rattle.table.specs.Limits.{tableLength, headerLength, recordLength, nodes, sortAt, parentAt, levelAt, kindAt, shareAt, depthAt, rateAt, balanceAt, waitingAt, spareAt, queueAt, requestLength, sizeAt, arrivalAt, class, client, root, wholeShare, greatestRate, greatestCount, mostWaiting}
+use Rattle.table.specs.Limits.{tableLength, headerLength, recordLength, nodes, sortAt, parentAt, levelAt, kindAt, shareAt, depthAt, rateAt, balanceAt, waitingAt, portAt, spareAt, queueAt, requestLength, sizeAt, arrivalAt, class, client, root, wholeShare, greatestRate, greatestCount, mostWaiting}
 use Rattle.table.specs.Places.{queuePlace, place, header, count, rate, balance, waiting, depthGrains, arrival}
 use Rattle.table.specs.Tree.{Tree, treeOf, there, isClass, isClient, sumUnder}
 use Rattle.table.specs.Rates.{fixedSum, rateIn}
@@ -107,6 +107,7 @@ module _ (t u : List ℤ) (j : ℕ) where
         share = rw (h kindAt (omega arith) (omega arith), h shareAt (omega arith) (omega arith)) (f .share);
         depth = rw (h depthAt (omega arith) (omega arith)) (f .depth);
         waiting = rw (h waitingAt (omega arith) (omega arith)) (f .waiting);
+        port = rw (h sortAt (omega arith) (omega arith), h portAt (omega arith) (omega arith)) (f .port);
       }
 
   pub spare-kept : ((p : ℕ) → p < recordLength → waitingAt ≤ p → place u j p ≡ place t j p) → Spare t j → Spare u j

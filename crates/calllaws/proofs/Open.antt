@@ -9,7 +9,7 @@ use lib.IntN.{ℤ, pos}
 use Rattle.numbers.specs.Whole.{plus}
 use Rattle.numbers.proofs.Tests.{true-false}
 use Rattle.numbers.proofs.Parts.{zarith, pos-of-within, plus-pos, minus-pos}
-use Rattle.table.specs.Limits.{recordLength, nodes, sortAt, parentAt, levelAt, kindAt, shareAt, depthAt, rateAt, balanceAt, waitingAt, fixed, stated, root, wholeShare, greatestRate}
+use Rattle.table.specs.Limits.{recordLength, nodes, sortAt, parentAt, levelAt, kindAt, shareAt, depthAt, rateAt, balanceAt, waitingAt, portAt, fixed, stated, root, wholeShare, greatestRate}
 use Rattle.table.specs.Places.{place, rate as rateOf, waiting}
 use Rattle.table.specs.Tree.{treeOf, there}
 use Rattle.table.specs.Rates.{kindShare, kindSum, rateIn}
@@ -52,6 +52,7 @@ module _ (rate depth : ℤ) (passed : OpenPassed rate depth) where
         share = rw (opened-root .kind, opened-root .share, plus-pos fixed, limit-unstated fixed (omega arith)) (omega (arith, zarith, plus-pos wholeShare, minus-pos wholeShare));
         depth = rw (opened-edit rate depth .here depthAt (omega arith)) (passed .depths);
         waiting = rw (opened-place rate depth waitingAt (omega arith) (omega arith) (omega arith) (omega arith) (omega arith)) (omega (arith, zarith, plus-pos 0, minus-pos 0));
+        port = rw (opened-place rate depth portAt (omega arith) (omega arith) (omega arith) (omega arith) (omega arith)) (omega (arith, zarith, plus-pos 0, minus-pos 0));
       }
 
   opened-zeros : (p : ℕ) → p < recordLength → balanceAt ≤ p → place (opened rate depth) 0 p ≡ pos 0
@@ -62,7 +63,7 @@ module _ (rate depth : ℤ) (passed : OpenPassed rate depth) where
       elim (ℕ-discrete k 0) [
         | yes e ↦
             rw e
-            (fresh-node (opened rate depth) 0 opened-zeros
+            (fresh-node (opened rate depth) 0 (λ p hp low other. opened-zeros p hp low)
             (λ j hj child. true-false (child .there) (opened-unused j hj (child .below)))
             (root-there (opened rate depth) opened-root)
             opened-limits

@@ -14,8 +14,8 @@ use Rattle.numbers.specs.Tests.{every}
 use Rattle.numbers.proofs.Tests.{by-test, true-false}
 use Rattle.numbers.proofs.Parts.{zarith, plus-pos, minus-pos}
 use Rattle.numbers.proofs.All.{below-cases}
-use Rattle.table.specs.Limits.{recordLength, nodes, sortAt, parentAt, levelAt, kindAt, shareAt, depthAt, rateAt, balanceAt, waitingAt, spareAt, queueAt, requestLength, tagAt, sizeAt, arrivalAt, root, mostWaiting}
-use Rattle.table.specs.Places.{queuePlace, place, count, rate, balance, waiting, arrival}
+use Rattle.table.specs.Limits.{recordLength, nodes, sortAt, parentAt, levelAt, kindAt, shareAt, depthAt, rateAt, balanceAt, waitingAt, portAt, spareAt, queueAt, requestLength, tagAt, sizeAt, arrivalAt, root, mostWaiting}
+use Rattle.table.specs.Places.{queuePlace, place, count, rate, balance, waiting, port, arrival}
 use Rattle.table.specs.Tree.{treeOf, there, isClass}
 use Rattle.table.specs.Cost.{cost}
 use Rattle.table.specs.Order.{inOrder}
@@ -52,13 +52,20 @@ module _ (t u : List ℤ) (k : ℕ) (tag size : ℤ) (hk : k < nodes) (more : Re
   stays p hp ne8 ne2 ne1 ne0 =
       more .here p hp ∙ rw (ne-eqb p waitingAt ne8, ne-eqb p (queuePlace (waiting t k) + arrivalAt) ne2, ne-eqb p (queuePlace (waiting t k) + sizeAt) ne1, ne-eqb p (queuePlace (waiting t k) + tagAt) ne0)
 
-  -- All places before the waiting count stay, at every node.
-  pub before : (j p : ℕ) → p < waitingAt → place u j p ≡ place t j p
-  before j p hp =
+  -- All places before the waiting places but the waiting count stay, at every node.
+  early : (j p : ℕ) → p < queueAt → (p ≡ waitingAt → ⊥) → place u j p ≡ place t j p
+  early j p hp other =
       elim (ℕ-discrete j k) [
-        | yes e ↦ rw e (stays p (omega arith) (omega arith) (omega arith) (omega arith) (omega arith))
+        | yes e ↦ rw e (stays p (omega arith) other (omega arith) (omega arith) (omega arith))
         | no ne ↦ more .others j p ne (omega arith)
       ]
+
+  pub before : (j p : ℕ) → p < waitingAt → place u j p ≡ place t j p
+  before j p hp = early j p (omega arith) (λ e. omega arith)
+
+  pub requested-port : (j : ℕ) → port u j ≡ port t j
+  unfolding port
+  requested-port j = ap plus (early j portAt (omega arith) (λ e. omega arith))
 
   pub requested-tree : treeOf u ≡ treeOf t
   requested-tree = same-tree u t (λ j p hp. before j p (omega arith))
@@ -125,6 +132,7 @@ module _ (t u : List ℤ) (k : ℕ) (tag size : ℤ) (hk : k < nodes) (more : Re
         share = rw (before k kindAt (omega arith), before k shareAt (omega arith)) (f .share);
         depth = rw (before k depthAt (omega arith)) (f .depth);
         waiting = rw (more .here waitingAt (omega arith)) (omega (arith, zarith, plus-pos (suc (waiting t k)), minus-pos (suc (waiting t k))));
+        port = rw (before k sortAt (omega arith), early k portAt (omega arith) (λ e. omega arith)) (f .port);
       }
 
   new-spare : Spare t k → Spare u k

@@ -22,8 +22,8 @@ pub record Kept (t u : List ℤ) : Type 0 where
 pub record CallLaws : Type 0 where
   pub opening : (t : List ℤ) (rate depth : ℤ) → openRefusal t rate depth ≡ 0 → inOrder (openTable t rate depth) ≡ true
   pub joining :
-      (t : List ℤ) (node parent sort kind share depth : ℤ) → joinRefusal t node parent sort kind share depth ≡ 0
-      → Kept t (joinTable t node parent sort kind share depth)
+      (t : List ℤ) (node parent sort kind share depth port : ℤ) → joinRefusal t node parent sort kind share depth port ≡ 0
+      → Kept t (joinTable t node parent sort kind share depth port)
   pub leaving : (t : List ℤ) (node : ℤ) → leaveRefusal t node ≡ 0 → Kept t (leaveTable t node)
   pub share : (t : List ℤ) (node kind share : ℤ) → changeShareRefusal t node kind share ≡ 0 → Kept t (changeShareTable t node kind share)
   pub rate : (t : List ℤ) (rate : ℤ) → changeRateRefusal t rate ≡ 0 → Kept t (changeRateTable t rate)

@@ -3,7 +3,7 @@ use mathlib.Core.List.{List, [], _∷_, map}
 use lib.Dec.{T}
 use Rattle.scenarios.specs.Scenario.{Scenario, Passes}
 use Rattle.scenarios.proofs.Run.{passes, allPass, at}
-use Rattle.cases.specs.Cases.{Case, roundedDown, lostByClasses, emptyBuckets, restOfList, cutToDepth, firstSupplier, headerPlaces, nodesInOrder, sumsInOrder, requestsInOrder, statedNodes, scenario}
+use Rattle.cases.specs.Cases.{Case, roundedDown, lostByClasses, emptyBuckets, restOfList, cutToDepth, firstSupplier, headerPlaces, nodesInOrder, sumsInOrder, requestsInOrder, statedNodes, portPlaces, scenario}
 
 -- The scenarios.
 all : List Scenario
@@ -20,6 +20,7 @@ all =
     ∷ sumsInOrder
     ∷ requestsInOrder
     ∷ statedNodes
+    ∷ portPlaces
     ∷ [])
 
 computed : T (allPass all)
@@ -39,3 +40,4 @@ cases-hold nodesInOrder = at all computed 7
 cases-hold sumsInOrder = at all computed 8
 cases-hold requestsInOrder = at all computed 9
 cases-hold statedNodes = at all computed 10
+cases-hold portPlaces = at all computed 11

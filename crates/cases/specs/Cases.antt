@@ -2,14 +2,14 @@
 use Prim.Native.Nat.{suc, _+_, _-_}
 use mathlib.Core.List.{[], _∷_}
 use lib.IntN.{pos, negℤ}
-use Rattle.table.specs.Limits.{root, class, client, fixed, weighted, stated, wholeShare, greatestRate, greatestCount, sortAt, parentAt, levelAt, kindAt, shareAt, depthAt, rateAt, balanceAt, waitingAt, spareAt, spareLength, tagAt, sizeAt, arrivalAt}
+use Rattle.table.specs.Limits.{root, class, client, fixed, weighted, stated, secondPort, wholeShare, greatestRate, greatestCount, sortAt, parentAt, levelAt, kindAt, shareAt, depthAt, rateAt, balanceAt, waitingAt, portAt, spareAt, spareLength, tagAt, sizeAt, arrivalAt}
 use Rattle.table.specs.Places.{queuePlace}
 use Rattle.table.specs.Refusals.{refused}
-use Rattle.scenarios.specs.Scenario.{Scenario, disk, join, leave, changeShare, changeRate, request, look, tick, dispatch, atPlace, atHeader, _gives_, _answers_leaving_, _lists_, fits, spoils, setBalance, number, seen, greatestNumber}
+use Rattle.scenarios.specs.Scenario.{Scenario, disk, joinOn, join, leave, changeShare, changeRate, request, look, tickBoth, tick, dispatch, atPlace, atHeader, _gives_, _answers_leaving_and_, _lists_, fits, spoils, setBalance, number, counts, seen, greatestNumber}
 
 -- The cases by name.
 pub data Case : Type 0 where
-  roundedDown lostByClasses emptyBuckets restOfList cutToDepth firstSupplier headerPlaces nodesInOrder sumsInOrder requestsInOrder statedNodes : Case
+  roundedDown lostByClasses emptyBuckets restOfList cutToDepth firstSupplier headerPlaces nodesInOrder sumsInOrder requestsInOrder statedNodes portPlaces : Case
 
 unfoldable pub scenario : Case → Scenario
 -- "rounded down", what the fixed shares leave too: of 1000, fixed 3333 gets 333, and 666 are left for one weight; of these
@@ -59,12 +59,15 @@ scenario emptyBuckets =
     ∷ look 1 gives seen 450 (pos 0) 0 0
     ∷ []
 -- "The list gets four numbers each: client, tag, size, supplier. The answer is how many were dispatched; the list beyond
--- them stays untouched."
+-- them stays untouched." Each list does; what they hold beyond the entries here are sevens and eights.
 scenario restOfList =
     disk 8000 40 gives number 0
     ∷ join 5 root client weighted 1 16 gives number 0
     ∷ request 5 50 1 gives number 1
-    ∷ tick 6 answers number 1 leaving (pos 5 ∷ pos 50 ∷ pos 1 ∷ pos 5 ∷ pos 7 ∷ pos 7 ∷ [])
+    ∷ joinOn secondPort 6 root client fixed 5000 16 gives number 0
+    ∷ request 6 60 1 gives number 2
+    ∷ tickBoth 6 5 answers counts 1 0 leaving (pos 5 ∷ pos 50 ∷ pos 1 ∷ pos 0 ∷ pos 7 ∷ pos 7 ∷ []) and (pos 8 ∷ pos 8 ∷ pos 8 ∷ pos 8 ∷ pos 8 ∷ [])
+    ∷ tickBoth 1 6 answers counts 0 1 leaving (pos 7 ∷ []) and (pos 6 ∷ pos 60 ∷ pos 1 ∷ pos 6 ∷ pos 8 ∷ pos 8 ∷ [])
     ∷ []
 -- "Every balance above depth × 1000 is cut to that", after what waits at a client is dispatched from its own balance.
 scenario cutToDepth =
@@ -227,4 +230,27 @@ scenario statedNodes =
     ∷ changeShare 3 stated greatestRate gives number 0
     ∷ spoils (atPlace 3 shareAt (pos (suc greatestRate)))
     ∷ fits (atPlace 3 shareAt (pos greatestRate))
+    ∷ []
+-- Document 02, (g): "Place 9 of a client's record becomes its port, 0 or 1 ..; for classes it stays zero." Places 10 to 15 and all
+-- places of an unused record stay zero. A request or a tick leaves the port; leave zeroes it.
+scenario portPlaces =
+    disk 8000 40 gives number 0
+    ∷ join 1 root class weighted 1 20 gives number 0
+    ∷ join 2 1 client weighted 1 10 gives number 0
+    ∷ joinOn secondPort 3 1 client weighted 1 10 gives number 0
+    ∷ fits (atPlace 3 portAt (pos secondPort))
+    ∷ spoils (atPlace 3 portAt (pos (suc secondPort)))
+    ∷ spoils (atPlace 3 portAt (negℤ (pos 1)))
+    ∷ spoils (atPlace 3 portAt (pos greatestNumber))
+    ∷ fits (atPlace 3 portAt (pos secondPort))
+    ∷ fits (atPlace 2 portAt (pos secondPort))
+    ∷ fits (atPlace 2 portAt (pos 0))
+    ∷ spoils (atPlace 1 portAt (pos secondPort))
+    ∷ fits (atPlace 1 portAt (pos 0))
+    ∷ spoils (atPlace root portAt (pos secondPort))
+    ∷ fits (atPlace root portAt (pos 0))
+    ∷ spoils (atPlace 4 portAt (pos secondPort))
+    ∷ fits (atPlace 4 portAt (pos 0))
+    ∷ leave 3 gives number 0
+    ∷ fits (atPlace 3 portAt (pos 0))
     ∷ []

@@ -3,9 +3,9 @@
 use Prim.Native.Nat.{suc, _-_}
 use mathlib.Core.List.{[], _∷_}
 use lib.IntN.{pos, negℤ}
-use Rattle.table.specs.Limits.{nodes, lastNode, root, unused, class, client, fixed, weighted, stated, wholeShare, greatestDepth, greatestRate, greatestCount}
+use Rattle.table.specs.Limits.{nodes, lastNode, root, unused, class, client, fixed, weighted, stated, wholeShare, greatestDepth, greatestRate, greatestCount, portAt, secondPort}
 use Rattle.table.specs.Refusals.{refused}
-use Rattle.scenarios.specs.Scenario.{Scenario, openℤ, joinℤ, leaveℤ, changeShareℤ, changeRateℤ, requestℤ, lookℤ, same, disk, join, leave, changeShare, changeRate, request, look, tick, atHeader, oneLess, oneMore, _gives_, _lists_, _refuses_, keep, fits, spoils, setBalance, number, seen, greatestNumber}
+use Rattle.scenarios.specs.Scenario.{Scenario, openℤ, joinℤ, leaveℤ, changeShareℤ, changeRateℤ, requestℤ, lookℤ, same, disk, joinOn, join, leave, changeShare, changeRate, request, look, tickBoth, tick, atPlace, atHeader, oneLess, oneMore, _gives_, _lists_, _refuses_, keep, fits, spoils, setBalance, number, seen, greatestNumber}
 
 -- The scenarios by name: of the table at every call, then of each call.
 pub data TurnedBack : Type 0 where
@@ -61,13 +61,13 @@ scenario opens =
 scenario joinLimits =
     disk 1000 40 gives number 0
     ∷ join 0 root client weighted 1 1 gives refused 2
-    ∷ joinℤ (negℤ (pos 1)) (pos root) (pos client) (pos weighted) (pos 1) (pos 1) gives refused 2
+    ∷ joinℤ (negℤ (pos 1)) (pos root) (pos client) (pos weighted) (pos 1) (pos 1) (pos 0) gives refused 2
     ∷ join nodes root client weighted 1 1 gives refused 2
-    ∷ joinℤ (pos 1) (negℤ (pos 1)) (pos client) (pos weighted) (pos 1) (pos 1) gives refused 2
+    ∷ joinℤ (pos 1) (negℤ (pos 1)) (pos client) (pos weighted) (pos 1) (pos 1) (pos 0) gives refused 2
     ∷ join 1 nodes client weighted 1 1 gives refused 2
     ∷ join 1 root unused weighted 1 1 gives refused 2
     ∷ join 1 root 3 weighted 1 1 gives refused 2
-    ∷ joinℤ (pos 1) (pos root) (pos client) (negℤ (pos 1)) (pos 1) (pos 1) gives refused 2
+    ∷ joinℤ (pos 1) (pos root) (pos client) (negℤ (pos 1)) (pos 1) (pos 1) (pos 0) gives refused 2
     ∷ join 1 root client (suc stated) 1 1 gives refused 2
     ∷ join 1 root client weighted 0 1 gives refused 2
     ∷ join 1 root client weighted (suc wholeShare) 1 gives refused 2
@@ -76,7 +76,12 @@ scenario joinLimits =
     ∷ join 1 root client stated (suc greatestRate) 1 gives refused 2
     ∷ join 1 root client weighted 1 0 gives refused 2
     ∷ join 1 root client weighted 1 (suc greatestDepth) gives refused 2
-    ∷ join 1 root client weighted wholeShare 40 gives number 0
+    ∷ joinℤ (pos 1) (pos root) (pos client) (pos weighted) (pos 1) (pos 1) (negℤ (pos 1)) gives refused 2
+    ∷ joinOn (suc secondPort) 1 root client weighted 1 1 gives refused 2
+    ∷ joinOn secondPort 1 root class weighted 1 1 gives refused 2
+    ∷ joinOn secondPort 1 root unused weighted 1 1 gives refused 2
+    ∷ join 1 root client weighted wholeShare 20 gives number 0
+    ∷ joinOn secondPort 2 root client weighted wholeShare 20 gives number 0
     ∷ []
 -- Join: 2 before 3, 3, 3 before 4, 4, 4 before 5, 5, 5 before 6, 6, 6 before 7, 7, 7 before 8, 8, 8 before 16, 16 by the parent,
 -- 8 before 16, 16 by the disk's rate, and none.
@@ -88,6 +93,7 @@ scenario joins =
     ∷ join 4 3 client fixed wholeShare 10 gives number 0
     ∷ join 5 2 client weighted 1 10 gives number 0
     ∷ join 6 9 client weighted 0 1 gives refused 2
+    ∷ joinOn (suc secondPort) 6 9 client weighted 1 1 gives refused 2
     ∷ join 6 9 client weighted 1 1 gives refused 3
     ∷ join 4 9 client weighted 1 1 gives refused 3
     ∷ join 4 3 client weighted 1 1 gives refused 4
@@ -228,7 +234,7 @@ scenario looks =
     ∷ look lastNode gives refused 3
     ∷ look root gives seen 1000 (pos 0) 0 1000
     ∷ []
--- Same: 1 for either table; yes is 1 and no is 0. It goes by nodes, shares and disk rate, and not by requests and balances.
+-- Same: 1 for either table; yes is 1 and no is 0. It goes by nodes, shares and disk rate, and not by requests, balances and ports.
 scenario compares =
     disk 1000 40 gives number 0
     ∷ same gives refused 1
@@ -247,21 +253,26 @@ scenario compares =
     ∷ same gives number 0
     ∷ changeRate 1000 gives number 0
     ∷ same gives number 1
+    ∷ fits (atPlace 1 portAt (pos secondPort))
+    ∷ same gives number 1
     ∷ spoils (atHeader 1 (pos 1))
     ∷ same gives refused 1
     ∷ keep
     ∷ fits (atHeader 1 (pos 0))
     ∷ same gives refused 1
     ∷ []
--- Tick: 13, 1, 1 before 13, and none.
+-- Tick: 13 by the first list and by the second, 1, 1 before 13, and none.
 scenario ticks =
     disk 1000 40 gives number 0
     ∷ join 1 root client weighted 1 16 gives number 0
+    ∷ joinOn secondPort 2 root client weighted 1 16 gives number 0
     ∷ request 1 10 12 gives number 1
-    ∷ tick 3 refuses 13
+    ∷ request 2 20 12 gives number 2
+    ∷ tickBoth 3 4 refuses 13
+    ∷ tickBoth 4 3 refuses 13
     ∷ spoils (atHeader 1 (pos 1))
-    ∷ tick 4 refuses 1
-    ∷ tick 3 refuses 1
+    ∷ tickBoth 4 4 refuses 1
+    ∷ tickBoth 3 3 refuses 1
     ∷ fits (atHeader 1 (pos 0))
-    ∷ tick 4 lists []
+    ∷ tickBoth 4 4 lists []
     ∷ []

@@ -1,14 +1,13 @@
--- One dispatch more: the list with the entries so far at its front gets the next entry behind them.
-use Prim.Native.Nat.{ℕ, _+_, _*_, _≤_, _<_}
+-- One entry more: the list with the entries so far at its front gets the next behind them.
+use Prim.Native.Nat.{ℕ, _+_, _≤_, _<_}
 use mathlib.Core.Path.{_≡_, refl, ap, _∙_}
 use mathlib.Core.List.{List, [], _∷_, _++_, append-assoc}
 use native.Mathlib.Omega.{arith}
 use lib.ListN.{length, set, length-append}
-use lib.IntN.{ℤ, pos}
+use lib.IntN.{ℤ}
 use Rattle.table.specs.Limits.{entryLength}
-use Rattle.table.specs.Places.{tag, size}
 use Rattle.table.specs.Tick.{State, dispatched, listed}
-use Rattle.dispatch.specs.Entries.{entered, tableAfter, listAfter}
+use Rattle.dispatch.specs.Entries.{entered, tableAfter}
 
 written : (out list : List ℤ) (v : ℤ) → length out < length list → set (listed out list) (length out) v ≡ listed (out ++ (v ∷ [])) list
 unfolding listed
@@ -41,11 +40,3 @@ module _ (st : State) (k s : ℕ) where
   pub next-table : tableAfter (st .table) k s ≡ dispatched st k s .table
   unfolding tableAfter dispatched
   next-table = refl
-
-  pub next-list : (list : List ℤ) (n : ℕ) → length (st .entries) ≡ entryLength * n → entryLength * n + entryLength ≤ length list → listAfter (listed (st .entries) list) n (st .table) k s ≡ listed (dispatched st k s .entries) list
-  unfolding listAfter dispatched
-  next-list list n e h = rw (← e) (listed-entry (st .entries) list (pos k) (tag (st .table) k 0) (pos (size (st .table) k 0)) (pos s) (omega arith))
-
-  pub next-length : (n : ℕ) → length (st .entries) ≡ entryLength * n → length (dispatched st k s .entries) ≡ entryLength * (n + 1)
-  unfolding dispatched
-  next-length n e = omega (arith, length-append (st .entries) (pos k ∷ tag (st .table) k 0 ∷ pos (size (st .table) k 0) ∷ pos s ∷ []))

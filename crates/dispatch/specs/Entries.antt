@@ -1,10 +1,12 @@
--- What one dispatch makes of the table and of the dispatch list.
+-- What one dispatch makes of the table and of the two dispatch lists.
 use Prim.Native.Nat.{ℕ, _+_, _*_}
+use mathlib.Core.Bool.{cond}
 use mathlib.Core.List.{List, []}
 use lib.ListN.{set}
+use lib.Dec.{eqb}
 use lib.IntN.{ℤ, pos}
 use Rattle.table.specs.Limits.{entryLength}
-use Rattle.table.specs.Places.{tag, size}
+use Rattle.table.specs.Places.{port, tag, size}
 use Rattle.table.specs.Tick.{dispatched}
 
 -- The list with an entry of four numbers from place i on.
@@ -15,6 +17,14 @@ entered list i client tag size supplier = set (set (set (set list i client) (i +
 unfoldable pub tableAfter : List ℤ → ℕ → ℕ → List ℤ
 tableAfter t k s = dispatched (record { table = t; entries = [] }) k s .table
 
--- The list with the entry of that dispatch behind the n that it has.
-unfoldable pub listAfter : List ℤ → ℕ → List ℤ → ℕ → ℕ → List ℤ
-listAfter list n t k s = entered list (entryLength * n) (pos k) (tag t k 0) (pos (size t k 0)) (pos s)
+-- How many entries the list of port p gets of a dispatch for a client on a port: one where it is that port.
+unfoldable pub gets : ℕ → ℕ → ℕ
+gets p port = cond (eqb port p) 1 0
+
+-- That list, which has n entries, with the dispatch's entry behind them where it gets one.
+unfoldable pub enteredOn : ℕ → ℕ → List ℤ → ℕ → ℤ → ℤ → ℤ → ℤ → List ℤ
+enteredOn p port list n client tag size supplier = cond (eqb port p) (entered list (entryLength * n) client tag size supplier) list
+
+-- The list of port p after that dispatch of client k's oldest request.
+unfoldable pub listAfter : ℕ → List ℤ → ℕ → List ℤ → ℕ → ℕ → List ℤ
+listAfter p list n t k s = enteredOn p (port t k) list n (pos k) (tag t k 0) (pos (size t k 0)) (pos s)

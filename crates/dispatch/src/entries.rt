@@ -1,14 +1,15 @@
-// The entries of the dispatch list.
+// The entries of the dispatch lists.
 ghost use mathlib.Core.Path.{_≡_};
 ghost use Prim.Native.Nat.{_+_, _*_, _<_, _≤_, _^_};
 ghost use lib.ListN.{length};
 ghost use lib.IntN.{pos};
-ghost use Rattle.table.specs.Limits.{nodes, entryLength};
-ghost use Rattle.dispatch.specs.Entries.{entered};
+ghost use Rattle.table.specs.Limits.{nodes, entryLength, firstPort, secondPort};
+ghost use Rattle.dispatch.specs.Entries.{entered, gets, enteredOn};
+use crate::Counts;
 use table::Table;
 
 // Writes an entry behind the n that the list has.
-pub fn write_entry(list: &mut [i64], n: usize, client: usize, tag: i64, size: u64, supplier: usize)
+fn write_entry(list: &mut [i64], n: usize, client: usize, tag: i64, size: u64, supplier: usize)
     requires { ⌜ (entryLength * n + entryLength ≤ length (now list)) × (client < nodes) × (size < 2 ^ 63) × (supplier < nodes) ⌝ }
     ensures { λ _. ⌜ now (list .exit) ≡ entered (now (list .entry)) (entryLength * n) (pos client) tag (pos size) (pos supplier) ⌝ }
 {
@@ -17,4 +18,34 @@ pub fn write_entry(list: &mut [i64], n: usize, client: usize, tag: i64, size: u6
     list[at + 1] = tag;
     list[at + 2] = numbers::whole(size);
     list[at + 3] = numbers::whole(supplier as u64);
+}
+
+// Writes an entry behind those that the list of the client's port has. Returns how many the lists have then.
+pub fn list_entry(
+    first: &mut [i64],
+    second: &mut [i64],
+    n: Counts,
+    port: u64,
+    client: usize,
+    tag: i64,
+    size: u64,
+    supplier: usize,
+) -> Counts
+    requires { ⌜ (port ≤ secondPort) × (entryLength * (n .first + gets firstPort port) ≤ length (now first)) × (entryLength * (n .second + gets secondPort port) ≤ length (now second)) × (client < nodes) × (size < 2 ^ 63) × (supplier < nodes) ⌝ }
+    ensures first { λ _. ⌜ now (first .exit) ≡ enteredOn firstPort port (now (first .entry)) (n .first) (pos client) tag (pos size) (pos supplier) ⌝ }
+    ensures second { λ _. ⌜ now (second .exit) ≡ enteredOn secondPort port (now (second .entry)) (n .second) (pos client) tag (pos size) (pos supplier) ⌝ }
+    ensures counts { λ r. ⌜ (r .first ≡ n .first + gets firstPort port) × (r .second ≡ n .second + gets secondPort port) ⌝ }
+{
+    if port == Table::FIRST_PORT {
+        write_entry(first, n.first, client, tag, size, supplier);
+        return Counts {
+            first: n.first + 1,
+            second: n.second,
+        };
+    }
+    write_entry(second, n.second, client, tag, size, supplier);
+    Counts {
+        first: n.first,
+        second: n.second + 1,
+    }
 }

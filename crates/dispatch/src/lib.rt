@@ -1,26 +1,44 @@
-// One dispatch: the entry is written, the supplier charged and the request taken out.
+// One dispatch: the entry is written to the list of the client's port, the supplier charged and the request taken out.
 ghost use mathlib.Core.Path.{_≡_};
 ghost use Prim.Native.Nat.{_+_, _*_, _<_, _≤_};
 ghost use lib.ListN.{length};
-ghost use Rattle.table.specs.Limits.{nodes, entryLength};
-ghost use Rattle.table.specs.Places.{waiting};
+ghost use Rattle.table.specs.Limits.{nodes, entryLength, firstPort, secondPort};
+ghost use Rattle.table.specs.Places.{waiting, port};
 ghost use Rattle.balances.specs.Within.{Within};
-ghost use Rattle.dispatch.specs.Entries.{tableAfter, listAfter};
+ghost use Rattle.dispatch.specs.Entries.{tableAfter, gets, listAfter};
 
 mod entries;
 mod queue;
 
 use table::Table;
 
-// Dispatches the oldest request of client k with node s as supplier, as an entry behind the n that the list has.
-pub fn dispatch(table: &mut [i64], list: &mut [i64], n: usize, k: usize, s: usize)
-    requires { ⌜ Within (now table) × (k < nodes) × (s < nodes) × (0 < waiting (now table) k) × (entryLength * n + entryLength ≤ length (now list)) ⌝ }
+// How many there are at the first port and at the second.
+pub struct Counts {
+    pub first: usize,
+    pub second: usize,
+}
+
+// Dispatches the oldest request of client k with node s as supplier, as an entry behind the n that the lists have. Returns how many
+// they have then.
+pub fn dispatch(
+    table: &mut [i64],
+    first: &mut [i64],
+    second: &mut [i64],
+    n: Counts,
+    k: usize,
+    s: usize,
+) -> Counts
+    requires { ⌜ Within (now table) × (k < nodes) × (s < nodes) × (0 < waiting (now table) k) × (entryLength * (n .first + gets firstPort (port (now table) k)) ≤ length (now first)) × (entryLength * (n .second + gets secondPort (port (now table) k)) ≤ length (now second)) ⌝ }
     ensures table { λ _. ⌜ now (table .exit) ≡ tableAfter (now (table .entry)) k s ⌝ }
-    ensures list { λ _. ⌜ now (list .exit) ≡ listAfter (now (list .entry)) n (now (table .entry)) k s ⌝ }
+    ensures first { λ _. ⌜ now (first .exit) ≡ listAfter firstPort (now (first .entry)) (n .first) (now (table .entry)) k s ⌝ }
+    ensures second { λ _. ⌜ now (second .exit) ≡ listAfter secondPort (now (second .entry)) (n .second) (now (table .entry)) k s ⌝ }
+    ensures counts { λ r. ⌜ (r .first ≡ n .first + gets firstPort (port (now (table .entry)) k)) × (r .second ≡ n .second + gets secondPort (port (now (table .entry)) k)) ⌝ }
 {
     let tag = Table::get(table, k, Table::QUEUE + Table::TAG);
     let size = Table::natural(table, k, Table::QUEUE + Table::SIZE);
-    entries::write_entry(list, n, k, tag, size, s);
+    let port = Table::natural(table, k, Table::PORT);
+    let counts = entries::list_entry(first, second, n, port, k, tag, size, s);
     balances::charge(table, costs::grains(size), s);
     queue::take_out(table, k);
+    counts
 }

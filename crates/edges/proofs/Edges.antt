@@ -1,11 +1,13 @@
 -- The joint table holds: one test of document 01's edges, computed, and from it each edge by its name; those of document 02's
--- requests by their own law.
+-- requests by their own laws.
 use mathlib.Core.List.{List, [], _∷_, map}
 use lib.Dec.{T}
 use Rattle.scenarios.specs.Scenario.{Scenario, Passes}
 use Rattle.scenarios.proofs.Run.{passes, allPass, at}
 use Rattle.lateredges.proofs.Edges.{later-edges-hold}
-use Rattle.edges.specs.Edges.{Edge, paper, thirds, nothingLeft, nothingLeftOfThirds, aboveWhole, alone, oneAsks, bothAsk, debt, sizes, depths, ninth, listLengths, later, scenario}
+use Rattle.statededges.proofs.Edges.{stated-edges-hold}
+use Rattle.portedges.proofs.Edges.{port-edges-hold}
+use Rattle.edges.specs.Edges.{Edge, paper, thirds, nothingLeft, nothingLeftOfThirds, aboveWhole, alone, oneAsks, bothAsk, debt, sizes, depths, ninth, listLengths, later, ofStated, ofPorts, scenario}
 
 -- The scenarios of document 01's edges.
 marked : List Scenario
@@ -46,3 +48,5 @@ edges-hold depths = at marked computed 10
 edges-hold ninth = at marked computed 11
 edges-hold listLengths = at marked computed 12
 edges-hold (later edge) = later-edges-hold edge
+edges-hold (ofStated edge) = stated-edges-hold edge
+edges-hold (ofPorts edge) = port-edges-hold edge

@@ -7,12 +7,16 @@ use lib.IntN.{pos, negℤ}
 use Rattle.table.specs.Limits.{root, class, client, fixed, weighted, wholeShare}
 use Rattle.table.specs.Refusals.{refused}
 use Rattle.lateredges.specs.Edges.{LaterEdge, laterScenario}
+use Rattle.statededges.specs.Edges.{StatedEdge, statedScenario}
+use Rattle.portedges.specs.Edges.{PortEdge, portScenario}
 use Rattle.scenarios.specs.Scenario.{Scenario, disk, join, request, look, tick, dispatch, _gives_, _lists_, _refuses_, setBalance, times, number, seen}
 
 -- The edges by name: document 01's in its order, then those of the requests.
 pub data Edge : Type 0 where
   paper thirds nothingLeft nothingLeftOfThirds aboveWhole alone oneAsks bothAsk debt sizes depths ninth listLengths : Edge
   later : LaterEdge → Edge
+  ofStated : StatedEdge → Edge
+  ofPorts : PortEdge → Edge
 
 unfoldable pub scenario : Edge → Scenario
 -- "Disk 1000; class 1 fixed 5000: rate 500. Under it fixed 4000: 200; weights 4 and 6: 120 and 180." The class loses nothing,
@@ -160,3 +164,5 @@ scenario listLengths =
     ∷ tick 8 lists []
     ∷ []
 scenario (later edge) = laterScenario edge
+scenario (ofStated edge) = statedScenario edge
+scenario (ofPorts edge) = portScenario edge

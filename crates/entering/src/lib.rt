@@ -1,11 +1,11 @@
 // The entries of a plan joined in turn, and whether they stand in order. Document 01, "Same tree, and the plan
-// file", and document 02, (f).
+// file", and document 02, (f) and (g).
 ghost use mathlib.Core.Path.{_≡_};
 ghost use mathlib.Core.Bool.{true};
 ghost use Prim.Native.Nat.{ℕ, _+_, _*_, _^_, _≤_, _<_};
 ghost use lib.ListN.{length};
 ghost use lib.IntN.{pos};
-ghost use Rattle.table.specs.Limits.{tableLength, nodes, lastLevel};
+ghost use Rattle.table.specs.Limits.{tableLength, nodes, firstPort, lastLevel};
 ghost use Rattle.table.specs.Tree.{treeOf};
 ghost use Rattle.table.specs.Refusals.{lastRefusal};
 ghost use Rattle.table.specs.Calls.{joinRefusal, joinTable};
@@ -21,7 +21,7 @@ use layout::bytes;
 use layout::forms;
 use table::Table;
 
-// Joins by numbers; the number of the refusal, or 0.
+// Joins by numbers, on the first port; the number of the refusal, or 0.
 fn join_numbers(
     table: &mut [i64],
     node: u64,
@@ -32,9 +32,9 @@ fn join_numbers(
     depth: u64,
 ) -> u64
     requires { ⌜ (node < 2 ^ 63) × (parent < 2 ^ 63) × (sort < 2 ^ 63) × (kind < 2 ^ 63) × (share < 2 ^ 63) × (depth < 2 ^ 63) ⌝ }
-    ensures number { λ r. ⌜ r ≡ joinRefusal (now (table .entry)) (pos node) (pos parent) (pos sort) (pos kind) (pos share) (pos depth) ⌝ }
+    ensures number { λ r. ⌜ r ≡ joinRefusal (now (table .entry)) (pos node) (pos parent) (pos sort) (pos kind) (pos share) (pos depth) (pos firstPort) ⌝ }
     ensures small { λ r. ⌜ r ≤ lastRefusal ⌝ }
-    ensures table { λ _. ⌜ now (table .exit) ≡ joinTable (now (table .entry)) (pos node) (pos parent) (pos sort) (pos kind) (pos share) (pos depth) ⌝ }
+    ensures table { λ _. ⌜ now (table .exit) ≡ joinTable (now (table .entry)) (pos node) (pos parent) (pos sort) (pos kind) (pos share) (pos depth) (pos firstPort) ⌝ }
 {
     let answer = accounts::join(
         table,
@@ -44,6 +44,7 @@ fn join_numbers(
         numbers::whole(kind),
         numbers::whole(share),
         numbers::whole(depth),
+        numbers::whole(Table::FIRST_PORT),
     );
     table::number_told(answer)
 }

@@ -8,13 +8,14 @@ use lib.IntN.{ℤ, pos}
 use Rattle.numbers.specs.Whole.{plus, withinℤ}
 use Rattle.numbers.proofs.Every.{head-holds, rest-hold}
 use Rattle.numbers.proofs.Parts.{zarith, pos-of-within}
-use Rattle.table.specs.Limits.{lastNode, balanceAt, class, client, fixed, stated, greatestDepth, shareLimit}
+use Rattle.table.specs.Limits.{lastNode, balanceAt, class, client, fixed, stated, greatestDepth, shareLimit, portLimit}
 use Rattle.table.specs.Order.{inOrder}
 use Rattle.table.specs.Tree.{treeOf}
 use Rattle.table.specs.Calls.{joinRefusal}
 use Rattle.table.proofs.Facts.{facts}
 use Rattle.table.proofs.Refusals.{none-first}
 use Rattle.table.proofs.ShareKinds.{limit-le}
+use Rattle.table.proofs.Ports.{limit-second}
 use Rattle.table.proofs.Passed.{long, join-passed}
 use Rattle.treelaws.specs.Joins.{Join, refusalOf}
 use Rattle.joining.specs.declared.NewNode.{NewNode}
@@ -28,6 +29,7 @@ record Within (j : Join) : Type 0 where
   kind : withinℤ fixed stated (j .kind) ≡ true
   share : withinℤ 1 (shareLimit (plus (j .kind))) (j .share) ≡ true
   depth : withinℤ 1 greatestDepth (j .depth) ≡ true
+  port : withinℤ 0 (portLimit (plus (j .sort))) (j .port) ≡ true
 
 within : (j : Join) → joinLimits j ≡ true → Within j
 unfolding joinLimits
@@ -36,17 +38,19 @@ within j l1 =
     let l3 = rest-hold _ _ l2 in
     let l4 = rest-hold _ _ l3 in
     let l5 = rest-hold _ _ l4 in
+    let l6 = rest-hold _ _ l5 in
     record {
       node = head-holds _ _ l1;
       parent = head-holds _ _ l2;
       sort = head-holds _ _ l3;
       kind = head-holds _ _ l4;
       share = head-holds _ _ l5;
-      depth = head-holds _ _ (rest-hold _ _ l5);
+      depth = head-holds _ _ l6;
+      port = head-holds _ _ (rest-hold _ _ l6);
     }
 
 limited : (n : NewNode) (j : Join) → Natural n j → joinLimits j ≡ true → Limited n
-limited n j same h = let w = within j h in omega (arith, zarith, limit-le (plus (j .kind)))
+limited n j same h = let w = within j h in omega (arith, zarith, limit-le (plus (j .kind)), limit-second (plus (j .sort)))
 
 pub as-asked : (n : NewNode) (j : Join) → Natural n j → joinLimits j ≡ true → joinOf n ≡ j
 unfolding joinOf
@@ -59,6 +63,7 @@ as-asked n j same h =
       ap pos (same .kind) ∙ pos-of-within _ _ (j .kind) (w .kind),
       ap pos (same .share) ∙ pos-of-within _ _ (j .share) (w .share),
       ap pos (same .depth) ∙ pos-of-within _ _ (j .depth) (w .depth),
+      ap pos (same .port) ∙ pos-of-within _ _ (j .port) (w .port),
     )
 
 pub judged : (t : List ℤ) (n : NewNode) (j : Join) → Natural n j → inOrder t ≡ true → joinLimits j ≡ true → Judged t n
@@ -75,7 +80,7 @@ accepted-limits t j h =
 pub writable : (t : List ℤ) (n : NewNode) (j : Join) → Natural n j → refusalOf t j ≡ 0 → Writable t n
 unfolding refusalOf treeOf
 writable t n j same h =
-    let p = join-passed t _ _ _ _ _ _ h in
+    let p = join-passed t _ _ _ _ _ _ _ h in
     let f = facts t (p .order) in
     let level = f .limits _ (p .parent) (p .there) .level in
     record {

@@ -55,13 +55,13 @@ module _ (t : List ℤ) (n : NewNode) (p : Placeable t n) where
       let own = ordered .limits (n .parent) (omega arith) (p .there) .depth in
       omega (arith, zarith, parent-class .depths)
 
-  edited : Edited t (joinedBy t (joinOf n)) (n .node) (joinedPlace t (n .node) (n .parent) (pos (n .sort)) (pos (n .kind)) (pos (n .share)) (pos (n .depth)))
+  edited : Edited t (joinedBy t (joinOf n)) (n .node) (joinedPlace t (n .node) (n .parent) (pos (n .sort)) (pos (n .kind)) (pos (n .share)) (pos (n .depth)) (pos (n .port)))
   unfolding joinedBy joinOf plus
-  edited = joined-edit t (n .node) (n .parent) _ _ _ _ (ordered .long) low
+  edited = joined-edit t (n .node) (n .parent) _ _ _ _ _ (ordered .long) low
 
   node : NodeIs (treeOf (joinedBy t (joinOf n))) (n .node) (n .sort) (n .parent) (suc (treeOf t .level (n .parent))) (n .kind) (n .share) (n .depth)
   unfolding joinedBy joinOf plus
-  node = joined-node t (n .node) (n .parent) _ _ _ _ (ordered .long) low
+  node = joined-node t (n .node) (n .parent) _ _ _ _ _ (ordered .long) low
 
   new-there : there (treeOf (joinedBy t (joinOf n))) (n .node) ≡ true
   new-there = there-by-sort _ (n .node) (rw (node .sort) (p .judged .limits .sort-least))
@@ -100,7 +100,7 @@ module _ (t : List ℤ) (n : NewNode) (p : Placeable t n) where
   unfolding depthsAbove joinedBy joinOf plus
   depths-with =
       let apart : n .parent ≡ n .node → ⊥ = λ e. true-false (p .there) (rw e (p .unused)) in
-      rw (depths, joined-others t (n .node) (n .parent) _ _ _ _ (ordered .long) low (n .parent) apart .depth)
+      rw (depths, joined-others t (n .node) (n .parent) _ _ _ _ _ (ordered .long) low (n .parent) apart .depth)
 
   -- The node was unused, so it added nothing to the stated rates.
   nothing-before : kindShare (treeOf t) stated (n .node) ≡ 0

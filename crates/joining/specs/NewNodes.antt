@@ -7,7 +7,7 @@ use lib.ListN.{length}
 use lib.IntN.{ℤ, pos}
 use Rattle.numbers.specs.Whole.{plus, withinℤ}
 use Rattle.numbers.specs.Tests.{every}
-use Rattle.table.specs.Limits.{tableLength, lastNode, lastLevel, balanceAt, class, client, fixed, stated, greatestDepth, greatestRate, shareLimit}
+use Rattle.table.specs.Limits.{tableLength, lastNode, lastLevel, balanceAt, class, client, fixed, stated, greatestDepth, greatestRate, shareLimit, secondPort, portLimit}
 use Rattle.table.specs.Places.{place}
 use Rattle.table.specs.Tree.{treeOf, there, isClient}
 use Rattle.table.specs.Order.{inOrder}
@@ -17,9 +17,9 @@ use Rattle.treelaws.specs.Joins.{Join}
 use Rattle.joining.specs.declared.NewNode.{NewNode}
 
 -- The arguments of a join.
-abbrev pub asked : ℤ → ℤ → ℤ → ℤ → ℤ → ℤ → Join
-asked node parent sort kind share depth =
-    record { node = node; parent = parent; sort = sort; kind = kind; share = share; depth = depth }
+abbrev pub asked : ℤ → ℤ → ℤ → ℤ → ℤ → ℤ → ℤ → Join
+asked node parent sort kind share depth port =
+    record { node = node; parent = parent; sort = sort; kind = kind; share = share; depth = depth; port = port }
 
 -- Whether they are within their limits.
 unfoldable pub joinLimits : Join → Bool
@@ -31,6 +31,7 @@ joinLimits j =
     ∷ withinℤ fixed stated (j .kind)
     ∷ withinℤ 1 (shareLimit (plus (j .kind))) (j .share)
     ∷ withinℤ 1 greatestDepth (j .depth)
+    ∷ withinℤ 0 (portLimit (plus (j .sort))) (j .port)
     ∷ [])
 
 -- The causes that go by the sums of the table as the join would leave it, under class c.
@@ -45,10 +46,11 @@ pub record Natural (n : NewNode) (j : Join) : Type 0 where
   pub kind : n .kind ≡ plus (j .kind)
   pub share : n .share ≡ plus (j .share)
   pub depth : n .depth ≡ plus (j .depth)
+  pub port : n .port ≡ plus (j .port)
 
 -- The join that asks for a node.
 unfoldable pub joinOf : NewNode → Join
-joinOf n = asked (pos (n .node)) (pos (n .parent)) (pos (n .sort)) (pos (n .kind)) (pos (n .share)) (pos (n .depth))
+joinOf n = asked (pos (n .node)) (pos (n .parent)) (pos (n .sort)) (pos (n .kind)) (pos (n .share)) (pos (n .depth)) (pos (n .port))
 
 -- What the limits of join's arguments say of a node.
 pub record Limited (n : NewNode) : Type 0 where
@@ -60,6 +62,7 @@ pub record Limited (n : NewNode) : Type 0 where
   pub kind : n .kind ≤ stated
   pub share : n .share ≤ greatestRate
   pub depth : n .depth ≤ greatestDepth
+  pub port : n .port ≤ secondPort
 
 -- A table and a node that the first two causes do not turn back.
 pub record Judged (t : List ℤ) (n : NewNode) : Type 0 where

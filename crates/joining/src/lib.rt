@@ -23,10 +23,19 @@ struct NewNode {
     kind: u64,
     share: u64,
     depth: u64,
+    port: u64,
 }
 
-fn join_limits(node: i64, parent: i64, sort: i64, kind: i64, share: i64, depth: i64) -> bool
-    ensures { λ r. ⌜ r ≡ joinLimits (asked node parent sort kind share depth) ⌝ }
+fn join_limits(
+    node: i64,
+    parent: i64,
+    sort: i64,
+    kind: i64,
+    share: i64,
+    depth: i64,
+    port: i64,
+) -> bool
+    ensures { λ r. ⌜ r ≡ joinLimits (asked node parent sort kind share depth port) ⌝ }
 {
     let node_fits = numbers::within(node, 1, Table::LAST_NODE);
     let parent_fits = numbers::within(parent, 0, Table::LAST_NODE);
@@ -35,11 +44,21 @@ fn join_limits(node: i64, parent: i64, sort: i64, kind: i64, share: i64, depth: 
     let most = Table::share_limit(numbers::natural(kind));
     let share_fits = numbers::within(share, 1, most);
     let depth_fits = numbers::within(depth, 1, Table::GREATEST_DEPTH);
-    node_fits & parent_fits & sort_fits & kind_fits & share_fits & depth_fits
+    let last = Table::port_limit(numbers::natural(sort));
+    let port_fits = numbers::within(port, 0, last);
+    node_fits & parent_fits & sort_fits & kind_fits & share_fits & depth_fits & port_fits
 }
 
-fn new_node(node: i64, parent: i64, sort: i64, kind: i64, share: i64, depth: i64) -> NewNode
-    ensures { λ r. ⌜ Natural r (asked node parent sort kind share depth) ⌝ }
+fn new_node(
+    node: i64,
+    parent: i64,
+    sort: i64,
+    kind: i64,
+    share: i64,
+    depth: i64,
+    port: i64,
+) -> NewNode
+    ensures { λ r. ⌜ Natural r (asked node parent sort kind share depth port) ⌝ }
 {
     NewNode {
         node: numbers::natural(node) as usize,
@@ -48,6 +67,7 @@ fn new_node(node: i64, parent: i64, sort: i64, kind: i64, share: i64, depth: i64
         kind: numbers::natural(kind),
         share: numbers::natural(share),
         depth: numbers::natural(depth),
+        port: numbers::natural(port),
     }
 }
 
@@ -134,17 +154,18 @@ fn join_refusal(
     kind: i64,
     share: i64,
     depth: i64,
+    port: i64,
 ) -> u64
-    ensures first { λ r. ⌜ r ≡ refusalOf (now (table .entry)) (asked node parent sort kind share depth) ⌝ }
+    ensures first { λ r. ⌜ r ≡ refusalOf (now (table .entry)) (asked node parent sort kind share depth port) ⌝ }
     ensures small { λ r. ⌜ r ≤ lastRefusal ⌝ }
 {
     if !order::in_order(table) {
         return 1;
     }
-    if !join_limits(node, parent, sort, kind, share, depth) {
+    if !join_limits(node, parent, sort, kind, share, depth, port) {
         return 2;
     }
-    tree_refusal(table, new_node(node, parent, sort, kind, share, depth))
+    tree_refusal(table, new_node(node, parent, sort, kind, share, depth, port))
 }
 
 // The record of a joining node, with balance 0.
@@ -160,9 +181,10 @@ fn write_node(table: &mut [i64], new: NewNode)
     Table::put_natural(table, new.node, Table::KIND, new.kind);
     Table::put_natural(table, new.node, Table::SHARE, new.share);
     Table::put_natural(table, new.node, Table::DEPTH, new.depth);
+    Table::put_natural(table, new.node, Table::PORT, new.port);
 }
 
-// Join. Document 01, "Calls".
+// Join. Document 01, "Calls", and document 02, (g).
 pub fn join(
     table: &mut [i64],
     node: i64,
@@ -171,15 +193,16 @@ pub fn join(
     kind: i64,
     share: i64,
     depth: i64,
+    port: i64,
 ) -> Answer
-    ensures answer { λ r. ⌜ told r ≡ joinAnswer (now (table .entry)) node parent sort kind share depth ⌝ }
-    ensures table { λ _. ⌜ now (table .exit) ≡ joinTable (now (table .entry)) node parent sort kind share depth ⌝ }
+    ensures answer { λ r. ⌜ told r ≡ joinAnswer (now (table .entry)) node parent sort kind share depth port ⌝ }
+    ensures table { λ _. ⌜ now (table .exit) ≡ joinTable (now (table .entry)) node parent sort kind share depth port ⌝ }
 {
-    let number = join_refusal(table, node, parent, sort, kind, share, depth);
+    let number = join_refusal(table, node, parent, sort, kind, share, depth, port);
     if number != 0 {
         return table::answered(number, 0);
     }
-    write_node(table, new_node(node, parent, sort, kind, share, depth));
+    write_node(table, new_node(node, parent, sort, kind, share, depth, port));
     rating::renewal::renew_below(table, numbers::natural(parent) as usize);
     Answer::Accepted(0)
 }

@@ -1,1 +1,1 @@
-// The edges of the requests of document 02, proved together in proofs/. No functions.
+// The edges of the requests (a) to (c) of document 02, proved together in proofs/. No functions.

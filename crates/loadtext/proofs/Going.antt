@@ -1,24 +1,22 @@
 -- A load goes on tick by tick.
 use Prim.Native.Nat.{ℕ, zero, suc, _+_, _≤_, _<_}
-use mathlib.Core.Path.{_≡_, refl, sym, ap, _∙_}
-use mathlib.Core.Bool.{true}
+use mathlib.Core.Path.{_≡_, refl, sym, ap, subst, _∙_}
 use mathlib.Core.List.{List}
 use native.Mathlib.Omega.{arith}
 use lib.ListN.{length}
-use Rattle.table.specs.Order.{inOrder}
 use Rattle.layout.specs.Bytes.{bytesBelow}
 use Rattle.text.specs.Appended.{Appended}
 use Rattle.text.proofs.Appending.{append-as, append-none, append-more}
 use Rattle.asking.specs.Asking.{Load}
 use Rattle.loadtext.specs.Text.{nextTick, afterTick, afterTicks, tickLines, ticksText}
-use Rattle.loadtext.specs.Parts.{GoesOn}
-use Rattle.loadtext.proofs.Seams.{after-next, text-next, after-order}
+use Rattle.loadtext.specs.Parts.{Loaded, GoesOn}
+use Rattle.loadtext.proofs.Seams.{after-next, text-next, after-loaded}
 
 module _ (b : List ℕ) (load : Load) (made ticks : ℕ) where
   -- No tick yet.
-  pub goes-none : made ≤ ticks → inOrder (load .table) ≡ true → GoesOn b load made ticks b load made 0
+  pub goes-none : made ≤ ticks → Loaded (load .table) → GoesOn b load made ticks b load made 0
   unfolding ticksText bytesBelow afterTicks
-  goes-none some order = record { n = 0; further = omega arith; within = some; text = append-none b 0; after = refl; order = order }
+  goes-none some loaded = record { n = 0; further = omega arith; within = some; text = append-none b 0; after = refl; loaded = loaded }
 
   module _ (b1 : List ℕ) (load1 : Load) (made1 size1 : ℕ) (so-far : GoesOn b load made ticks b1 load1 made1 size1) where
     -- One tick more.
@@ -33,7 +31,7 @@ module _ (b : List ℕ) (load : Load) (made ticks : ℕ) where
           within = omega (arith, further);
           text = append-as _ _ _ _ _ _ (sym (text-next load made n)) (append-more _ _ _ _ _ _ _ _ (omega (arith, so-far .text .behind)) (so-far .text) (append-as _ _ _ _ _ _ line lines));
           after = after ∙ ap afterTick (so-far .after) ∙ sym (after-next load n);
-          order = ap (λ (l : Load). inOrder (l .table)) after ∙ after-order load1 (so-far .order);
+          loaded = subst (λ (l : Load). Loaded (l .table)) (sym after) (after-loaded load1 (so-far .loaded));
         }
 
     -- Where bytes were put, there was a tick.

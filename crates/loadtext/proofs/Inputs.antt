@@ -18,7 +18,7 @@ use Rattle.layout.specs.Format.{startOf, shareLength}
 use Rattle.planlaws.specs.Reading.{planTable, planAnswer, checkAnswer}
 use Rattle.planlaws.proofs.Accepted.{refusing-last}
 use Rattle.planlaws.proofs.Stages.{too-long}
-use Rattle.planlaws.proofs.ReadWritten.{plan-keeps}
+use Rattle.planlaws.proofs.ReadWritten.{plan-keeps, plan-port}
 use Rattle.text.specs.Text.{refusedLine, inputLength}
 use Rattle.text.specs.Appended.{Appended}
 use Rattle.text.proofs.Appending.{append-as, append-none}
@@ -63,7 +63,7 @@ module _ (s : List ℕ) where
         none = refl;
         all = sym (cond-false (eqb (loadRefusal s) 0) (ticksIn s) 0 no);
         first = λ some. absurd (omega arith);
-        order = λ some. absurd (omega arith);
+        loaded = λ some. absurd (omega arith);
       }
 
   pub accepted-begins : (b : List ℕ) (t : List ℤ) (state ticks : ℕ) → loadRefusal s ≡ 0 → t ≡ begun s .table → state ≡ le4 s seedAt → ticks ≡ le4 s ticksAt → Begins s b (loadOf t state) 0 ticks 0 b
@@ -76,7 +76,9 @@ module _ (s : List ℕ) where
         none = refl;
         all = all ∙ sym (cond-true (eqb (loadRefusal s) 0) (ticksIn s) 0 yes);
         first = λ some. is;
-        order = λ some. rw table (plan-keeps blank (drop planAt s) (sym (plan-refused (accepted-long h)) ∙ h));
+        loaded = λ some.
+            let good = sym (plan-refused (accepted-long h)) ∙ h in
+            rw table (record { order = plan-keeps blank (drop planAt s) good; port = plan-port blank (drop planAt s) good });
       }
 
 -- So it is enough to read the first bytes of an input.

@@ -7,19 +7,25 @@ use native.Mathlib.Nat.{add-zero, add-suc}
 use native.Mathlib.Numerals.{add-one}
 use native.Mathlib.Omega.{arith}
 use lib.IntN.{ℤ}
+use Rattle.table.specs.Places.{port}
 use Rattle.table.specs.Order.{inOrder}
 use Rattle.table.specs.Tick.{ticked}
 use Rattle.ticklaws.proofs.Laws.{tick-laws}
 use Rattle.layout.specs.Bytes.{bytesBelow}
 use Rattle.layout.proofs.Shows.{bytes-next}
 use Rattle.asking.specs.Asking.{clients, Load, loadOf, asked}
-use Rattle.asking.proofs.Kept.{asked-order, asked-clients, ticked-clients}
+use Rattle.asking.proofs.Kept.{asked-order, asked-clients, asked-port, ticked-clients, ticked-port}
 use Rattle.loadtext.specs.Text.{nextTick, afterTick, afterTicks, tickLines, ticksText}
+use Rattle.loadtext.specs.Parts.{Loaded}
 
 -- One request and one tick, as the code makes them: t is the table after the request, u after the tick.
 module _ (load : Load) (t : List ℤ) (state : ℕ) (request : loadOf t state ≡ asked load) where
-  pub request-order : inOrder (load .table) ≡ true → inOrder t ≡ true
-  request-order order = ap (λ (l : Load). inOrder (l .table)) request ∙ asked-order load order
+  pub request-loaded : Loaded (load .table) → Loaded t
+  request-loaded l =
+      record {
+        order = ap (λ (x : Load). inOrder (x .table)) request ∙ asked-order load (l .order);
+        port = λ k. ap (λ (x : Load). port (x .table) k) request ∙ asked-port load k ∙ l .port k;
+      }
 
   pub next-entries : ticked t .entries ≡ nextTick load .entries
   unfolding nextTick
@@ -29,9 +35,14 @@ module _ (load : Load) (t : List ℤ) (state : ℕ) (request : loadOf t state �
   unfolding afterTick nextTick
   next-load u tick = ap (λ (x : List ℤ). loadOf x state) tick ∙ ap (λ (l : Load). loadOf (ticked (l .table) .table) (l .state)) request
 
-pub after-order : (load : Load) → inOrder (load .table) ≡ true → inOrder (afterTick load .table) ≡ true
+pub after-loaded : (load : Load) → Loaded (load .table) → Loaded (afterTick load .table)
 unfolding afterTick nextTick
-after-order load order = tick-laws (asked load .table) (asked-order load order) .order
+after-loaded load l =
+    let order = asked-order load (l .order) in
+    record {
+      order = tick-laws (asked load .table) order .order;
+      port = λ k. ticked-port (asked load .table) order k ∙ asked-port load k ∙ l .port k;
+    }
 
 pub after-clients : (load : Load) → inOrder (load .table) ≡ true → clients (afterTick load .table) ≡ clients (load .table)
 unfolding afterTick nextTick

@@ -8,12 +8,11 @@ use native.Mathlib.Omega.{arith}
 use lib.ListN.{take}
 use lib.Dec.{eqb}
 use Rattle.numbers.proofs.Tests.{by-test}
-use Rattle.table.specs.Order.{inOrder}
 use Rattle.layout.specs.Bytes.{bytesBelow}
 use Rattle.text.proofs.Appending.{appended-front}
 use Rattle.asking.specs.Asking.{Load}
 use Rattle.loadtext.specs.Text.{afterTicks, ticksText, begun, loadRefusal, loadText}
-use Rattle.loadtext.specs.Parts.{opening, ticksAllowed, Begins, GoesOn, partOf}
+use Rattle.loadtext.specs.Parts.{Loaded, opening, ticksAllowed, Begins, GoesOn, partOf}
 use Rattle.loadtext.proofs.Seams.{after-more, text-more}
 
 module _ (s : List ℕ) where
@@ -33,12 +32,12 @@ module _ (s : List ℕ) where
       ∙ text-more (afterTicks a (begun s)) a m n
       ∙ ap (λ (u : List ℕ). ticksText a m (afterTicks a (begun s)) ++ u) (rw (from, sym (after-more (begun s) a m), from))
 
-  -- A load of this input under way: where ticks are left, it is the one after those made, and its table is in order.
+  -- A load of this input under way: where ticks are left, it is the one after those made, and its table is one of a load.
   pub record UnderWay (load : Load) (made ticks : ℕ) : Type 0 where
     pub within : made ≤ ticks
     pub few : ticks < 2 ^ 32
     pub after : made < ticks → load ≡ afterTicks made (begun s)
-    pub order : made < ticks → inOrder (load .table) ≡ true
+    pub loaded : made < ticks → Loaded (load .table)
 
   pub begins-way : (b b' : List ℕ) (load : Load) (made ticks size : ℕ) → Begins s b load made ticks size b' → ticks < 2 ^ 32 → UnderWay load made ticks
   unfolding afterTicks
@@ -47,7 +46,7 @@ module _ (s : List ℕ) where
         within = omega (arith, begins .none);
         few = few;
         after = λ left. begins .first (omega arith) ∙ ap (λ (n : ℕ). afterTicks n (begun s)) (sym (begins .none));
-        order = λ left. begins .order (omega arith);
+        loaded = λ left. begins .loaded (omega arith);
       }
 
   module _ (b b' : List ℕ) (load load' : Load) (made made' ticks size : ℕ) (way : UnderWay load made ticks) (left : made < ticks) (part : GoesOn b load made ticks b' load' made' size) where
@@ -57,7 +56,7 @@ module _ (s : List ℕ) where
           within = part .within;
           few = way .few;
           after = λ l. part .after ∙ ap (afterTicks (part .n)) (way .after left) ∙ sym (after-more (begun s) made (part .n)) ∙ ap (λ (n : ℕ). afterTicks n (begun s)) (sym (part .further));
-          order = λ l. part .order;
+          loaded = λ l. part .loaded;
         }
 
     -- What stands in the buffer then is the input's part behind what was sent.

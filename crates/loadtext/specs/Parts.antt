@@ -4,7 +4,9 @@ use mathlib.Core.Path.{_≡_}
 use mathlib.Core.Bool.{true, cond}
 use mathlib.Core.List.{List, []}
 use lib.Dec.{eqb}
-use Rattle.table.specs.Limits.{nodes, entryLength, mostWaiting}
+use lib.IntN.{ℤ}
+use Rattle.table.specs.Limits.{nodes, entryLength, mostWaiting, firstPort}
+use Rattle.table.specs.Places.{port}
 use Rattle.table.specs.Order.{inOrder}
 use Rattle.text.specs.Text.{mostDigits, refusedLine}
 use Rattle.text.specs.Appended.{Appended}
@@ -34,6 +36,11 @@ lastPlace = partLength - longestTick
 abbrev pub partTicks : ℕ
 partTicks = 4096
 
+-- A load's table: it is in order, and all its clients are on the first port, as a plan puts them.
+pub record Loaded (t : List ℤ) : Type 0 where
+  pub order : inOrder t ≡ true
+  pub port : (k : ℕ) → port t k ≡ firstPort
+
 -- What is written before the first tick: nothing, or the line of the refusal; and how many ticks follow.
 unfoldable pub opening : List ℕ → List ℕ
 opening s = cond (eqb (loadRefusal s) 0) [] (refusedLine (loadRefusal s))
@@ -42,23 +49,23 @@ unfoldable pub ticksAllowed : List ℕ → ℕ
 ticksAllowed s = cond (eqb (loadRefusal s) 0) (ticksIn s) 0
 
 -- A load begins with an input: the buffer b becomes b', which begins with the opening, no tick is made, and as many follow as are
--- allowed. Where ticks follow, the load is that of the input, and its table is in order.
+-- allowed. Where ticks follow, the load is that of the input, and its table is one of a load.
 pub record Begins (s b : List ℕ) (load : Load) (made ticks length : ℕ) (b' : List ℕ) : Type 0 where
   pub text : Appended b 0 (opening s) b' length
   pub none : made ≡ 0
   pub all : ticks ≡ ticksAllowed s
   pub first : 0 < ticks → load ≡ begun s
-  pub order : 0 < ticks → inOrder (load .table) ≡ true
+  pub loaded : 0 < ticks → Loaded (load .table)
 
 -- A load of which so many ticks were made goes on for n ticks: the buffer b becomes b', which begins with their lines, and the load
--- is the one after them, its table in order.
+-- is the one after them.
 pub record GoesOn (b : List ℕ) (load : Load) (made ticks : ℕ) (b' : List ℕ) (load' : Load) (made' length : ℕ) : Type 0 where
   pub n : ℕ
   pub further : made' ≡ made + n
   pub within : made' ≤ ticks
   pub text : Appended b 0 (ticksText made n load) b' length
   pub after : load' ≡ afterTicks n load
-  pub order : inOrder (load' .table) ≡ true
+  pub loaded : Loaded (load' .table)
 
 -- What is written for the ticks of an input behind tick number made, up to tick number last.
 unfoldable pub partOf : List ℕ → ℕ → ℕ → List ℕ

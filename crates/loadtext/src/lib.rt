@@ -1,14 +1,12 @@
 // The text of a load, in parts. Document 02, (d). A function `put_..` puts bytes into a text from place a on, or from the start
 // on, and answers the place behind them.
 ghost use mathlib.Core.Path.{_≡_};
-ghost use mathlib.Core.Bool.{true};
 ghost use Prim.Native.Nat.{_+_, _*_, _^_, _<_, _≤_};
 ghost use lib.ListN.{length, getD};
 ghost use lib.IntN.{pos};
 ghost use Rattle.io.specs.Counts.{Counts};
 ghost use Rattle.table.specs.Limits.{entryLength};
 ghost use Rattle.table.specs.Refusals.{lastRefusal};
-ghost use Rattle.table.specs.Order.{inOrder};
 ghost use Rattle.table.specs.Calls.{blank};
 ghost use Rattle.table.specs.Tick.{ticked};
 ghost use Rattle.layout.specs.Bytes.{bytesBelow};
@@ -16,7 +14,7 @@ ghost use Rattle.text.specs.Text.{longestRefused};
 ghost use Rattle.text.specs.Appended.{Appended};
 ghost use Rattle.asking.specs.Asking.{clients, loadOf};
 ghost use Rattle.loadtext.specs.Text.{numberText, dispatchLine, tickLines, nextTick, afterTick, loadRefusal, begun};
-ghost use Rattle.loadtext.specs.Parts.{mostDispatches, longestNumber, longestLine, longestTick, partLength, partTicks, Begins, GoesOn};
+ghost use Rattle.loadtext.specs.Parts.{mostDispatches, longestNumber, longestLine, longestTick, partLength, partTicks, Loaded, Begins, GoesOn};
 use layout::bytes;
 use table::Table;
 
@@ -106,14 +104,15 @@ fn put_dispatches(text: &mut [u8], a: usize, tick: u64, list: &[i64], count: usi
     at
 }
 
-// The lines of a tick, which is made.
+// The lines of a tick, which is made. All clients are on the first port, and the second list is empty.
 fn put_tick(text: &mut [u8], a: usize, table: &mut [i64], list: &mut [i64], tick: u64) -> usize
-    requires { ⌜ (a + longestTick ≤ length (now text)) × (inOrder (now table) ≡ true) × (entryLength * mostDispatches ≤ length (now list)) ⌝ }
+    requires { ⌜ (a + longestTick ≤ length (now text)) × Loaded (now table) × (entryLength * mostDispatches ≤ length (now list)) ⌝ }
     ensures lines { λ r. ⌜ Appended (now (text .entry)) a (tickLines tick (ticked (now (table .entry)) .entries)) (now (text .exit)) r ⌝ }
     ensures table { λ _. ⌜ now (table .exit) ≡ ticked (now (table .entry)) .table ⌝ }
 {
-    let count = steps::run(table, list);
-    put_dispatches(text, a, tick, list, count)
+    let mut none = [0i64; 0];
+    let counts = steps::run(table, list, &mut none);
+    put_dispatches(text, a, tick, list, counts.first)
 }
 
 // One request, one tick and its lines, behind those of the part so far. The askers are the clients.
@@ -124,7 +123,7 @@ fn put_next(
     list: &mut [i64],
     progress: Progress,
 ) -> Progress
-    requires { ⌜ (progress .length + longestTick ≤ length (now text)) × (inOrder (now table) ≡ true) × (now askers ≡ clients (now table)) × (entryLength * mostDispatches ≤ length (now list)) × (progress .made < 2 ^ 32) ⌝ }
+    requires { ⌜ (progress .length + longestTick ≤ length (now text)) × Loaded (now table) × (now askers ≡ clients (now table)) × (entryLength * mostDispatches ≤ length (now list)) × (progress .made < 2 ^ 32) ⌝ }
     ensures lines { λ r. ⌜ Appended (now (text .entry)) (progress .length) (tickLines (progress .made + 1) (nextTick (loadOf (now (table .entry)) (progress .state)) .entries)) (now (text .exit)) (r .length) ⌝ }
     ensures load { λ r. ⌜ loadOf (now (table .exit)) (r .state) ≡ afterTick (loadOf (now (table .entry)) (progress .state)) ⌝ }
     ensures ticks { λ r. ⌜ (r .made ≡ progress .made + 1) × (r .ticks ≡ progress .ticks) ⌝ }
@@ -154,7 +153,7 @@ fn last_tick(progress: Progress) -> u64
 
 // Whole ticks, one or more, while the buffer has room for one. The askers are the clients.
 fn put_ticks(text: &mut [u8], table: &mut [i64], askers: &[u64], progress: Progress) -> Progress
-    requires { ⌜ (partLength ≤ length (now text)) × (inOrder (now table) ≡ true) × (now askers ≡ clients (now table)) × (progress .made < progress .ticks) × (progress .ticks < 2 ^ 32) ⌝ }
+    requires { ⌜ (partLength ≤ length (now text)) × Loaded (now table) × (now askers ≡ clients (now table)) × (progress .made < progress .ticks) × (progress .ticks < 2 ^ 32) ⌝ }
     ensures part { λ r. ⌜ GoesOn (now (text .entry)) (loadOf (now (table .entry)) (progress .state)) (progress .made) (progress .ticks) (now (text .exit)) (loadOf (now (table .exit)) (r .state)) (r .made) (r .length) ⌝ }
     ensures ticks { λ r. ⌜ (progress .made < r .made) × (r .made ≤ progress .made + partTicks) × (r .ticks ≡ progress .ticks) ⌝ }
 {
@@ -174,7 +173,7 @@ fn put_ticks(text: &mut [u8], table: &mut [i64], askers: &[u64], progress: Progr
 
 // Makes the next part of a load in a buffer, and answers how far the load is then.
 pub fn go_on(text: &mut [u8], table: &mut [i64], progress: Progress) -> Progress
-    requires { ⌜ (partLength ≤ length (now text)) × (inOrder (now table) ≡ true) × (progress .made < progress .ticks) × (progress .ticks < 2 ^ 32) ⌝ }
+    requires { ⌜ (partLength ≤ length (now text)) × Loaded (now table) × (progress .made < progress .ticks) × (progress .ticks < 2 ^ 32) ⌝ }
     ensures count { λ r. ⌜ Counts (r .length) (now (text .exit)) ⌝ }
     ensures part { λ r. ⌜ GoesOn (now (text .entry)) (loadOf (now (table .entry)) (progress .state)) (progress .made) (progress .ticks) (now (text .exit)) (loadOf (now (table .exit)) (r .state)) (r .made) (r .length) ⌝ }
     ensures ticks { λ r. ⌜ (progress .made < r .made) × (r .made ≤ progress .made + partTicks) × (r .ticks ≡ progress .ticks) ⌝ }

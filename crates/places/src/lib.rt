@@ -93,7 +93,9 @@ pub fn limits_kept(table: &[i64], k: usize) -> bool
     let share = place_within(table, k, Table::SHARE, 1, most);
     let depth = place_within(table, k, Table::DEPTH, 1, Table::GREATEST_DEPTH);
     let waiting = place_within(table, k, Table::WAITING, 0, Table::MOST_WAITING);
-    sort & parent & level & kind & share & depth & waiting
+    let last = Table::port_limit(Table::natural(table, k, Table::SORT));
+    let port = place_within(table, k, Table::PORT, 0, last);
+    sort & parent & level & kind & share & depth & waiting & port
 }
 
 // Whether the places of node k that hold nothing are zero. Most queues are empty, and one test of a fixed length takes less

@@ -13,7 +13,7 @@ use lib.IntN.{ℤ, pos}
 use Rattle.numbers.proofs.All.{below-cases}
 use Rattle.numbers.proofs.Steps.{for-suc}
 use Rattle.numbers.specs.Below.{forBelow}
-use Rattle.table.specs.Limits.{tableLength}
+use Rattle.table.specs.Limits.{tableLength, firstPort}
 use Rattle.table.specs.Tree.{treeOf}
 use Rattle.table.specs.Refusals.{Cause, cause, first}
 use Rattle.table.specs.Calls.{openRefusal, openTable, opened, joinRefusal, joinTable}
@@ -39,7 +39,7 @@ pub refusing-last : (r : ℕ) → first (refusing r ∷ []) ≡ r
 refusing-last r = elim (ℕ-discrete r 0) [ yes e ↦ refusing-past r [] e ∙ first-end ∙ sym e | no ne ↦ refusing-here r [] ne ]
 
 -- A join by the numbers of an entry is the join that the entry asks for.
-pub join-by : (t : List ℤ) (e : Entry) {sort kind share r : ℕ} {u : List ℤ} → sort ≡ sortOf (e .kind) → kind ≡ shareKindOf (e .kind) → share ≡ e .share → r ≡ joinRefusal t (pos (e .node)) (pos (e .parent)) (pos sort) (pos kind) (pos share) (pos (e .depth)) → u ≡ joinTable t (pos (e .node)) (pos (e .parent)) (pos sort) (pos kind) (pos share) (pos (e .depth)) → (r ≡ entryRefusal t e) × (u ≡ afterEntry t e)
+pub join-by : (t : List ℤ) (e : Entry) {sort kind share r : ℕ} {u : List ℤ} → sort ≡ sortOf (e .kind) → kind ≡ shareKindOf (e .kind) → share ≡ e .share → r ≡ joinRefusal t (pos (e .node)) (pos (e .parent)) (pos sort) (pos kind) (pos share) (pos (e .depth)) (pos firstPort) → u ≡ joinTable t (pos (e .node)) (pos (e .parent)) (pos sort) (pos kind) (pos share) (pos (e .depth)) (pos firstPort) → (r ≡ entryRefusal t e) × (u ≡ afterEntry t e)
 unfolding entryRefusal afterEntry refusalOf afterJoin joinOf
 join-by t e sort kind share refusal table = (rw (sort, kind, share) at refusal, rw (sort, kind, share) at table)
 

@@ -14,7 +14,7 @@ use Rattle.numbers.specs.Tests.{every}
 use Rattle.numbers.proofs.Tests.{by-test, true-false}
 use Rattle.numbers.proofs.Every.{none-left, holds-with, head-fails, rest-fail}
 use Rattle.numbers.proofs.Parts.{plus-pos, minus-pos, pos-of-within, zarith}
-use Rattle.table.specs.Limits.{recordLength, nodes, lastNode, sortAt, parentAt, levelAt, kindAt, shareAt, depthAt, rateAt, class, client, fixed, stated, root, lastClassLevel, lastLevel, wholeShare}
+use Rattle.table.specs.Limits.{recordLength, nodes, lastNode, sortAt, parentAt, levelAt, kindAt, shareAt, depthAt, rateAt, class, client, fixed, stated, root, lastClassLevel, lastLevel, wholeShare, firstPort, portLimit}
 use Rattle.table.specs.Places.{place, rate}
 use Rattle.table.specs.Tree.{Tree, treeOf, there, isClass, isClient, isStated, sumUnder}
 use Rattle.table.specs.Rates.{fixedSum}
@@ -22,14 +22,14 @@ use Rattle.table.specs.Calls.{joinRefusal, sharesAbove, depthsAbove, statedWron
 use Rattle.table.proofs.Facts.{InOrder, from-facts, Limits, Child, Stated, of-stated}
 use Rattle.table.proofs.Refusals.{first-none, first-end}
 use Rattle.treelaws.specs.Joins.{Join, refusalOf, joinedBy}
-use Rattle.treelaws.proofs.Joined.{givenBy, joined-shown, joined-apart, same-there}
+use Rattle.treelaws.proofs.Joined.{of-tree, givenBy, joined-shown, joined-apart, same-there}
 use Rattle.table.proofs.Edits.{SameNode, same-node}
 use Rattle.calllaws.proofs.Nodes.{there-same, class-same}
 use Rattle.planlaws.proofs.Part.{PartOf, part-kinds, part-depths}
 
--- The join that gives node k what table t shows of it.
+-- The join that gives node k what table t shows of it, on the first port.
 unfoldable pub joinAt : List ℤ → ℕ → Join
-joinAt t k = record { node = pos k; parent = place t k parentAt; sort = place t k sortAt; kind = place t k kindAt; share = place t k shareAt; depth = place t k depthAt }
+joinAt t k = record { node = pos k; parent = place t k parentAt; sort = place t k sortAt; kind = place t k kindAt; share = place t k shareAt; depth = place t k depthAt; port = pos firstPort }
 
 same-twice : (a b c : Tree) (k : ℕ) → SameNode a b k → SameNode b c k → SameNode a c k
 same-twice a b c k m n =
@@ -92,7 +92,7 @@ module _ (t v : List ℤ) (k : ℕ) (x : Next t v k) where
 
   written : (q : ℕ) → q < rateAt → place (joinedBy v (joinAt t k)) k q ≡ place t k q
   unfolding joinAt treeOf plus
-  written q hq = joined-shown v (joinAt t k) (x .order .long) (x .small) q hq ∙ given-same q hq
+  written q hq = joined-shown v (joinAt t k) (x .order .long) (x .small) q (of-tree hq) ∙ given-same q hq
 
   kept : (j q : ℕ) → q < recordLength → (j ≡ k → ⊥) → place (joinedBy v (joinAt t k)) j q ≡ place v j q
   unfolding joinAt plus
@@ -152,11 +152,14 @@ module _ (t v : List ℤ) (k : ℕ) (x : Next t v k) where
   node-limits : withinℤ 1 lastNode (pos k) ≡ true
   node-limits = omega (arith, zarith, x .small, x .below, plus-pos k, minus-pos k)
 
+  port-limits : withinℤ 0 (portLimit (treeOf t .sort k)) (pos firstPort) ≡ true
+  port-limits = omega (arith, zarith, plus-pos firstPort, minus-pos firstPort)
+
   pub joinable : refusalOf v (joinAt t k) ≡ 0
   unfolding refusalOf joinRefusal joinAt sharesAbove depthsAbove statedWrong joinedBy treeOf plus
   joinable =
       first-none 1 _ _ (ap not (from-facts v (x .order)))
-      (first-none 2 _ _ (ap not (holds-with _ _ node-limits (holds-with _ _ (limits .parent) (holds-with _ _ (limits .sort) (holds-with _ _ (limits .kind) (holds-with _ _ (limits .share) (holds-with _ _ (limits .depth) none-left)))))))
+      (first-none 2 _ _ (ap not (holds-with _ _ node-limits (holds-with _ _ (limits .parent) (holds-with _ _ (limits .sort) (holds-with _ _ (limits .kind) (holds-with _ _ (limits .share) (holds-with _ _ (limits .depth) (holds-with _ _ port-limits none-left))))))))
       (first-none 3 _ _ (ap not (x .above))
       (first-none 4 _ _ (x .free)
       (first-none 5 _ _ (no-client (treeOf v) (treeOf t .parent k) parent-class)

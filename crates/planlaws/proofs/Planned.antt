@@ -12,7 +12,7 @@ use lib.IntN.{ℤ, pos}
 use Rattle.numbers.specs.Whole.{plus}
 use Rattle.numbers.proofs.Parts.{pos-of-within, zarith}
 use Rattle.numbers.proofs.All.{below-cases}
-use Rattle.table.specs.Limits.{nodes, lastNode, sortAt, parentAt, kindAt, shareAt, depthAt, class, client, fixed, stated, root, lastLevel, greatestDepth, shareLimit}
+use Rattle.table.specs.Limits.{nodes, lastNode, sortAt, parentAt, kindAt, shareAt, depthAt, class, client, fixed, stated, root, firstPort, lastLevel, greatestDepth, shareLimit}
 use Rattle.table.specs.Places.{place, rate}
 use Rattle.table.specs.Tree.{Tree, treeOf, there, isStated, eachNode}
 use Rattle.table.proofs.Facts.{InOrder, Limits, Child, root-there, each-at, at-each}
@@ -64,7 +64,7 @@ entry-join t k l =
     let kind : pos (shareKindOf (kindOf (plus (place t k sortAt)) (plus (place t k kindAt)))) ≡ place t k kindAt = ap pos (kind-share t k l) ∙ pos-of-within fixed stated (place t k kindAt) (l .kind) in
     let share : pos (plus (place t k shareAt)) ≡ place t k shareAt = pos-of-within 1 (shareLimit (plus (place t k kindAt))) (place t k shareAt) (l .share) in
     let depth : pos (plus (place t k depthAt)) ≡ place t k depthAt = pos-of-within 1 greatestDepth (place t k depthAt) (l .depth) in
-    λ i. record { node = pos k; parent = parent i; sort = sort i; kind = kind i; share = share i; depth = depth i }
+    λ i. record { node = pos k; parent = parent i; sort = sort i; kind = kind i; share = share i; depth = depth i; port = pos firstPort }
 
 module _ (t : List ℤ) (f : InOrder t) where
   pub listed-limits : (i : ℕ) → i < length (order (treeOf t)) → Limits t (listed (treeOf t) i)

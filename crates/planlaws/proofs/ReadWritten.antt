@@ -6,16 +6,20 @@ use mathlib.Core.Path.{_≡_, refl, sym, ap, ap₂, _∙_}
 use mathlib.Core.Bool.{true, false}
 use mathlib.Core.List.{List}
 use native.Mathlib.Omega.{arith}
-use native.Mathlib.Decide.{ℕ-discrete}
+use native.Mathlib.Decide.{decLt, ℕ-discrete}
 use borrow.Author.Tests.{ne-eqb, ltb-true}
 use lib.ListN.{length}
 use lib.IntN.{ℤ}
+use Rattle.numbers.specs.Whole.{plus}
 use Rattle.numbers.proofs.Tests.{true-false}
+use Rattle.numbers.proofs.Parts.{plus-pos}
 use Rattle.numbers.proofs.All.{all-at}
-use Rattle.table.specs.Limits.{stated, root}
+use Rattle.table.specs.Limits.{nodes, stated, root, firstPort}
+use Rattle.table.specs.Places.{port}
 use Rattle.table.specs.Tree.{Tree, treeOf, there, isStated}
 use Rattle.table.specs.Order.{inOrder}
 use Rattle.table.proofs.Facts.{root-unstated, from-facts}
+use Rattle.table.proofs.Ports.{port-beyond}
 use Rattle.layout.specs.Bytes.{byteValues, byteAt}
 use Rattle.layout.specs.declared.Edition.{Edition}
 use Rattle.layout.specs.declared.Edition.the-variants.{First, Second}
@@ -123,6 +127,14 @@ plan-entered t s h =
 
 pub plan-keeps : (t : List ℤ) (s : List ℕ) → planRefusal t s ≡ 0 → inOrder (planTable t s) ≡ true
 plan-keeps t s h = rw (plan-table t s h) (from-facts _ (plan-entered t s h .order))
+
+-- Every client is on the first port.
+pub plan-port : (t : List ℤ) (s : List ℕ) → planRefusal t s ≡ 0 → (k : ℕ) → port (planTable t s) k ≡ firstPort
+unfolding port
+plan-port t s h k =
+    let e = plan-entered t s h in
+    rw (plan-table t s h)
+    (elim (decLt k nodes) [ yes hk ↦ ap plus (e .port k hk) ∙ plus-pos firstPort | no high ↦ port-beyond (joinedFor t (planIn s)) k (e .order .long) high ])
 
 -- Its edition has a kind for each node of the table.
 entered-writable : (e : Edition) (p : Plan) (n : ℕ) (u : List ℤ) → ((i : ℕ) → i < n → p .entry i .kind ≤ lastKind e) → Entered p n u → unwritable e (treeOf u) ≡ false

@@ -1,5 +1,5 @@
 -- Reading a plan opens a table and joins the entries in turn. Document 01, "Same tree, and the plan file" and "What is
--- turned back", and document 02, (f).
+-- turned back", and document 02, (f) and (g).
 use Prim.Native.Nat.{ℕ, zero, suc, _+_, _*_, _-_}
 use mathlib.Core.Bool.{Bool, not}
 use mathlib.Core.List.{List, [], _∷_}
@@ -7,7 +7,7 @@ use lib.ListN.{length}
 use lib.Dec.{eqb, ltb}
 use lib.IntN.{ℤ, pos}
 use Rattle.numbers.specs.Below.{allBelow, forBelow}
-use Rattle.table.specs.Limits.{tableLength, nodes}
+use Rattle.table.specs.Limits.{tableLength, nodes, firstPort}
 use Rattle.table.specs.Tree.{Tree, treeOf}
 use Rattle.table.specs.Refusals.{Cause, cause, first, Outcome, outcome, kept}
 use Rattle.table.specs.Calls.{blank, openRefusal, openTable}
@@ -15,7 +15,7 @@ use Rattle.treelaws.specs.Joins.{Join, refusalOf, afterJoin}
 use Rattle.layout.specs.Kinds.{sortOf, shareKindOf}
 use Rattle.layout.specs.Format.{Entry, Plan, editionNumber, editionIn, planIn, formed}
 
--- The join that an entry asks for.
+-- The join that an entry asks for: plans put every client on port 0.
 unfoldable pub joinOf : Entry → Join
 joinOf e =
     record {
@@ -25,6 +25,7 @@ joinOf e =
       kind = pos (shareKindOf (e .kind));
       share = pos (e .share);
       depth = pos (e .depth);
+      port = pos firstPort;
     }
 
 -- The refusal of that join, and the table after it.

@@ -9,7 +9,7 @@ use lib.IntN.{ℤ, pos}
 use Rattle.numbers.specs.Whole.{plus, withinℤ}
 use Rattle.numbers.specs.Tests.{every}
 use Rattle.numbers.specs.Below.{sumBelow, allBelow}
-use Rattle.table.specs.Limits.{tableLength, nodes, root, shareLimit}
+use Rattle.table.specs.Limits.{tableLength, nodes, root, shareLimit, portLimit}
 use Rattle.table.specs.Places.{place, put, rate}
 use Rattle.table.specs.Order.{statedPlaced, statedInOrder, inOrder}
 use Rattle.table.specs.Refusals.{first}
@@ -41,7 +41,7 @@ sample = 0xE8 ∷ 0x03 ∷ 0x00 ∷ 0x00 ∷ 0x28 ∷ 0x00 ∷ 0x00 ∷ 0x00 ∷
 
 -- Its join, and the tables before and after it, where the rates are not yet renewed.
 five : Join
-five = record { node = pos 5; parent = pos 0; sort = pos 2; kind = pos 1; share = pos 4; depth = pos 16 }
+five = record { node = pos 5; parent = pos 0; sort = pos 2; kind = pos 1; share = pos 4; depth = pos 16; port = pos 0 }
 
 before : List ℤ
 before = opened (pos 1000) (pos 40)
@@ -66,8 +66,8 @@ in-order : inOrder before ≡ true
 unfolding before withinℤ plus
 in-order = opened-in-order (pos 1000) (pos 40) (record { rates = refl; depths = refl })
 
-no-cause : joinRefusal before (pos 5) (pos 0) (pos 2) (pos 1) (pos 4) (pos 16) ≡ 0
-unfolding before joinRefusal sharesAbove depthsAbove statedWrong statedInOrder statedPlaced eachNode testIf allBelow joined opened blank shareLimit kindSum kindShare sumUnder childOf countIf there isClient isStated rate treeOf place put sumBelow every plus withinℤ
+no-cause : joinRefusal before (pos 5) (pos 0) (pos 2) (pos 1) (pos 4) (pos 16) (pos 0) ≡ 0
+unfolding before joinRefusal sharesAbove depthsAbove statedWrong statedInOrder statedPlaced eachNode testIf allBelow joined opened blank shareLimit portLimit kindSum kindShare sumUnder childOf countIf there isClient isStated rate treeOf place put sumBelow every plus withinℤ
 no-cause =
     first-none 1 _ _ (ap not in-order)
     (first-none 2 _ _ refl

@@ -5,12 +5,12 @@ use mathlib.Core.Path.{_≡_, refl, ap, _∙_, fun-ext}
 use mathlib.Core.Bool.{Bool, _&&_}
 use mathlib.Core.List.{List}
 use lib.IntN.{ℤ, pos}
-use Rattle.table.specs.Places.{rate, balance, waiting, depthGrains}
+use Rattle.table.specs.Places.{rate, balance, waiting, port, depthGrains}
 use Rattle.table.specs.Rates.{kindSum, dividedRate, childRate, rateAtLevel, rateIn, renewed}
 use Rattle.table.specs.Order.{limitsKept, spareInOrder, classInOrder, rateInOrder, childBalance, childBalances, balanceInOrder, arrivalsDiffer, statedInOrder, inOrder}
 use Rattle.table.specs.Calls.{sharesAbove, depthsAbove, statedWrong, joinRefusal, joinTable, joinAnswer, leaveRefusal, leaveTable, leaveAnswer, changeShareRefusal, changeShareTable, changeShareAnswer, changeRateRefusal, changeRateTable, changeRateAnswer, requestRefusal, requestTable, requestAnswer, lostGrains, lookRefusal, lookAnswer, sameTree, sameRefusal, sameAnswer}
-use Rattle.table.specs.Tick.{State, grown, servedAll, cut, allWaiting, stepTwo, stepThree, ticked, tickRefusal, tickTable, tickList, tickAnswer}
-use Rattle.scenarios.specs.Scenario.{openℤ, joinℤ, leaveℤ, changeShareℤ, changeRateℤ, requestℤ, lookℤ, same, Step, _gives_, _answers_leaving_, keep, fits, spoils, lentTo, answer, called, changed, after, keptAfter}
+use Rattle.table.specs.Tick.{State, grown, servedAll, cut, allWaiting, stepTwo, stepThree, ticked, portEntries, portCount, portWaiting, listShort, tickRefusal, tickTable, tickFirst, tickSecond, tickAnswer}
+use Rattle.scenarios.specs.Scenario.{openℤ, joinℤ, leaveℤ, changeShareℤ, changeRateℤ, requestℤ, lookℤ, same, Step, _gives_, _answers_leaving_and_, keep, fits, spoils, firstLent, secondLent, answer, called, changed, after, keptAfter}
 use Rattle.scenarios.proofs.Judge.{holds}
 use Rattle.scenarios.proofs.Near.{treeNear, place-is, put-is, tree-is, sum-is, nodes-are, classes-are, clients-are, unused-is, lent-is}
 
@@ -101,9 +101,9 @@ shortInOrder t =
     simp (unused-is, tree-is, nodes-are, classes-are, clients-are, is shortLimits, is shortSpare, is shortClass, is shortRate, is shortBalance, is shortArrivals, is shortStated) at e)
 
 -- The refusals.
-unfoldable pub shortJoinRefusal : (t : List ℤ) (node parent sort kind share depth : ℤ) → Short (joinRefusal t node parent sort kind share depth)
+unfoldable pub shortJoinRefusal : (t : List ℤ) (node parent sort kind share depth port : ℤ) → Short (joinRefusal t node parent sort kind share depth port)
 unfolding joinRefusal sharesAbove depthsAbove statedWrong kindSum
-shortJoinRefusal t node parent sort kind share depth = by (λ y e. simp (is shortInOrder, is shortStated, tree-is, sum-is) at e)
+shortJoinRefusal t node parent sort kind share depth port = by (λ y e. simp (is shortInOrder, is shortStated, tree-is, sum-is) at e)
 
 unfoldable pub shortLeaveRefusal : (t : List ℤ) (node : ℤ) → Short (leaveRefusal t node)
 unfolding leaveRefusal
@@ -146,9 +146,17 @@ unfoldable pub shortAllWaiting : (t : List ℤ) → Short (allWaiting t)
 unfolding allWaiting
 shortAllWaiting t = by (λ y e. simp (is shortWaiting) at e)
 
-unfoldable pub shortTickRefusal : (t list : List ℤ) → Short (tickRefusal t list)
-unfolding tickRefusal
-shortTickRefusal t list = by (λ y e. simp (is shortInOrder, is shortAllWaiting) at e)
+unfoldable pub shortPorts : (t : List ℤ) → Short (port t)
+unfolding port
+shortPorts t = each (λ k. by (λ y e. simp place-is at e))
+
+unfoldable pub shortPortWaiting : (t : List ℤ) (p : ℕ) → Short (portWaiting t p)
+unfolding portWaiting
+shortPortWaiting t p = by (λ y e. simp (is shortPorts, is shortWaiting) at e)
+
+unfoldable pub shortTickRefusal : (t first second : List ℤ) → Short (tickRefusal t first second)
+unfolding tickRefusal listShort
+shortTickRefusal t first second = by (λ y e. simp (is shortInOrder, is (shortPortWaiting t)) at e)
 
 -- The steps of tick.
 unfoldable pub shortGrown : (t : List ℤ) → Short (grown t)
@@ -177,10 +185,10 @@ shortTicked t = with (shortStepThree t) (λ st h. by (λ y e. simp (h, is shortA
 
 -- A step, and a test of the tables after it. The refusal, and what a tick does, are computed once for both.
 unfoldable pub shortStep : (step : Step) (rest : (kept t : List ℤ) → Bool) (kept t : List ℤ) → Short (holds step kept t && rest (keptAfter step kept t) (after step t))
-unfolding holds after keptAfter answer called changed joinTable joinAnswer leaveTable leaveAnswer changeShareTable changeShareAnswer changeRateTable changeRateAnswer requestTable requestAnswer lookAnswer sameTree sameAnswer tickTable tickList tickAnswer renewed
+unfolding holds after keptAfter answer called changed joinTable joinAnswer leaveTable leaveAnswer changeShareTable changeShareAnswer changeRateTable changeRateAnswer requestTable requestAnswer lookAnswer sameTree sameAnswer tickTable tickFirst tickSecond tickAnswer portCount portEntries renewed
 shortStep (openℤ rate depth gives o) rest kept t = record { value = _; same = refl }
-shortStep (joinℤ node parent sort kind share depth gives o) rest kept t =
-    with (shortJoinRefusal t node parent sort kind share depth) (λ n h. by (λ y e. simp (h, tree-is, rates-are) at e))
+shortStep (joinℤ node parent sort kind share depth port gives o) rest kept t =
+    with (shortJoinRefusal t node parent sort kind share depth port) (λ n h. by (λ y e. simp (h, tree-is, rates-are) at e))
 shortStep (leaveℤ node gives o) rest kept t = with (shortLeaveRefusal t node) (λ n h. by (λ y e. simp (h, tree-is, rates-are) at e))
 shortStep (changeShareℤ node kind share gives o) rest kept t =
     with (shortChangeShareRefusal t node kind share) (λ n h. by (λ y e. simp (h, tree-is, rates-are) at e))
@@ -190,8 +198,8 @@ shortStep (requestℤ client tag size gives o) rest kept t =
     with (shortRequestRefusal t client tag size) (λ n h. by (λ y e. simp h at e))
 shortStep (lookℤ node gives o) rest kept t = with (shortLookRefusal t node) (λ n h. by (λ y e. simp (h, is (shortLost t)) at e))
 shortStep (same gives o) rest kept t = with (shortSameRefusal kept t) (λ n h. by (λ y e. simp (h, place-is) at e))
-shortStep (c answers o leaving list) rest kept t =
-    with (shortTickRefusal t (lentTo c)) (λ n h. with (shortTicked t) (λ st k. by (λ y e. simp (h, k) at e)))
+shortStep (c answers o leaving first and second) rest kept t =
+    with (shortTickRefusal t (firstLent c) (secondLent c)) (λ n h. with (shortTicked t) (λ st k. by (λ y e. simp (h, k, is shortPorts) at e)))
 shortStep keep rest kept t = record { value = _; same = refl }
 shortStep (fits change) rest kept t = by (λ y e. simp (is shortInOrder) at e)
 shortStep (spoils change) rest kept t = by (λ y e. simp (is shortInOrder) at e)

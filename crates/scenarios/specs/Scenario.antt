@@ -6,18 +6,18 @@ use mathlib.Core.Bool.{true, false}
 use mathlib.Core.List.{List, [], _∷_, _++_}
 use lib.ListN.{length, take, drop, replicate}
 use lib.IntN.{ℤ, pos}
-use Rattle.table.specs.Limits.{tableLength, balanceAt}
+use Rattle.table.specs.Limits.{tableLength, balanceAt, firstPort}
 use Rattle.table.specs.Places.{put, putHeader}
 use Rattle.table.specs.Order.{inOrder}
 use Rattle.table.specs.Refusals.{Outcome, accepted, refused}
 use Rattle.table.specs.Calls.{openTable, openAnswer, joinTable, joinAnswer, leaveTable, leaveAnswer, changeShareTable, changeShareAnswer, changeRateTable, changeRateAnswer, requestTable, requestAnswer, lookAnswer, sameAnswer}
-use Rattle.table.specs.Tick.{tickTable, tickList, tickAnswer}
+use Rattle.table.specs.Tick.{tickTable, tickFirst, tickSecond, tickAnswer}
 
 -- A call other than tick, with any whole numbers for its arguments. Same has the table that was kept last for its first
 -- table and the table as it is for its second.
 pub data Call : Type 0 where
   openℤ : (rate depth : ℤ) → Call
-  joinℤ : (node parent sort kind share depth : ℤ) → Call
+  joinℤ : (node parent sort kind share depth port : ℤ) → Call
   leaveℤ : (node : ℤ) → Call
   changeShareℤ : (node kind share : ℤ) → Call
   changeRateℤ : (rate : ℤ) → Call
@@ -25,12 +25,15 @@ pub data Call : Type 0 where
   lookℤ : (node : ℤ) → Call
   same : Call
 
--- The same calls with natural numbers. `disk` is open, with the disk's rate and the root's depth.
+-- The same calls with natural numbers. `disk` is open, with the disk's rate and the root's depth; `join` is on the first port.
 abbrev pub disk : (rate depth : ℕ) → Call
 disk rate depth = openℤ (pos rate) (pos depth)
 
+abbrev pub joinOn : (port node parent sort kind share depth : ℕ) → Call
+joinOn port node parent sort kind share depth = joinℤ (pos node) (pos parent) (pos sort) (pos kind) (pos share) (pos depth) (pos port)
+
 abbrev pub join : (node parent sort kind share depth : ℕ) → Call
-join node parent sort kind share depth = joinℤ (pos node) (pos parent) (pos sort) (pos kind) (pos share) (pos depth)
+join = joinOn firstPort
 
 abbrev pub leave : (node : ℕ) → Call
 leave node = leaveℤ (pos node)
@@ -47,9 +50,12 @@ request client tag size = requestℤ (pos client) (pos tag) (pos size)
 abbrev pub look : (node : ℕ) → Call
 look node = lookℤ (pos node)
 
--- A tick, with the length of the list that it is lent; and an entry of that list.
+-- A tick, with the lengths of the lists that it is lent; with the second list empty; and an entry of a list.
 pub data Tick : Type 0 where
-  tick : (listLength : ℕ) → Tick
+  tickBoth : (firstLength secondLength : ℕ) → Tick
+
+abbrev pub tick : (firstLength : ℕ) → Tick
+tick n = tickBoth n 0
 
 pub data Dispatch : Type 0 where
   dispatch : (client tag size supplier : ℕ) → Dispatch
@@ -61,21 +67,24 @@ pub data Change : Type 0 where
   atHeader : (place : ℕ) (number : ℤ) → Change
   oneLess oneMore : Change
 
--- A step: a call that must give an answer; a tick that must give an answer and leave a list; the table kept for same; a
+-- A step: a call that must give an answer; a tick that must give an answer and leave two lists; the table kept for same; a
 -- change after which the table must be in order; one after which it must not be.
-infix 70 _gives_ _answers_leaving_
+infix 70 _gives_ _answers_leaving_and_
 pub data Step : Type 0 where
   _gives_ : Call → Outcome → Step
-  _answers_leaving_ : Tick → Outcome → List ℤ → Step
+  _answers_leaving_and_ : Tick → Outcome → List ℤ → List ℤ → Step
   keep : Step
   fits spoils : Change → Step
 
 abbrev pub Scenario : Type 0
 Scenario = List Step
 
--- Accepted with one number; and what look returns: rate, balance, waiting count and lost grains.
+-- Accepted with one number; the two counts of a tick; and what look returns: rate, balance, waiting count and lost grains.
 abbrev pub number : ℕ → Outcome
 number n = accepted (pos n ∷ [])
+
+abbrev pub counts : ℕ → ℕ → Outcome
+counts first second = accepted (pos first ∷ pos second ∷ [])
 
 abbrev pub seen : ℕ → ℤ → ℕ → ℕ → Outcome
 seen rate balance waiting lost = accepted (pos rate ∷ balance ∷ pos waiting ∷ pos lost ∷ [])
@@ -84,23 +93,34 @@ seen rate balance waiting lost = accepted (pos rate ∷ balance ∷ pos waiting 
 abbrev pub greatestNumber : ℕ
 greatestNumber = 9223372036854775807
 
--- The list that a tick is lent: sevens.
-unfoldable pub lentTo : Tick → List ℤ
-lentTo (tick n) = replicate n (pos 7)
+-- The lists that a tick is lent: sevens, and eights.
+unfoldable pub firstLent : Tick → List ℤ
+firstLent (tickBoth n m) = replicate n (pos 7)
+
+unfoldable pub secondLent : Tick → List ℤ
+secondLent (tickBoth n m) = replicate m (pos 8)
 
 -- The numbers of dispatches in the list.
 unfoldable pub entries : List Dispatch → List ℤ
 entries [] = []
 entries (dispatch client tag size supplier ∷ dispatches) = pos client ∷ pos tag ∷ pos size ∷ pos supplier ∷ entries dispatches
 
--- A tick that must list dispatches: it answers how many, and the list beyond them stays untouched. A tick that must be
--- refused with a number: it leaves the list as it was. A balance put into the table.
-infix 70 _lists_ _refuses_
+-- A list with dispatches at its start; beyond them it is as it came.
+abbrev pub begins : List Dispatch → List ℤ → List ℤ
+begins dispatches list = entries dispatches ++ drop (length (entries dispatches)) list
+
+-- A tick that must list dispatches on both lists: it answers how many on each, and beyond them the lists stay untouched; or on the
+-- first alone. A tick that must be refused with a number: it leaves the lists as they were. A balance put into the table.
+infix 70 _lists_and_ _lists_ _refuses_
+abbrev pub _lists_and_ : Tick → List Dispatch → List Dispatch → Step
+c lists first and second =
+    c answers counts (length first) (length second) leaving begins first (firstLent c) and begins second (secondLent c)
+
 abbrev pub _lists_ : Tick → List Dispatch → Step
-c lists dispatches = c answers number (length dispatches) leaving (entries dispatches ++ drop (length (entries dispatches)) (lentTo c))
+c lists dispatches = c lists dispatches and []
 
 abbrev pub _refuses_ : Tick → ℕ → Step
-c refuses refusal = c answers refused refusal leaving lentTo c
+c refuses refusal = c answers refused refusal leaving firstLent c and secondLent c
 
 abbrev pub setBalance : (node : ℕ) (balance : ℤ) → Step
 setBalance node balance = fits (atPlace node balanceAt balance)
@@ -113,7 +133,7 @@ times (suc n) step steps = step ∷ times n step steps
 -- What a call answers, and the table after it.
 unfoldable pub answer : Call → (kept t : List ℤ) → Outcome
 answer (openℤ rate depth) kept t = openAnswer t rate depth
-answer (joinℤ node parent sort kind share depth) kept t = joinAnswer t node parent sort kind share depth
+answer (joinℤ node parent sort kind share depth port) kept t = joinAnswer t node parent sort kind share depth port
 answer (leaveℤ node) kept t = leaveAnswer t node
 answer (changeShareℤ node kind share) kept t = changeShareAnswer t node kind share
 answer (changeRateℤ rate) kept t = changeRateAnswer t rate
@@ -123,7 +143,7 @@ answer same kept t = sameAnswer kept t
 
 unfoldable pub called : Call → List ℤ → List ℤ
 called (openℤ rate depth) t = openTable t rate depth
-called (joinℤ node parent sort kind share depth) t = joinTable t node parent sort kind share depth
+called (joinℤ node parent sort kind share depth port) t = joinTable t node parent sort kind share depth port
 called (leaveℤ node) t = leaveTable t node
 called (changeShareℤ node kind share) t = changeShareTable t node kind share
 called (changeRateℤ rate) t = changeRateTable t rate
@@ -141,7 +161,10 @@ changed oneMore t = t ++ (pos 0 ∷ [])
 -- What a step says of the kept table and the table t.
 unfoldable pub Says : Step → (kept t : List ℤ) → Type 0
 Says (c gives outcome) kept t = answer c kept t ≡ outcome
-Says (c answers outcome leaving list) kept t = (tickAnswer t (lentTo c) ≡ outcome) × (tickList t (lentTo c) ≡ list)
+Says (c answers outcome leaving first and second) kept t =
+    (tickAnswer t (firstLent c) (secondLent c) ≡ outcome)
+    × (tickFirst t (firstLent c) (secondLent c) ≡ first)
+    × (tickSecond t (firstLent c) (secondLent c) ≡ second)
 Says keep kept t = Unit {0}
 Says (fits change) kept t = inOrder (changed change t) ≡ true
 Says (spoils change) kept t = inOrder (changed change t) ≡ false
@@ -149,14 +172,14 @@ Says (spoils change) kept t = inOrder (changed change t) ≡ false
 -- The table after a step, and the kept one.
 unfoldable pub after : Step → List ℤ → List ℤ
 after (c gives outcome) t = called c t
-after (c answers outcome leaving list) t = tickTable t (lentTo c)
+after (c answers outcome leaving first and second) t = tickTable t (firstLent c) (secondLent c)
 after keep t = t
 after (fits change) t = changed change t
 after (spoils change) t = changed change t
 
 unfoldable pub keptAfter : Step → (kept t : List ℤ) → List ℤ
 keptAfter (c gives outcome) kept t = kept
-keptAfter (c answers outcome leaving list) kept t = kept
+keptAfter (c answers outcome leaving first and second) kept t = kept
 keptAfter keep kept t = t
 keptAfter (fits change) kept t = kept
 keptAfter (spoils change) kept t = kept

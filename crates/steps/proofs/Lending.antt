@@ -6,17 +6,19 @@ use mathlib.Core.List.{List, []}
 use native.Mathlib.Omega.{arith}
 use lib.IntN.{ℤ}
 use Rattle.table.specs.Limits.{nodes}
-use Rattle.table.specs.Places.{waiting}
+use Rattle.table.specs.Places.{port, waiting}
 use Rattle.table.specs.Tree.{treeOf}
-use Rattle.table.specs.Tick.{nobody, State, dispatched, supplier, supplied, next, lent, allWaiting}
+use Rattle.table.specs.Tick.{nobody, State, dispatched, supplier, supplied, next, lent, allWaiting, portWaiting}
 use Rattle.table.proofs.Facts.{InOrder}
 use Rattle.table.proofs.Choice.{has-supplier, next-found}
+use Rattle.ticklaws.proofs.Frame.{frame-port}
+use Rattle.ticklaws.proofs.Ports.{port-falls}
 use Rattle.ticklaws.proofs.Cut.{cut-reached, cut-under}
 use Rattle.ticklaws.proofs.Dispatch.{Dispatch}
 use Rattle.ticklaws.proofs.Lent.{Settled, lent-again, lent-done, supplier-at, lent-dispatch, lent-settled, waiting-falls}
 use Rattle.balances.specs.Within.{Within}
 use Rattle.suppliers.proofs.Answer.{Goes}
-use Rattle.dispatch.specs.Entries.{tableAfter}
+use Rattle.dispatch.specs.Entries.{tableAfter, gets}
 use Rattle.dispatch.proofs.Listed.{next-table}
 use Rattle.steps.specs.Steps.{Lending, was-cut, lent-one, lending}
 use Rattle.steps.proofs.Within.{settled-way, within}
@@ -62,6 +64,15 @@ lent-falls u s k hk e =
     let w = lending-level s in
     waiting-falls (treeOf (w .from)) u (tableAfter u k (supplier u k)) k (supplier u k) hk (turn u w k hk e)
 
+lent-ports : (u : List ℤ) → Lending u → (k : ℕ) → k < nodes → supplied u k ≡ true → (j : ℕ) → port (tableAfter u k (supplier u k)) j ≡ port u j
+lent-ports u s k hk e = frame-port u (tableAfter u k (supplier u k)) (turn u (lending-level s) k hk e .frame)
+
+lent-fewer : (u : List ℤ) → Lending u → (k : ℕ) → k < nodes → supplied u k ≡ true → (p : ℕ) → portWaiting (tableAfter u k (supplier u k)) p + gets p (port u k) ≡ portWaiting u p
+unfolding gets
+lent-fewer u s k hk e =
+    let w = lending-level s in
+    port-falls (treeOf (w .from)) u (tableAfter u k (supplier u k)) k (supplier u k) hk (turn u w k hk e)
+
 -- The client that goes next, and its supplier.
 pub record Found (t : List ℤ) (k s : ℕ) : Type 0 where
   pub low : k < nodes
@@ -104,6 +115,9 @@ lending-turn t on k s n =
     record {
       on = rw (n .node) (lent-one t k on (f .low) (f .has));
       falls = falls t on k s n;
+      small = lending-within t on .port k (f .low);
+      ports = rw (n .node) (lent-ports t on k (f .low) (f .has));
+      fewer = rw (n .node) (lent-fewer t on k (f .low) (f .has));
       again = λ st same. lending-again st (subst Lending same on) k s (subst (λ (u : List ℤ). Goes u k s) same n);
     }
 

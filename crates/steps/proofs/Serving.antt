@@ -1,11 +1,10 @@
 -- Step 2. Every table that it passes through is within the limits, and each dispatch takes one request out.
-use Prim.Native.Nat.{ℕ, zero, suc, _+_, _*_, _^_, _≤_, _<_}
+use Prim.Native.Nat.{ℕ, zero, suc, _+_, _^_, _≤_, _<_}
 use mathlib.Core.Path.{_≡_, refl, sym, ap, subst, _∙_}
 use mathlib.Core.Bool.{true, false, _&&_}
 use mathlib.Core.List.{List, []}
 use native.Mathlib.Omega.{arith}
 use borrow.Author.Tests.{lt-ltb, le-ltb}
-use lib.ListN.{length}
 use lib.IntN.{ℤ, pos}
 use Rattle.numbers.specs.Whole.{plus, minus}
 use Rattle.numbers.specs.Below.{forBelow}
@@ -13,20 +12,22 @@ use Rattle.numbers.proofs.Tests.{by-test}
 use Rattle.numbers.proofs.Every.{head-fails, every-two}
 use Rattle.numbers.proofs.Parts.{zarith, add-parts, one-is-zero, plus-pos}
 use Rattle.numbers.proofs.Steps.{for-keeps}
-use Rattle.table.specs.Limits.{nodes, waitingAt, entryLength}
-use Rattle.table.specs.Places.{place, rate, balance, waiting, size}
+use Rattle.table.specs.Limits.{nodes, waitingAt}
+use Rattle.table.specs.Places.{place, rate, balance, waiting, port, size}
 use Rattle.table.specs.Tree.{treeOf, there}
-use Rattle.table.specs.Tick.{State, grains, enough, grown, dispatched, ready, served, allWaiting}
+use Rattle.table.specs.Tick.{State, grains, enough, grown, dispatched, ready, served, allWaiting, portWaiting}
 use Rattle.table.proofs.Facts.{InOrder, facts}
 use Rattle.treelaws.proofs.Floors.{grounds, under-of}
 use Rattle.ticklaws.proofs.Grown.{grown-swept, grown-reached}
-use Rattle.ticklaws.proofs.Dispatch.{Dispatch, dispatch, dispatch-reached, dispatch-falls, dispatch-entry}
+use Rattle.ticklaws.proofs.Dispatch.{Dispatch, dispatch, dispatch-reached, dispatch-falls}
 use Rattle.ticklaws.proofs.Served.{served-again, served-done, served-keeps, ready-facts, client-at, client-room}
 use Rattle.ticklaws.proofs.Lent.{waiting-falls}
+use Rattle.ticklaws.proofs.Frame.{frame-port}
+use Rattle.ticklaws.proofs.Ports.{port-falls}
 use Rattle.balances.specs.Within.{Within}
-use Rattle.dispatch.specs.Entries.{tableAfter}
+use Rattle.dispatch.specs.Entries.{tableAfter, gets}
 use Rattle.dispatch.proofs.Listed.{next-table}
-use Rattle.steps.specs.Steps.{Serving, grew, served-one, Shows, serving}
+use Rattle.steps.specs.Steps.{Serving, grew, served-one, serving}
 use Rattle.treelaws.proofs.Rounding.{rate-small}
 use Rattle.steps.proofs.Within.{Way, depth-small, within}
 use Rattle.steps.proofs.Shows.{Turn}
@@ -96,6 +97,13 @@ module _ (u : List ℤ) (s : Serving u) (k : ℕ) (hk : k < nodes) (e : ready u 
   pub served-falls : allWaiting (tableAfter u k k) + 1 ≡ allWaiting u
   served-falls = waiting-falls (treeOf (serving-way s .from)) u (tableAfter u k k) k k hk (turn u (serving-way s) k hk e)
 
+  served-ports : (j : ℕ) → port (tableAfter u k k) j ≡ port u j
+  served-ports = frame-port u (tableAfter u k k) (turn u (serving-way s) k hk e .frame)
+
+  served-fewer : (p : ℕ) → portWaiting (tableAfter u k k) p + gets p (port u k) ≡ portWaiting u p
+  unfolding gets
+  served-fewer = port-falls (treeOf (serving-way s .from)) u (tableAfter u k k) k k hk (turn u (serving-way s) k hk e)
+
 -- Serving a client goes on while it is ready, and then is done.
 serving-again : (k : ℕ) (st : State) → Serving (st .table) → k < nodes → ready (st .table) k ≡ true → serving k st ≡ serving k (dispatched st k k)
 unfolding serving
@@ -114,6 +122,9 @@ serving-turn k t s hk e =
     record {
       on = served-one t k s hk e;
       falls = served-falls t s k hk e;
+      small = serving-within t s .port k hk;
+      ports = served-ports t s k hk e;
+      fewer = served-fewer t s k hk e;
       again = λ st same. serving-again k st (subst Serving same s) hk (subst (λ (u : List ℤ). ready u k ≡ true) same e);
     }
 
@@ -121,33 +132,15 @@ pub serving-done : (k : ℕ) (t : List ℤ) → ready t k ≡ false → (st : St
 unfolding serving
 serving-done k t e st same = served-idle (waiting (st .table) k) k st (subst (λ (u : List ℤ). ready u k ≡ false) same e)
 
--- A state of step 2 in which entries written and requests still waiting, four numbers for each, make n in all.
-record Counted (n : ℕ) (st : State) : Type 0 where
-  at : Serving (st .table)
-  sum : length (st .entries) + entryLength * allWaiting (st .table) ≡ n
+-- The clients below m served.
+next-served : (k : ℕ) (st : State) → k < nodes → Serving (st .table) → ready (st .table) k ≡ true → Serving (dispatched st k k .table)
+next-served k st hk on e = subst Serving (next-table st k k) (served-one (st .table) k on hk e)
 
-counted-next : (n k : ℕ) (st : State) → k < nodes → Counted n st → ready (st .table) k ≡ true → Counted n (dispatched st k k)
-counted-next n k st hk c e =
-    let same = next-table st k k in
-    record {
-      at = subst Serving same (served-one (st .table) k (c .at) hk e);
-      sum = omega (arith, c .sum, dispatch-entry st k k, served-falls (st .table) (c .at) k hk e, ap allWaiting same);
-    }
-
-counted-served : (n m : ℕ) (st : State) → m ≤ nodes → Counted n st → Counted n (forBelow m serving st)
+pub passed : (t : List ℤ) → Serving t → (m : ℕ) → m ≤ nodes → (u : List ℤ) → u ≡ forBelow m serving (record { table = t; entries = [] }) .table → Serving u
 unfolding serving
-counted-served n m st hm =
-    for-keeps (Counted n) m serving
-    (λ k s hk c. served-keeps (Counted n) k (λ v. counted-next n k v (omega arith)) (waiting (s .table) k) s c)
-    st
-
--- The table u and the list, with n entries, after the clients below m were served.
-pub record Passed (t u : List ℤ) (n : ℕ) : Type 0 where
-  pub on : Serving u
-  pub sum : entryLength * n + entryLength * allWaiting u ≡ entryLength * allWaiting t
-
-pub passed : (t l : List ℤ) → Serving t → (m : ℕ) → m ≤ nodes → (u v : List ℤ) (n : ℕ) → Shows l (forBelow m serving (record { table = t; entries = [] })) u v n → Passed t u n
-passed t l s m hm u v n h =
-    let st : State = record { table = t; entries = [] } in
-    let c = counted-served (entryLength * allWaiting t) m st hm (record { at = s; sum = omega arith }) in
-    record { on = rw (h .table) (c .at); sum = omega (arith, c .sum, h .count, ap allWaiting (h .table)) }
+passed t on m hm u e =
+    rw e
+    (for-keeps (λ (st : State). Serving (st .table)) m serving
+    (λ k st hk c. served-keeps (λ (v : State). Serving (v .table)) k (λ v. next-served k v (omega arith)) (waiting (st .table) k) st c)
+    (record { table = t; entries = [] })
+    on)

@@ -1,55 +1,82 @@
--- The four steps in a row: what the table and the list show after each, where the table came in order.
+-- The four steps in a row: what the table and the lists show after each, where the table came in order.
 use Prim.Native.Nat.{ℕ, _+_, _*_}
-use mathlib.Core.Path.{_≡_, ap, _∙_}
+use mathlib.Core.Path.{_≡_, ap, subst, fun-ext, _∙_}
 use mathlib.Core.Bool.{true}
 use mathlib.Core.List.{List, []}
 use native.Mathlib.Omega.{arith}
 use lib.IntN.{ℤ}
-use Rattle.table.specs.Limits.{nodes, entryLength}
+use Rattle.table.specs.Limits.{nodes, firstPort, secondPort}
+use Rattle.table.specs.Places.{port}
 use Rattle.table.specs.Order.{inOrder}
-use Rattle.table.specs.Tick.{grown, cut, servedAll, allWaiting, stepTwo, stepThree, ticked}
+use Rattle.table.specs.Tick.{grown, cut, servedAll, portWaiting, stepTwo, stepThree, ticked}
 use Rattle.table.proofs.Facts.{facts}
+use Rattle.ticklaws.proofs.Frame.{OnlyBalances}
 use Rattle.ticklaws.proofs.Grown.{grown-swept}
 use Rattle.ticklaws.proofs.Cut.{cut-swept}
-use Rattle.ticklaws.proofs.Entries.{only-waiting}
-use Rattle.steps.specs.Steps.{Serving, grew, Lending, was-cut, Shows, Follows, serving, lending}
+use Rattle.ticklaws.proofs.Ports.{only-ports, only-port-waiting}
+use Rattle.dispatch.specs.declared.Counts.{Counts}
+use Rattle.steps.specs.Steps.{Serving, grew, Lending, was-cut, Room, Lists, Shows, Follows, serving, lending}
 use Rattle.steps.proofs.Serving.{passed, serving-within}
 
--- After step 1.
+-- After step 1 of table t.
 pub record One (t u : List ℤ) : Type 0 where
   pub on : Serving u
-  pub sum : allWaiting u ≡ allWaiting t
+  pub ports : (k : ℕ) → port u k ≡ port t k
+  pub waiting : (p : ℕ) → portWaiting u p ≡ portWaiting t p
 
 pub one : (t u : List ℤ) → inOrder t ≡ true → u ≡ grown t → One t u
 one t u h e =
-    record { on = rw e (grew t h); sum = ap allWaiting e ∙ only-waiting t (grown t) (grown-swept t (facts t h .long) .only) }
-
--- After step 2, and after step 3: entries written and requests still waiting make up all that waited.
-pub record Two (t l u v : List ℤ) (n : ℕ) : Type 0 where
-  pub on : Serving u
-  pub sum : entryLength * n + entryLength * allWaiting u ≡ entryLength * allWaiting t
-  pub shows : Shows l (stepTwo t) u v n
-
-pub record Three (t l u v : List ℤ) (n : ℕ) : Type 0 where
-  pub on : Lending u
-  pub sum : entryLength * n + entryLength * allWaiting u ≡ entryLength * allWaiting t
-  pub shows : Shows l (stepThree t) u v n
-
-pub two : (t l g u v : List ℤ) (n : ℕ) → One t g → g ≡ grown t → Shows l (servedAll (record { table = g; entries = [] })) u v n → Two t l u v n
-unfolding stepTwo servedAll serving
-two t l g u v n o e h =
-    let p = passed g l (o .on) nodes (omega arith) u v n h in
-    record { on = p .on; sum = omega (arith, p .sum, o .sum); shows = rw (← e) h }
-
-pub three : (t l u v w : List ℤ) (n : ℕ) → Two t l u v n → w ≡ cut u → Three t l w v n
-unfolding stepThree
-three t l u v w n h e =
+    let only : OnlyBalances t (grown t) = grown-swept t (facts t h .long) .only in
     record {
-      on = rw e (was-cut u (h .on));
-      sum = omega (arith, h .sum, ap allWaiting e, only-waiting u (cut u) (cut-swept u (serving-within u (h .on) .long) .only));
-      shows = record { table = e ∙ ap cut (h .shows .table); list = h .shows .list; count = h .shows .count };
+      on = rw e (grew t h);
+      ports = rw e (only-ports t (grown t) only);
+      waiting = rw e (λ p. only-port-waiting t (grown t) p only);
     }
 
-pub four : (t l u v : List ℤ) (n : ℕ) (w m : List ℤ) (r : ℕ) → Three t l u v n → Follows lending u v n w m r → Shows l (ticked t) w m r
+-- After steps 2 and 3 of table t with the lists a and b: table u and lists v and w, with n entries.
+pub record Two (t a b u v w : List ℤ) (n : Counts) : Type 0 where
+  pub on : Serving u
+  pub shows : Shows (port t) a b (stepTwo t) u v w n
+
+pub record Three (t a b u v w : List ℤ) (n : Counts) : Type 0 where
+  pub on : Lending u
+  pub shows : Shows (port t) a b (stepThree t) u v w n
+
+pub two : (t a b g u v w : List ℤ) (n : Counts) → One t g → g ≡ grown t → Shows (port g) a b (servedAll (record { table = g; entries = [] })) u v w n → Two t a b u v w n
+unfolding stepTwo servedAll serving
+two t a b g u v w n o e h =
+    record {
+      on = passed g (o .on) nodes (omega arith) u (h .table);
+      shows = subst (λ (f : ℕ → ℕ). Shows f a b (stepTwo t) u v w n) (fun-ext (o .ports)) (rw (← e) h);
+    }
+
+pub three : (t a b u v w x : List ℤ) (n : Counts) → Two t a b u v w n → x ≡ cut u → Three t a b x v w n
+unfolding stepThree Room
+three t a b u v w x n h e =
+    record {
+      on = rw e (was-cut u (h .on));
+      shows =
+          record {
+            table = e ∙ ap cut (h .shows .table);
+            ports = λ k. ap (λ (y : List ℤ). port y k) e ∙ only-ports u (cut u) only k ∙ h .shows .ports k;
+            all = h .shows .all;
+            first = lists firstPort a v (n .first) (h .shows .first);
+            second = lists secondPort b w (n .second) (h .shows .second);
+          };
+    }
+  where
+    only : OnlyBalances u (cut u)
+    only = cut-swept u (serving-within u (h .on) .long) .only
+
+    -- What waits stays.
+    lists : (p : ℕ) (from l : List ℤ) (m : ℕ) → Lists (port t) p from (stepTwo t) l m → Lists (port t) p from (stepThree t) l m
+    lists p from l m s =
+        record {
+          list = s .list;
+          count = s .count;
+          room = omega (arith, s .room, only-port-waiting u (cut u) p only, ap (λ (y : List ℤ). portWaiting y p) (h .shows .table), ap (λ (y : List ℤ). portWaiting (cut y) p) (h .shows .table));
+        }
+
+pub four : (t a b u v w : List ℤ) (n : Counts) (x y z : List ℤ) (r : Counts) → Three t a b u v w n → Follows lending u v w n x y z r → Shows (port t) a b (ticked t) x y z r
 unfolding ticked lending
-four t l u v n w m r h f = f .shows l (stepThree t) (h .shows)
+four t a b u v w n x y z r h f = f .shows (port t) a b (stepThree t) (h .shows)

@@ -11,14 +11,15 @@ use Rattle.numbers.specs.Whole.{plus, minus, withinℤ}
 use Rattle.numbers.proofs.Tests.{by-test}
 use Rattle.numbers.proofs.Parts.{zarith, plus-pos, minus-pos}
 use Rattle.table.specs.Limits.{nodes, lastNode, parentAt, levelAt, depthAt, balanceAt, waitingAt, lastLevel, greatestDepth, mostWaiting}
-use Rattle.table.specs.Places.{place, rate, balance, waiting, size}
+use Rattle.table.specs.Places.{place, rate, balance, waiting, port, size}
 use Rattle.table.specs.Tree.{treeOf, there}
 use Rattle.table.specs.Order.{inOrder}
 use Rattle.table.proofs.Facts.{InOrder, facts}
+use Rattle.table.proofs.Ports.{ports-small}
 use Rattle.table.proofs.Cost.{cost-bounds, most-cost}
 use Rattle.treelaws.proofs.Floors.{floor-of-node, levels, grounds, under-of}
 use Rattle.treelaws.proofs.Rounding.{rate-small}
-use Rattle.ticklaws.proofs.Frame.{frame-rate}
+use Rattle.ticklaws.proofs.Frame.{frame-rate, frame-port}
 use Rattle.ticklaws.proofs.Queues.{queues-of}
 use Rattle.ticklaws.proofs.Reached.{Reached, reached-first, reached-long}
 use Rattle.ticklaws.proofs.Lent.{Settled}
@@ -78,6 +79,7 @@ within u w =
       credit = w .credit;
       debt = debt-small u w;
       waiting = λ k hk. omega (arith, zarith, w .reached .queues .few k hk);
+      port = λ k hk. omega (arith, frame-port (w .from) u (w .reached .frame) k, ports-small (w .from) f k);
       size = size-small u w;
     }
 

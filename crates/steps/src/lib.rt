@@ -3,25 +3,45 @@ ghost use mathlib.Core.Path.{_≡_};
 ghost use mathlib.Core.Bool.{true};
 ghost use mathlib.Core.List.{[]};
 ghost use Prim.Native.Nat.{_+_, _*_, _<_, _≤_};
+ghost use lib.Dec.{eqb};
 ghost use lib.ListN.{length};
-ghost use Rattle.table.specs.Limits.{nodes, entryLength};
+ghost use Rattle.table.specs.Limits.{tableLength, nodes, entryLength, firstPort, secondPort};
+ghost use Rattle.table.specs.Places.{port, waiting};
+ghost use Rattle.table.specs.Tree.{countIf};
 ghost use Rattle.table.specs.Order.{inOrder};
-ghost use Rattle.table.specs.Tick.{ready, servedAll, ticked, listed, allWaiting};
+ghost use Rattle.table.specs.Tick.{ready, servedAll, ticked, portEntries, listed, portWaiting};
 ghost use Rattle.balances.specs.Within.{Within};
-ghost use Rattle.steps.specs.Steps.{Serving, Lending, Shows, Follows, serving, lending};
+ghost use Rattle.steps.specs.Steps.{Serving, Lending, Room, Shows, Follows, serving, lending};
+use dispatch::Counts;
 use suppliers::Next;
 use table::Table;
 
-// All waiting requests.
-pub fn all_waiting(table: &[i64]) -> u64
-    requires { ⌜ inOrder (now table) ≡ true ⌝ }
-    ensures { λ r. ⌜ r ≡ allWaiting (now (table .entry)) ⌝ }
+// The requests that wait at node k where it is on port p, else 0.
+fn waiting_on(table: &[i64], p: u64, k: usize) -> u64
+    requires { ⌜ (length (now table) ≡ tableLength) × (k < nodes) ⌝ }
+    ensures { λ r. ⌜ r ≡ countIf (eqb (port (now (table .entry)) k) p) (waiting (now (table .entry))) k ⌝ }
 {
-    let mut sum: u64 = 0;
-    for k in 0..Table::NODES {
-        sum += Table::natural(table, k, Table::WAITING);
+    if Table::natural(table, k, Table::PORT) == p {
+        return Table::natural(table, k, Table::WAITING);
     }
-    sum
+    0
+}
+
+// The waiting requests of each port's clients.
+pub fn waiting_by_port(table: &[i64]) -> Counts
+    requires { ⌜ inOrder (now table) ≡ true ⌝ }
+    ensures { λ r. ⌜ (r .first ≡ portWaiting (now (table .entry)) firstPort) × (r .second ≡ portWaiting (now (table .entry)) secondPort) ⌝ }
+{
+    let mut first: u64 = 0;
+    let mut second: u64 = 0;
+    for k in 0..Table::NODES {
+        first += waiting_on(table, Table::FIRST_PORT, k);
+        second += waiting_on(table, Table::SECOND_PORT, k);
+    }
+    Counts {
+        first: first as usize,
+        second: second as usize,
+    }
 }
 
 // Whether a request waits at client k that its own balance is enough for.
@@ -37,57 +57,66 @@ fn ready(table: &[i64], k: usize) -> bool
 }
 
 // Step 2 for client k: while its oldest request is ready, it is dispatched with the client as supplier, as an entry behind the n
-// that the list has. Returns how many the list has then.
-fn serve(table: &mut [i64], list: &mut [i64], n: usize, k: usize) -> usize
-    requires { ⌜ Serving (now table) × (k < nodes) × (entryLength * n + entryLength * allWaiting (now table) ≤ length (now list)) ⌝ }
-    ensures { λ r. ⌜ Follows (serving k) (now (table .entry)) (now (list .entry)) n (now (table .exit)) (now (list .exit)) r ⌝ }
+// that the lists have. Returns how many the lists have then.
+fn serve(
+    table: &mut [i64],
+    first: &mut [i64],
+    second: &mut [i64],
+    n: Counts,
+    k: usize,
+) -> Counts
+    requires { ⌜ Serving (now table) × (k < nodes) × Room firstPort (now table) (now first) (n .first) × Room secondPort (now table) (now second) (n .second) ⌝ }
+    ensures { λ r. ⌜ Follows (serving k) (now (table .entry)) (now (first .entry)) (now (second .entry)) n (now (table .exit)) (now (first .exit)) (now (second .exit)) r ⌝ }
 {
     let mut written = n;
     while ready(table, k) {
-        dispatch::dispatch(table, list, written, k, k);
-        written += 1;
+        written = dispatch::dispatch(table, first, second, written, k, k);
     }
     written
 }
 
-// Step 2: clients in rising number, into a list that has no entries. Returns how many it has then.
-fn serve_all(table: &mut [i64], list: &mut [i64]) -> usize
-    requires { ⌜ Serving (now table) × (entryLength * allWaiting (now table) ≤ length (now list)) ⌝ }
-    ensures { λ r. ⌜ Shows (now (list .entry)) (servedAll (record { table = now (table .entry); entries = [] })) (now (table .exit)) (now (list .exit)) r ⌝ }
+// Step 2: clients in rising number, into lists that have no entries. Returns how many they have then.
+fn serve_all(table: &mut [i64], first: &mut [i64], second: &mut [i64]) -> Counts
+    requires { ⌜ Serving (now table) × Room firstPort (now table) (now first) 0 × Room secondPort (now table) (now second) 0 ⌝ }
+    ensures { λ r. ⌜ Shows (port (now (table .entry))) (now (first .entry)) (now (second .entry)) (servedAll (record { table = now (table .entry); entries = [] })) (now (table .exit)) (now (first .exit)) (now (second .exit)) r ⌝ }
 {
-    let mut written: usize = 0;
+    let mut written = Counts {
+        first: 0,
+        second: 0,
+    };
     for k in 0..Table::NODES {
-        written = serve(table, list, written, k);
+        written = serve(table, first, second, written, k);
     }
     written
 }
 
-// Step 4: again and again the request that goes next is dispatched from its supplier, as an entry behind the n that the list has,
-// until no request has one. Returns how many the list has then.
-fn lend(table: &mut [i64], list: &mut [i64], n: usize) -> usize
-    requires { ⌜ Lending (now table) × (entryLength * n + entryLength * allWaiting (now table) ≤ length (now list)) ⌝ }
-    ensures { λ r. ⌜ Follows lending (now (table .entry)) (now (list .entry)) n (now (table .exit)) (now (list .exit)) r ⌝ }
+// Step 4: again and again the request that goes next is dispatched from its supplier, as an entry behind the n that the lists have,
+// until no request has one. Returns how many the lists have then.
+fn lend(table: &mut [i64], first: &mut [i64], second: &mut [i64], n: Counts) -> Counts
+    requires { ⌜ Lending (now table) × Room firstPort (now table) (now first) (n .first) × Room secondPort (now table) (now second) (n .second) ⌝ }
+    ensures { λ r. ⌜ Follows lending (now (table .entry)) (now (first .entry)) (now (second .entry)) n (now (table .exit)) (now (first .exit)) (now (second .exit)) r ⌝ }
 {
     let mut written = n;
     loop {
         let Next::Client { client, supplier } = suppliers::next_client(table) else {
             break;
         };
-        dispatch::dispatch(table, list, written, client, supplier);
-        written += 1;
+        written = dispatch::dispatch(table, first, second, written, client, supplier);
     }
     written
 }
 
-// The four steps, on a table in order and a list that has room for all that wait. Returns how many requests were dispatched.
-pub fn run(table: &mut [i64], list: &mut [i64]) -> usize
-    requires { ⌜ (inOrder (now table) ≡ true) × (entryLength * allWaiting (now table) ≤ length (now list)) ⌝ }
+// The four steps, on a table in order and lists that have room for all that wait at their ports. Returns how many requests were
+// dispatched to each port.
+pub fn run(table: &mut [i64], first: &mut [i64], second: &mut [i64]) -> Counts
+    requires { ⌜ (inOrder (now table) ≡ true) × (entryLength * portWaiting (now table) firstPort ≤ length (now first)) × (entryLength * portWaiting (now table) secondPort ≤ length (now second)) ⌝ }
     ensures table { λ _. ⌜ now (table .exit) ≡ ticked (now (table .entry)) .table ⌝ }
-    ensures list { λ _. ⌜ now (list .exit) ≡ listed (ticked (now (table .entry)) .entries) (now (list .entry)) ⌝ }
-    ensures count { λ r. ⌜ entryLength * r ≡ length (ticked (now (table .entry)) .entries) ⌝ }
+    ensures first { λ _. ⌜ now (first .exit) ≡ listed (portEntries (now (table .entry)) firstPort) (now (first .entry)) ⌝ }
+    ensures second { λ _. ⌜ now (second .exit) ≡ listed (portEntries (now (table .entry)) secondPort) (now (second .entry)) ⌝ }
+    ensures counts { λ r. ⌜ (entryLength * r .first ≡ length (portEntries (now (table .entry)) firstPort)) × (entryLength * r .second ≡ length (portEntries (now (table .entry)) secondPort)) ⌝ }
 {
     balances::grow(table);
-    let n = serve_all(table, list);
+    let n = serve_all(table, first, second);
     balances::cut(table);
-    lend(table, list, n)
+    lend(table, first, second, n)
 }

@@ -19,11 +19,11 @@ unfolding balance
 opened-empty rate depth =
     opened-place rate depth balanceAt (omega arith) (omega arith) (omega arith) (omega arith) (omega arith)
 
-module _ (t : List ℤ) (k parent : ℕ) (sort kind share depth : ℤ) where
-  pub joined-balance : length t ≡ tableLength → k < nodes → (j : ℕ) → balance (joined t k parent sort kind share depth) j ≡ balance t j
+module _ (t : List ℤ) (k parent : ℕ) (sort kind share depth port : ℤ) where
+  pub joined-balance : length t ≡ tableLength → k < nodes → (j : ℕ) → balance (joined t k parent sort kind share depth port) j ≡ balance t j
   unfolding balance
-  joined-balance long node j = joined-rest t k parent sort kind share depth long node j balanceAt (omega arith) (omega arith)
+  joined-balance long node j = joined-rest t k parent sort kind share depth port long node j balanceAt (omega arith) (omega arith) (λ e. omega arith)
 
-  pub joined-empty : InOrder t → k < nodes → there (treeOf t) k ≡ false → balance (joined t k parent sort kind share depth) k ≡ pos 0
+  pub joined-empty : InOrder t → k < nodes → there (treeOf t) k ≡ false → balance (joined t k parent sort kind share depth port) k ≡ pos 0
   unfolding balance
   joined-empty order node unused = joined-balance (order .long) node k ∙ order .empty k node unused balanceAt (omega arith)

@@ -13,7 +13,7 @@ use Rattle.numbers.specs.Whole.{plus}
 use Rattle.numbers.proofs.Tests.{by-test, same-truth, cond-true, cond-false}
 use Rattle.numbers.proofs.Parts.{plus-pos}
 use Rattle.numbers.proofs.Steps.{for-reaches}
-use Rattle.table.specs.Limits.{tableLength, headerLength, recordLength, nodes, sortAt, parentAt, levelAt, kindAt, shareAt, depthAt, rateAt, waitingAt, tagAt, sizeAt, arrivalAt, wholeShare, mostWaiting}
+use Rattle.table.specs.Limits.{tableLength, headerLength, recordLength, nodes, sortAt, parentAt, levelAt, kindAt, shareAt, depthAt, rateAt, waitingAt, portAt, tagAt, sizeAt, arrivalAt, wholeShare, mostWaiting}
 use Rattle.table.specs.Places.{queuePlace, place, put, header, count, waiting}
 use Rattle.table.specs.Tree.{Tree, treeOf}
 use Rattle.table.specs.Calls.{blank, opened, joined, cleared, reshared, requested}
@@ -90,28 +90,29 @@ edited-node t u k f e =
 pub edited-others : (t u : List ℤ) (k : ℕ) (f : ℕ → ℤ) → Edited t u k f → (j : ℕ) → (j ≡ k → ⊥) → SameNode (treeOf u) (treeOf t) j
 edited-others t u k f e j ne = same-node t u j (λ p hp. e .others j p ne (omega arith))
 
--- Join writes places 0 to 5.
-abbrev pub joinedPlace : List ℤ → ℕ → ℕ → ℤ → ℤ → ℤ → ℤ → ℕ → ℤ
-joinedPlace t k parent sort kind share depth q =
-    cond (eqb q depthAt) depth (cond (eqb q shareAt) share (cond (eqb q kindAt) kind (cond (eqb q levelAt) (pos (suc (treeOf t .level parent))) (cond (eqb q parentAt) (pos parent) (cond (eqb q sortAt) sort (place t k q))))))
+-- Join writes places 0 to 5 and the port.
+abbrev pub joinedPlace : List ℤ → ℕ → ℕ → ℤ → ℤ → ℤ → ℤ → ℤ → ℕ → ℤ
+joinedPlace t k parent sort kind share depth port q =
+    cond (eqb q portAt) port (cond (eqb q depthAt) depth (cond (eqb q shareAt) share (cond (eqb q kindAt) kind (cond (eqb q levelAt) (pos (suc (treeOf t .level parent))) (cond (eqb q parentAt) (pos parent) (cond (eqb q sortAt) sort (place t k q)))))))
 
-module _ (t : List ℤ) (k parent : ℕ) (sort kind share depth : ℤ) (n : length t ≡ tableLength) (hk : k < nodes) where
-  pub joined-edit : Edited t (joined t k parent sort kind share depth) k (joinedPlace t k parent sort kind share depth)
+module _ (t : List ℤ) (k parent : ℕ) (sort kind share depth port : ℤ) (n : length t ≡ tableLength) (hk : k < nodes) where
+  pub joined-edit : Edited t (joined t k parent sort kind share depth port) k (joinedPlace t k parent sort kind share depth port)
   unfolding joined
   joined-edit =
-      edit _ _ _ _ _ _ hk (omega arith) (edit _ _ _ _ _ _ hk (omega arith) (edit _ _ _ _ _ _ hk (omega arith) (edit _ _ _ _ _ _ hk (omega arith) (edit _ _ _ _ _ _ hk (omega arith) (edit _ _ _ _ _ _ hk (omega arith) (unedited t k n))))))
+      edit _ _ _ _ _ _ hk (omega arith) (edit _ _ _ _ _ _ hk (omega arith) (edit _ _ _ _ _ _ hk (omega arith) (edit _ _ _ _ _ _ hk (omega arith) (edit _ _ _ _ _ _ hk (omega arith) (edit _ _ _ _ _ _ hk (omega arith) (edit _ _ _ _ _ _ hk (omega arith) (unedited t k n)))))))
 
-  pub joined-node : NodeIs (treeOf (joined t k parent sort kind share depth)) k (plus sort) parent (suc (treeOf t .level parent)) (plus kind) (plus share) (plus depth)
+  pub joined-node : NodeIs (treeOf (joined t k parent sort kind share depth port)) k (plus sort) parent (suc (treeOf t .level parent)) (plus kind) (plus share) (plus depth)
   unfolding plus
   joined-node = edited-node _ _ _ _ joined-edit
 
-  pub joined-others : (j : ℕ) → (j ≡ k → ⊥) → SameNode (treeOf (joined t k parent sort kind share depth)) (treeOf t) j
+  pub joined-others : (j : ℕ) → (j ≡ k → ⊥) → SameNode (treeOf (joined t k parent sort kind share depth port)) (treeOf t) j
   joined-others = edited-others _ _ _ _ joined-edit
 
-  -- Every place from 6 on stays.
-  pub joined-rest : (j p : ℕ) → p < recordLength → rateAt ≤ p → place (joined t k parent sort kind share depth) j p ≡ place t j p
+  -- Every place from 6 on but the port stays.
+  pub joined-rest : (j p : ℕ) → p < recordLength → rateAt ≤ p → (p ≡ portAt → ⊥) → place (joined t k parent sort kind share depth port) j p ≡ place t j p
   unfolding joined
-  joined-rest j p hp h = past _ _ depthAt h ∙ past _ _ shareAt (omega arith) ∙ past _ _ kindAt (omega arith) ∙ past _ _ levelAt (omega arith) ∙ past _ _ parentAt (omega arith) ∙ past _ _ sortAt (omega arith)
+  joined-rest j p hp h other =
+      place-put-place _ k portAt _ j p (omega arith) hp other ∙ past _ _ depthAt h ∙ past _ _ shareAt (omega arith) ∙ past _ _ kindAt (omega arith) ∙ past _ _ levelAt (omega arith) ∙ past _ _ parentAt (omega arith) ∙ past _ _ sortAt (omega arith)
     where
       past : (u : List ℤ) (v : ℤ) (q : ℕ) → q < p → place (put u k q v) j p ≡ place u j p
       past u v q l = place-put-place u k q v j p (omega arith) hp (λ e. omega arith)

@@ -17,7 +17,7 @@ use Rattle.numbers.proofs.Tests.{by-test, or-cases, or-true-left, or-true-right
 use Rattle.numbers.proofs.Every.{head-holds, rest-hold, none-left, holds-with}
 use Rattle.numbers.proofs.Parts.{same-eq, eq-same, zarith}
 use Rattle.numbers.proofs.All.{all-at, all-intro}
-use Rattle.table.specs.Limits.{tableLength, headerLength, recordLength, nodes, lastNode, sortAt, parentAt, levelAt, kindAt, shareAt, depthAt, rateAt, waitingAt, spareAt, spareLength, queueAt, queueLength, requestLength, sizeAt, arrivalAt, class, client, fixed, stated, root, lastClassLevel, lastLevel, wholeShare, greatestDepth, greatestRate, shareLimit, greatestCount, mostWaiting}
+use Rattle.table.specs.Limits.{tableLength, headerLength, recordLength, nodes, lastNode, sortAt, parentAt, levelAt, kindAt, shareAt, depthAt, rateAt, waitingAt, portAt, spareAt, spareLength, queueAt, queueLength, requestLength, sizeAt, arrivalAt, class, client, fixed, stated, root, lastClassLevel, lastLevel, wholeShare, greatestDepth, greatestRate, shareLimit, portLimit, greatestCount, mostWaiting}
 use Rattle.table.specs.Places.{queuePlace, place, header, count, rate, balance, waiting, depthGrains, arrival}
 use Rattle.table.specs.Tree.{Tree, treeOf, there, isClass, isClient, isStated, sumUnder, testIf, eachNode, eachClass, eachClient}
 use Rattle.table.specs.Rates.{fixedSum, statedSum, rateIn}
@@ -33,6 +33,7 @@ pub record Limits (t : List ℤ) (k : ℕ) : Type 0 where
   pub share : withinℤ 1 (shareLimit (plus (place t k kindAt))) (place t k shareAt) ≡ true
   pub depth : withinℤ 1 greatestDepth (place t k depthAt) ≡ true
   pub waiting : withinℤ 0 mostWaiting (place t k waitingAt) ≡ true
+  pub port : withinℤ 0 (portLimit (plus (place t k sortAt))) (place t k portAt) ≡ true
 
 -- The places of node k that hold nothing are zero.
 pub record Spare (t : List ℤ) (k : ℕ) : Type 0 where
@@ -134,6 +135,7 @@ limits-of t k h =
     let h3 = rest-hold _ _ h2 in
     let h4 = rest-hold _ _ h3 in
     let h5 = rest-hold _ _ h4 in
+    let h6 = rest-hold _ _ h5 in
     record {
       sort = head-holds _ _ h;
       parent = head-holds _ _ h1;
@@ -141,13 +143,14 @@ limits-of t k h =
       kind = head-holds _ _ h3;
       share = head-holds _ _ h4;
       depth = head-holds _ _ h5;
-      waiting = head-holds _ _ (rest-hold _ _ h5);
+      waiting = head-holds _ _ h6;
+      port = head-holds _ _ (rest-hold _ _ h6);
     }
 
 of-limits : (t : List ℤ) (k : ℕ) → Limits t k → limitsKept t k ≡ true
 unfolding limitsKept
 of-limits t k f =
-    holds-with _ _ (f .sort) (holds-with _ _ (f .parent) (holds-with _ _ (f .level) (holds-with _ _ (f .kind) (holds-with _ _ (f .share) (holds-with _ _ (f .depth) (holds-with _ _ (f .waiting) none-left))))))
+    holds-with _ _ (f .sort) (holds-with _ _ (f .parent) (holds-with _ _ (f .level) (holds-with _ _ (f .kind) (holds-with _ _ (f .share) (holds-with _ _ (f .depth) (holds-with _ _ (f .waiting) (holds-with _ _ (f .port) none-left)))))))
 
 spare-of : (t : List ℤ) (k : ℕ) → spareInOrder t k ≡ true → Spare t k
 unfolding spareInOrder

@@ -12,3 +12,4 @@ pub mod Look
 pub mod Cost
 pub mod Buckets
 pub mod Choice
+pub mod Ports

@@ -14,7 +14,7 @@ use Rattle.numbers.specs.Tests.{every}
 use Rattle.numbers.proofs.Tests.{by-test, true-false, or-false-left, or-false-right}
 use Rattle.numbers.proofs.Every.{head-holds, rest-hold, holds-with, none-left}
 use Rattle.numbers.proofs.Parts.{zarith, one-is-zero, within-parts}
-use Rattle.table.specs.Limits.{tableLength, nodes, lastNode, rateAt, class, client, fixed, stated, root, lastClassLevel, wholeShare, greatestDepth, greatestRate, shareLimit, greatestCount, mostWaiting}
+use Rattle.table.specs.Limits.{tableLength, nodes, lastNode, rateAt, class, client, fixed, stated, root, lastClassLevel, wholeShare, greatestDepth, greatestRate, shareLimit, portLimit, greatestCount, mostWaiting}
 use Rattle.table.specs.Places.{put, count, balance, waiting}
 use Rattle.table.specs.Tree.{treeOf, there, isClass, isClient, childless, sumUnder}
 use Rattle.table.specs.Rates.{fixedSum}
@@ -45,7 +45,7 @@ open-passed t rate depth h =
     record { rates = head-holds _ _ limits; depths = head-holds _ _ (rest-hold _ _ limits) }
 
 -- Join, of node k under class c.
-pub record JoinPassed (t : List ℤ) (k c : ℕ) (sort kind share depth : ℤ) : Type 0 where
+pub record JoinPassed (t : List ℤ) (k c : ℕ) (sort kind share depth port : ℤ) : Type 0 where
   pub order : inOrder t ≡ true
   pub node : k < nodes
   pub below : k ≡ 0 → ⊥
@@ -54,17 +54,18 @@ pub record JoinPassed (t : List ℤ) (k c : ℕ) (sort kind share depth : ℤ) :
   pub kinds : withinℤ fixed stated kind ≡ true
   pub within : withinℤ 1 (shareLimit (plus kind)) share ≡ true
   pub deep : withinℤ 1 greatestDepth depth ≡ true
+  pub ports : withinℤ 0 (portLimit (plus sort)) port ≡ true
   pub unused : there (treeOf t) k ≡ false
   pub there : there (treeOf t) c ≡ true
   pub no-client : isClient (treeOf t) c ≡ false
   pub levels : plus sort ≡ class → treeOf t .level c ≡ lastClassLevel → ⊥
-  pub shares : fixedSum (treeOf (joined t k c sort kind share depth)) c ≤ wholeShare
-  pub depths : sumUnder (treeOf (joined t k c sort kind share depth)) c (treeOf (joined t k c sort kind share depth) .depth) ≤ treeOf (joined t k c sort kind share depth) .depth c
-  pub stated : Stated (joined t k c sort kind share depth)
+  pub shares : fixedSum (treeOf (joined t k c sort kind share depth port)) c ≤ wholeShare
+  pub depths : sumUnder (treeOf (joined t k c sort kind share depth port)) c (treeOf (joined t k c sort kind share depth port) .depth) ≤ treeOf (joined t k c sort kind share depth port) .depth c
+  pub stated : Stated (joined t k c sort kind share depth port)
 
-pub join-passed : (t : List ℤ) (node parent sort kind share depth : ℤ) → joinRefusal t node parent sort kind share depth ≡ 0 → JoinPassed t (plus node) (plus parent) sort kind share depth
+pub join-passed : (t : List ℤ) (node parent sort kind share depth port : ℤ) → joinRefusal t node parent sort kind share depth port ≡ 0 → JoinPassed t (plus node) (plus parent) sort kind share depth port
 unfolding joinRefusal sharesAbove depthsAbove statedWrong
-join-passed t node parent sort kind share depth h =
+join-passed t node parent sort kind share depth port h =
     let p1 = none-first 1 _ _ (omega arith) h in
     let p2 = none-first 2 _ _ (omega arith) (p1 .1) in
     let p3 = none-first 3 _ _ (omega arith) (p2 .1) in
@@ -79,6 +80,7 @@ join-passed t node parent sort kind share depth h =
     let l3 = rest-hold _ _ l2 in
     let l4 = rest-hold _ _ l3 in
     let l5 = rest-hold _ _ l4 in
+    let l6 = rest-hold _ _ l5 in
     record {
       order = not-false _ (p1 .0);
       node = omega (arith, zarith, head-holds _ _ l1);
@@ -87,7 +89,8 @@ join-passed t node parent sort kind share depth h =
       sorts = head-holds _ _ l3;
       kinds = head-holds _ _ l4;
       within = head-holds _ _ l5;
-      deep = head-holds _ _ (rest-hold _ _ l5);
+      deep = head-holds _ _ l6;
+      ports = head-holds _ _ (rest-hold _ _ l6);
       unused = p4 .0;
       there = not-false _ (p3 .0);
       no-client = p5 .0;

@@ -17,7 +17,7 @@ use Rattle.numbers.specs.Whole.{plus, minus, withinℤ}
 use Rattle.numbers.specs.Tests.{every}
 use Rattle.numbers.proofs.Parts.{zarith, one-is-zero, pos-plus, pos-of-within}
 use Rattle.numbers.proofs.Tests.{by-test, cond-true, cond-false}
-use Rattle.table.specs.Limits.{shareLimit}
+use Rattle.table.specs.Limits.{shareLimit, portLimit}
 use Rattle.table.specs.Refusals.{Cause, cause, first, accepted, refused, outcome, numberTold, kept}
 
 pub first-here : (n : ℕ) (b : Bool) (cs : List Cause) → b ≡ true → first (cause n b ∷ cs) ≡ n
@@ -112,21 +112,28 @@ pub data Tested : Bool → List Bool → Bool → Type 0 where
   within : (low high : ℕ) (z : ℤ) {a b r : Bool} {bs : List Bool} → b ≡ withinℤ low high (toZ w64 (ofZ w64 z)) → SFits w64 z → Tested (a && b) bs r → Tested a (withinℤ low high z ∷ bs) r
   least : (low : ℕ) (z : ℤ) {a b r : Bool} {bs : List Bool} → b ≡ leZ (pos low) (toZ w64 (ofZ w64 z)) → SFits w64 z → Tested (a && b) bs r → Tested a (leZ (pos low) z ∷ bs) r
   by-kind : (low : ℕ) (kind z : ℤ) {a b r : Bool} {bs : List Bool} {n most : ℕ} → n ≡ plus (toZ w64 (ofZ w64 kind)) → SFits w64 kind → most ≡ shareLimit n → b ≡ withinℤ low most (toZ w64 (ofZ w64 z)) → SFits w64 z → Tested (a && b) bs r → Tested a (withinℤ low (shareLimit (plus kind)) z ∷ bs) r
+  by-sort : (low : ℕ) (sort z : ℤ) {a b r : Bool} {bs : List Bool} {n most : ℕ} → n ≡ plus (toZ w64 (ofZ w64 sort)) → SFits w64 sort → most ≡ portLimit n → b ≡ withinℤ low most (toZ w64 (ofZ w64 z)) → SFits w64 z → Tested (a && b) bs r → Tested a (withinℤ low (portLimit (plus sort)) z ∷ bs) r
   last : {a : Bool} → Tested a [] a
 
-pub ruleset limits = (within, least, by-kind, last)
+pub ruleset limits = (within, least, by-kind, by-sort, last)
 
 next-test : (a b c : Bool) (bs : List Bool) → b ≡ c → (a && b && every bs) ≡ (a && every (c ∷ bs))
 unfolding every
 next-test true b c bs e = ap (λ (x : Bool). x && every bs) e
 next-test false b c bs e = refl
 
+-- A limit that another argument sets.
+limited : (limit : ℕ → ℕ) (low : ℕ) (y z : ℤ) {n most : ℕ} {b : Bool} → n ≡ plus (toZ w64 (ofZ w64 y)) → SFits w64 y → most ≡ limit n → b ≡ withinℤ low most (toZ w64 (ofZ w64 z)) → SFits w64 z → b ≡ withinℤ low (limit (plus y)) z
+limited limit low y z e f l w g = w ∙ ap₂ (withinℤ low) (l ∙ ap limit (e ∙ ap plus (toZ-ofZ f))) (toZ-ofZ g)
+
 tested-after : (a : Bool) (bs : List Bool) (r : Bool) → Tested a bs r → r ≡ (a && every bs)
 unfolding every
 tested-after a bs r (within low high z {b = b} {bs = rest} e f t) = tested-after _ _ _ t ∙ next-test a b _ rest (e ∙ ap (withinℤ low high) (toZ-ofZ f))
 tested-after a bs r (least low z {b = b} {bs = rest} e f t) = tested-after _ _ _ t ∙ next-test a b _ rest (e ∙ ap (leZ (pos low)) (toZ-ofZ f))
 tested-after a bs r (by-kind low kind z {b = b} {bs = rest} e f l w g t) =
-    tested-after _ _ _ t ∙ next-test a b _ rest (w ∙ ap₂ (withinℤ low) (l ∙ ap shareLimit (e ∙ ap plus (toZ-ofZ f))) (toZ-ofZ g))
+    tested-after _ _ _ t ∙ next-test a b _ rest (limited shareLimit low kind z e f l w g)
+tested-after a bs r (by-sort low sort z {b = b} {bs = rest} e f l w g t) =
+    tested-after _ _ _ t ∙ next-test a b _ rest (limited portLimit low sort z e f l w g)
 tested-after a bs r last = sym (and-true a)
 
 pub tested : (bs : List Bool) (r : Bool) → Tested true bs r → r ≡ every bs

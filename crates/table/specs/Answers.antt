@@ -7,6 +7,8 @@ use Rattle.table.specs.declared.Refusal.{Refusal}
 use Rattle.table.specs.declared.Refusal.the-variants.{NotInOrder, OutsideLimits, NotThere, InUse, WrongNode, LevelTooLow, SharesAbove, DepthAbove, NotEmpty, InDebt, QueueFull, CountAtEnd, BufferShort, PlanWrong, PlanOutOfOrder, StatedWrong}
 use Rattle.table.specs.declared.Answer.{Answer}
 use Rattle.table.specs.declared.Answer.the-variants as answer
+use Rattle.table.specs.declared.Ticked.{Ticked}
+use Rattle.table.specs.declared.Ticked.the-variants as ticked
 use Rattle.table.specs.declared.Seen.{Seen}
 use Rattle.table.specs.declared.Seen.the-variants as seen
 use Rattle.table.specs.declared.Compared.{Compared}
@@ -35,6 +37,11 @@ numberOf StatedWrong = 16
 unfoldable pub told : Answer → Outcome
 told (answer.Accepted value) = accepted (value ∷ [])
 told (answer.Refused why) = refused (numberOf why)
+
+-- What tick tells: how many were dispatched to the first port and to the second.
+unfoldable pub toldTicked : Ticked → Outcome
+toldTicked (ticked.Dispatched first second) = accepted (first ∷ second ∷ [])
+toldTicked (ticked.Refused why) = refused (numberOf why)
 
 -- What look tells: rate, balance, waiting count and lost grains.
 unfoldable pub toldSeen : Seen → Outcome

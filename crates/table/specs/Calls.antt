@@ -1,5 +1,5 @@
 -- The calls but for tick: their refusals, the table after and the answer. Document 01, "Calls" and "What is turned back", and
--- document 02, (f).
+-- document 02, (f) and (g).
 -- Arguments are any whole numbers. A node number that is in its limits is read by its natural part.
 use Prim.Native.Nat.{ℕ, suc, _+_}
 use mathlib.Core.Bool.{Bool, not, cond, _||_}
@@ -11,7 +11,7 @@ use lib.Signed.{ltZ, leZ}
 use Rattle.numbers.specs.Whole.{plus, sameℤ, withinℤ}
 use Rattle.numbers.specs.Tests.{every}
 use Rattle.numbers.specs.Below.{allBelow, forBelow}
-use Rattle.table.specs.Limits.{tableLength, recordLength, nodes, lastNode, sortAt, parentAt, levelAt, kindAt, shareAt, depthAt, rateAt, balanceAt, waitingAt, tagAt, sizeAt, arrivalAt, class, client, fixed, stated, root, lastClassLevel, wholeShare, greatestDepth, greatestRate, shareLimit, greatestCount, mostWaiting}
+use Rattle.table.specs.Limits.{tableLength, recordLength, nodes, lastNode, sortAt, parentAt, levelAt, kindAt, shareAt, depthAt, rateAt, balanceAt, waitingAt, portAt, tagAt, sizeAt, arrivalAt, class, client, fixed, stated, root, lastClassLevel, wholeShare, greatestDepth, greatestRate, shareLimit, portLimit, greatestCount, mostWaiting}
 use Rattle.table.specs.Places.{place, put, header, putHeader, count, rate, balance, waiting, queuePlace}
 use Rattle.table.specs.Tree.{treeOf, there, isClass, isClient, childless, sumUnder}
 use Rattle.table.specs.Rates.{fixedSum, renewed}
@@ -56,13 +56,13 @@ openTable t rate depth = kept (openRefusal t rate depth) (opened rate depth) t
 unfoldable pub openAnswer : List ℤ → ℤ → ℤ → Outcome
 openAnswer t rate depth = outcome (openRefusal t rate depth) done
 
--- Join (node, parent, sort, kind, share, depth): the node's record, with balance 0. Its level is one below its parent's.
-unfoldable pub joined : List ℤ → ℕ → ℕ → ℤ → ℤ → ℤ → ℤ → List ℤ
-joined t k parent sort kind share depth =
-    put (put (put (put (put (put t k sortAt sort) k parentAt (pos parent)) k levelAt (pos (suc (treeOf t .level parent)))) k kindAt kind) k shareAt share) k depthAt depth
+-- Join (node, parent, sort, kind, share, depth, port): the node's record, with balance 0. Its level is one below its parent's.
+unfoldable pub joined : List ℤ → ℕ → ℕ → ℤ → ℤ → ℤ → ℤ → ℤ → List ℤ
+joined t k parent sort kind share depth port =
+    put (put (put (put (put (put (put t k sortAt sort) k parentAt (pos parent)) k levelAt (pos (suc (treeOf t .level parent)))) k kindAt kind) k shareAt share) k depthAt depth) k portAt port
 
-unfoldable pub joinRefusal : List ℤ → ℤ → ℤ → ℤ → ℤ → ℤ → ℤ → ℕ
-joinRefusal t node parent sort kind share depth =
+unfoldable pub joinRefusal : List ℤ → ℤ → ℤ → ℤ → ℤ → ℤ → ℤ → ℤ → ℕ
+joinRefusal t node parent sort kind share depth port =
     first
     (cause 1 (not (inOrder t))
     ∷ cause 2
@@ -74,24 +74,25 @@ joinRefusal t node parent sort kind share depth =
     ∷ withinℤ fixed stated kind
     ∷ withinℤ 1 (shareLimit (plus kind)) share
     ∷ withinℤ 1 greatestDepth depth
+    ∷ withinℤ 0 (portLimit (plus sort)) port
     ∷ [])))
     ∷ cause 3 (not (there (treeOf t) (plus parent)))
     ∷ cause 4 (there (treeOf t) (plus node))
     ∷ cause 5 (isClient (treeOf t) (plus parent))
     ∷ cause 6 (every (eqb (plus sort) class ∷ eqb (treeOf t .level (plus parent)) lastClassLevel ∷ []))
-    ∷ cause 7 (sharesAbove (joined t (plus node) (plus parent) sort kind share depth) (plus parent))
-    ∷ cause 8 (depthsAbove (joined t (plus node) (plus parent) sort kind share depth) (plus parent))
-    ∷ cause 16 (statedWrong (joined t (plus node) (plus parent) sort kind share depth))
+    ∷ cause 7 (sharesAbove (joined t (plus node) (plus parent) sort kind share depth port) (plus parent))
+    ∷ cause 8 (depthsAbove (joined t (plus node) (plus parent) sort kind share depth port) (plus parent))
+    ∷ cause 16 (statedWrong (joined t (plus node) (plus parent) sort kind share depth port))
     ∷ [])
 
-unfoldable pub joinTable : List ℤ → ℤ → ℤ → ℤ → ℤ → ℤ → ℤ → List ℤ
-joinTable t node parent sort kind share depth =
-    kept (joinRefusal t node parent sort kind share depth)
-    (renewed (joined t (plus node) (plus parent) sort kind share depth))
+unfoldable pub joinTable : List ℤ → ℤ → ℤ → ℤ → ℤ → ℤ → ℤ → ℤ → List ℤ
+joinTable t node parent sort kind share depth port =
+    kept (joinRefusal t node parent sort kind share depth port)
+    (renewed (joined t (plus node) (plus parent) sort kind share depth port))
     t
 
-unfoldable pub joinAnswer : List ℤ → ℤ → ℤ → ℤ → ℤ → ℤ → ℤ → Outcome
-joinAnswer t node parent sort kind share depth = outcome (joinRefusal t node parent sort kind share depth) done
+unfoldable pub joinAnswer : List ℤ → ℤ → ℤ → ℤ → ℤ → ℤ → ℤ → ℤ → Outcome
+joinAnswer t node parent sort kind share depth port = outcome (joinRefusal t node parent sort kind share depth port) done
 
 -- Leave (node) zeroes the node's record.
 unfoldable pub cleared : List ℤ → ℕ → List ℤ

@@ -1,5 +1,5 @@
--- The figures of document 01, and the third kind of document 02, (f): lengths, places, kinds and limits. No other file writes them
--- as figures.
+-- The figures of document 01, the third kind of document 02, (f), and the ports of (g): lengths, places, kinds and limits. No other
+-- file writes them as figures.
 use Prim.Native.Nat.{ℕ}
 use mathlib.Core.Bool.{cond}
 use lib.Dec.{eqb}
@@ -49,12 +49,15 @@ balanceAt = 7
 abbrev pub waitingAt : ℕ
 waitingAt = 8
 
--- Places 9 to 15 are zero.
+abbrev pub portAt : ℕ
+portAt = 9
+
+-- Places 10 to 15 are zero.
 abbrev pub spareAt : ℕ
-spareAt = 9
+spareAt = 10
 
 abbrev pub spareLength : ℕ
-spareLength = 7
+spareLength = 6
 
 -- The waiting places: eight of tag, size and arrival number, oldest first.
 abbrev pub queueAt : ℕ
@@ -98,6 +101,16 @@ stated = 2
 abbrev pub kinds : ℕ
 kinds = 3
 
+-- Ports, and how many there are.
+abbrev pub firstPort : ℕ
+firstPort = 0
+
+abbrev pub secondPort : ℕ
+secondPort = 1
+
+abbrev pub ports : ℕ
+ports = 2
+
 -- Limits.
 abbrev pub root : ℕ
 root = 0
@@ -123,6 +136,10 @@ greatestRate = 1000000000
 unfoldable pub shareLimit : ℕ → ℕ
 shareLimit kind = cond (eqb kind stated) greatestRate wholeShare
 
+-- The greatest port of a sort: of a class it is zero.
+unfoldable pub portLimit : ℕ → ℕ
+portLimit sort = cond (eqb sort client) secondPort 0
+
 abbrev pub greatestCount : ℕ
 greatestCount = 9000000000000000000
 
@@ -133,7 +150,7 @@ mostWaiting = 8
 abbrev pub grainScale : ℕ
 grainScale = 1000
 
--- Numbers of one entry of the dispatch list: client, tag, size, supplier.
+-- Numbers of one entry of a dispatch list: client, tag, size, supplier.
 abbrev pub entryLength : ℕ
 entryLength = 4
 

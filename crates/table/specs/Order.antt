@@ -1,4 +1,4 @@
--- When a table is in order, clause by clause. Document 01, "The table", and document 02, (f).
+-- When a table is in order, clause by clause. Document 01, "The table", and document 02, (f) and (g).
 use Prim.Native.Nat.{ℕ, suc, _+_, _*_, _-_}
 use mathlib.Core.Bool.{Bool, not, cond, _||_}
 use mathlib.Core.List.{List, [], _∷_}
@@ -9,7 +9,7 @@ use lib.Signed.{leZ}
 use Rattle.numbers.specs.Whole.{plus, sameℤ, withinℤ}
 use Rattle.numbers.specs.Tests.{every}
 use Rattle.numbers.specs.Below.{allBelow, sumℤBelow}
-use Rattle.table.specs.Limits.{tableLength, headerLength, recordLength, nodes, lastNode, sortAt, parentAt, levelAt, kindAt, shareAt, depthAt, rateAt, waitingAt, spareAt, spareLength, queueAt, queueLength, requestLength, sizeAt, arrivalAt, class, client, fixed, stated, root, lastClassLevel, lastLevel, wholeShare, greatestDepth, greatestRate, shareLimit, greatestCount, mostWaiting}
+use Rattle.table.specs.Limits.{tableLength, headerLength, recordLength, nodes, lastNode, sortAt, parentAt, levelAt, kindAt, shareAt, depthAt, rateAt, waitingAt, portAt, spareAt, spareLength, queueAt, queueLength, requestLength, sizeAt, arrivalAt, class, client, fixed, stated, root, lastClassLevel, lastLevel, wholeShare, greatestDepth, greatestRate, shareLimit, portLimit, greatestCount, mostWaiting}
 use Rattle.table.specs.Places.{place, header, count, rate, balance, waiting, depthGrains, queuePlace, arrival}
 use Rattle.table.specs.Tree.{Tree, treeOf, there, isClass, isStated, childOf, sumUnder, eachNode, eachClass, eachClient, testIf}
 use Rattle.table.specs.Rates.{fixedSum, statedSum, rateIn}
@@ -26,7 +26,7 @@ headerInOrder t = every (withinℤ 0 greatestCount (header t 0) ∷ allBelow (he
 unfoldable pub unusedInOrder : List ℤ → Bool
 unusedInOrder t = allBelow nodes (λ k. testIf (not (there (treeOf t) k)) (λ k. allBelow recordLength (λ p. isZero (place t k p))) k)
 
--- The limits of node k's places; places 9 to 15 and the waiting places that hold no request are zero.
+-- The limits of node k's places. A client's port is 0 or 1, a class's is zero.
 unfoldable pub limitsKept : List ℤ → ℕ → Bool
 limitsKept t k =
     every
@@ -37,8 +37,10 @@ limitsKept t k =
     ∷ withinℤ 1 (shareLimit (plus (place t k kindAt))) (place t k shareAt)
     ∷ withinℤ 1 greatestDepth (place t k depthAt)
     ∷ withinℤ 0 mostWaiting (place t k waitingAt)
+    ∷ withinℤ 0 (portLimit (plus (place t k sortAt))) (place t k portAt)
     ∷ [])
 
+-- Places 10 to 15 and the waiting places that hold no request are zero.
 unfoldable pub spareInOrder : List ℤ → ℕ → Bool
 spareInOrder t k =
     every

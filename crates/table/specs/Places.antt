@@ -6,7 +6,7 @@ use mathlib.Core.List.{List}
 use lib.ListN.{getD, set}
 use lib.IntN.{ℤ, pos}
 use Rattle.numbers.specs.Whole.{plus}
-use Rattle.table.specs.Limits.{headerLength, recordLength, rateAt, balanceAt, waitingAt, depthAt, queueAt, requestLength, tagAt, sizeAt, arrivalAt, grainScale}
+use Rattle.table.specs.Limits.{headerLength, recordLength, rateAt, balanceAt, waitingAt, portAt, depthAt, queueAt, requestLength, tagAt, sizeAt, arrivalAt, grainScale}
 
 -- What stands at place p of node k's record.
 unfoldable pub place : List ℤ → ℕ → ℕ → ℤ
@@ -36,6 +36,10 @@ balance t k = place t k balanceAt
 -- How many requests wait at a client.
 unfoldable pub waiting : List ℤ → ℕ → ℕ
 waiting t k = plus (place t k waitingAt)
+
+-- The port of a client.
+unfoldable pub port : List ℤ → ℕ → ℕ
+port t k = plus (place t k portAt)
 
 -- The depth in grains.
 unfoldable pub depthGrains : List ℤ → ℕ → ℕ

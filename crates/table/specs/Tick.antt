@@ -1,4 +1,5 @@
--- Tick, in four steps over the table and the dispatch entries so far. Document 01, "Calls".
+-- Tick, in four steps over the table and the dispatch entries so far, which are then divided by port. Document 01, "Calls", and
+-- document 02, (c) and (g).
 use Prim.Native.Nat.{ℕ, zero, suc, _+_, _*_, _-_, _/_}
 use mathlib.Core.Bool.{Bool, true, false, not, cond, _&&_, _||_}
 use mathlib.Core.List.{List, [], _∷_, _++_}
@@ -6,11 +7,12 @@ use lib.ListN.{length, drop}
 use lib.Dec.{eqb, ltb}
 use lib.IntN.{ℤ, pos, _+ℤ_, _-ℤ_}
 use lib.Signed.{leZ}
+use Rattle.numbers.specs.Whole.{plus}
 use Rattle.numbers.specs.Tests.{every}
 use Rattle.numbers.specs.Below.{sumBelow, forBelow}
-use Rattle.table.specs.Limits.{nodes, balanceAt, waitingAt, queueAt, queueLength, requestLength, grainScale, entryLength}
-use Rattle.table.specs.Places.{place, put, rate, balance, waiting, depthGrains, tag, size, arrival}
-use Rattle.table.specs.Tree.{treeOf}
+use Rattle.table.specs.Limits.{nodes, balanceAt, waitingAt, queueAt, queueLength, requestLength, grainScale, entryLength, firstPort, secondPort}
+use Rattle.table.specs.Places.{place, put, rate, balance, waiting, port, depthGrains, tag, size, arrival}
+use Rattle.table.specs.Tree.{treeOf, countIf}
 use Rattle.table.specs.Cost.{cost}
 use Rattle.table.specs.Order.{inOrder}
 use Rattle.table.specs.Refusals.{cause, first, Outcome, outcome, kept}
@@ -154,19 +156,49 @@ stepThree t = record { table = cut (stepTwo t .table); entries = stepTwo t .entr
 unfoldable pub ticked : List ℤ → State
 ticked t = lent (allWaiting (stepThree t .table)) (stepThree t)
 
--- The list after: the entries, and beyond them the list as it came.
+-- The entries of the clients of port p, in their order; portOf gives a client's port. Fewer than four numbers are no entry.
+unfoldable pub ofPort : (ℕ → ℕ) → ℕ → List ℤ → List ℤ
+ofPort portOf p [] = []
+ofPort portOf p (client ∷ []) = []
+ofPort portOf p (client ∷ a ∷ []) = []
+ofPort portOf p (client ∷ a ∷ b ∷ []) = []
+ofPort portOf p (client ∷ a ∷ b ∷ c ∷ entries) =
+    cond (eqb (portOf (plus client)) p) (client ∷ a ∷ b ∷ c ∷ []) [] ++ ofPort portOf p entries
+
+-- The dispatches of a tick that go to port p, and how many there are.
+unfoldable pub portEntries : List ℤ → ℕ → List ℤ
+portEntries t p = ofPort (port t) p (ticked t .entries)
+
+unfoldable pub portCount : List ℤ → ℕ → ℕ
+portCount t p = length (portEntries t p) / entryLength
+
+-- A port's list after: its entries, and beyond them the list as it came.
 unfoldable pub listed : List ℤ → List ℤ → List ℤ
 listed entries list = entries ++ drop (length entries) list
 
-unfoldable pub tickRefusal : List ℤ → List ℤ → ℕ
-tickRefusal t list = first (cause 1 (not (inOrder t)) ∷ cause 13 (ltb (length list) (entryLength * allWaiting t)) ∷ [])
+-- The waiting requests of the clients of port p.
+unfoldable pub portWaiting : List ℤ → ℕ → ℕ
+portWaiting t p = sumBelow nodes (λ k. countIf (eqb (port t k) p) (waiting t) k)
 
-unfoldable pub tickTable : List ℤ → List ℤ → List ℤ
-tickTable t list = kept (tickRefusal t list) (ticked t .table) t
+-- Cause 13 for the list of port p: it is shorter than four numbers for each of these requests.
+unfoldable pub listShort : List ℤ → ℕ → List ℤ → Bool
+listShort t p list = ltb (length list) (entryLength * portWaiting t p)
 
-unfoldable pub tickList : List ℤ → List ℤ → List ℤ
-tickList t list = kept (tickRefusal t list) (listed (ticked t .entries) list) list
+-- Tick takes a list for each port.
+unfoldable pub tickRefusal : List ℤ → List ℤ → List ℤ → ℕ
+tickRefusal t list₀ list₁ =
+    first (cause 1 (not (inOrder t)) ∷ cause 13 (listShort t firstPort list₀ || listShort t secondPort list₁) ∷ [])
 
--- How many were dispatched.
-unfoldable pub tickAnswer : List ℤ → List ℤ → Outcome
-tickAnswer t list = outcome (tickRefusal t list) (pos (length (ticked t .entries) / entryLength) ∷ [])
+unfoldable pub tickTable : List ℤ → List ℤ → List ℤ → List ℤ
+tickTable t list₀ list₁ = kept (tickRefusal t list₀ list₁) (ticked t .table) t
+
+unfoldable pub tickFirst : List ℤ → List ℤ → List ℤ → List ℤ
+tickFirst t list₀ list₁ = kept (tickRefusal t list₀ list₁) (listed (portEntries t firstPort) list₀) list₀
+
+unfoldable pub tickSecond : List ℤ → List ℤ → List ℤ → List ℤ
+tickSecond t list₀ list₁ = kept (tickRefusal t list₀ list₁) (listed (portEntries t secondPort) list₁) list₁
+
+-- How many were dispatched to the first port and to the second.
+unfoldable pub tickAnswer : List ℤ → List ℤ → List ℤ → Outcome
+tickAnswer t list₀ list₁ =
+    outcome (tickRefusal t list₀ list₁) (pos (portCount t firstPort) ∷ pos (portCount t secondPort) ∷ [])

@@ -6,7 +6,7 @@ ghost use lib.ListN.{length};
 ghost use lib.IntN.{pos};
 ghost use Rattle.numbers.specs.Whole.{plus, minus, withinℤ};
 ghost use Rattle.numbers.specs.Tests.{every};
-ghost use Rattle.table.specs.Limits.{tableLength, headerLength, recordLength, nodes, depthAt, greatestRate, shareLimit, greatestDepth, grainScale};
+ghost use Rattle.table.specs.Limits.{tableLength, headerLength, recordLength, nodes, depthAt, greatestRate, shareLimit, portLimit, greatestDepth, grainScale};
 ghost use Rattle.table.specs.Places.{place, put, header, putHeader, count, depthGrains};
 ghost use Rattle.table.specs.Refusals.{lastRefusal, outcome, numberTold};
 ghost use Rattle.table.specs.Calls.{blank, opened, openRefusal, openTable, openAnswer};
@@ -35,6 +35,12 @@ pub enum Refusal {
 // What a call answers: its number, 0 where it has no other, or why it is refused.
 pub enum Answer {
     Accepted(i64),
+    Refused(Refusal),
+}
+
+// What tick answers: how many were dispatched to the first port and to the second.
+pub enum Ticked {
+    Dispatched { first: i64, second: i64 },
     Refused(Refusal),
 }
 
@@ -110,9 +116,11 @@ impl Table {
 
     pub const WAITING: usize = 8;
 
-    pub const SPARE: usize = 9;
+    pub const PORT: usize = 9;
 
-    pub const SPARE_LENGTH: usize = 7;
+    pub const SPARE: usize = 10;
+
+    pub const SPARE_LENGTH: usize = 6;
 
     pub const QUEUE: usize = 16;
 
@@ -126,7 +134,7 @@ impl Table {
 
     pub const ARRIVAL: usize = 2;
 
-    // Numbers of one entry of the dispatch list.
+    // Numbers of one entry of a dispatch list.
     pub const ENTRY: usize = 4;
 
     // Numbers that look shows.
@@ -150,6 +158,13 @@ impl Table {
 
     pub const SHARE_SUMS: usize = Table::KINDS * Table::NODES;
 
+    // Ports, and how many there are.
+    pub const FIRST_PORT: u64 = 0;
+
+    pub const SECOND_PORT: u64 = 1;
+
+    pub const PORTS: usize = 2;
+
     // The greatest share of a kind.
     pub fn share_limit(kind: u64) -> u64
         ensures { λ r. ⌜ r ≡ shareLimit kind ⌝ }
@@ -158,6 +173,16 @@ impl Table {
             return Table::GREATEST_RATE;
         }
         Table::WHOLE_SHARE
+    }
+
+    // The greatest port of a sort: of a class it is zero.
+    pub fn port_limit(sort: u64) -> u64
+        ensures { λ r. ⌜ r ≡ portLimit sort ⌝ }
+    {
+        if sort == Table::CLIENT {
+            return Table::SECOND_PORT;
+        }
+        0
     }
 
     // What stands at place p of node k.

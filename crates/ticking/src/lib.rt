@@ -2,36 +2,43 @@
 ghost use mathlib.Core.Path.{_≡_};
 ghost use Prim.Native.Nat.{_≤_};
 ghost use Rattle.table.specs.Refusals.{lastRefusal};
-ghost use Rattle.table.specs.Answers.{told};
-ghost use Rattle.table.specs.Tick.{tickRefusal, tickTable, tickList, tickAnswer};
-use table::Answer;
+ghost use Rattle.table.specs.Answers.{toldTicked};
+ghost use Rattle.table.specs.Tick.{tickRefusal, tickTable, tickFirst, tickSecond, tickAnswer};
 use table::Table;
+use table::Ticked;
 
 // The number of the first cause that turns a tick back, or 0.
-fn tick_refusal(table: &[i64], list: &[i64]) -> u64
-    ensures first { λ r. ⌜ r ≡ tickRefusal (now (table .entry)) (now (list .entry)) ⌝ }
+fn tick_refusal(table: &[i64], first: &[i64], second: &[i64]) -> u64
+    ensures first { λ r. ⌜ r ≡ tickRefusal (now (table .entry)) (now (first .entry)) (now (second .entry)) ⌝ }
     ensures small { λ r. ⌜ r ≤ lastRefusal ⌝ }
 {
     if !order::in_order(table) {
         return 1;
     }
-    let most = steps::all_waiting(table) as usize;
-    if list.len() < Table::ENTRY * most {
+    let waiting = steps::waiting_by_port(table);
+    if first.len() < Table::ENTRY * waiting.first {
+        return 13;
+    }
+    if second.len() < Table::ENTRY * waiting.second {
         return 13;
     }
     0
 }
 
-// Tick. Document 01, "Calls".
-pub fn tick(table: &mut [i64], list: &mut [i64]) -> Answer
-    ensures answer { λ r. ⌜ told r ≡ tickAnswer (now (table .entry)) (now (list .entry)) ⌝ }
-    ensures table { λ _. ⌜ now (table .exit) ≡ tickTable (now (table .entry)) (now (list .entry)) ⌝ }
-    ensures list { λ _. ⌜ now (list .exit) ≡ tickList (now (table .entry)) (now (list .entry)) ⌝ }
+// Tick. Document 01, "Calls", and document 02, (g).
+pub fn tick(table: &mut [i64], first: &mut [i64], second: &mut [i64]) -> Ticked
+    ensures answer { λ r. ⌜ toldTicked r ≡ tickAnswer (now (table .entry)) (now (first .entry)) (now (second .entry)) ⌝ }
+    ensures table { λ _. ⌜ now (table .exit) ≡ tickTable (now (table .entry)) (now (first .entry)) (now (second .entry)) ⌝ }
+    ensures first { λ _. ⌜ now (first .exit) ≡ tickFirst (now (table .entry)) (now (first .entry)) (now (second .entry)) ⌝ }
+    ensures second { λ _. ⌜ now (second .exit) ≡ tickSecond (now (table .entry)) (now (first .entry)) (now (second .entry)) ⌝ }
 {
-    let number = tick_refusal(table, list);
+    let number = tick_refusal(table, first, second);
     if number != 0 {
-        return table::answered(number, 0);
+        return Ticked::Refused(table::refusal_of(number));
     }
-    let count = steps::run(table, list) as u64;
-    Answer::Accepted(numbers::whole(count))
+    let counts = steps::run(table, first, second);
+    Ticked::Dispatched {
+        first: numbers::whole(counts.first as u64),
+        second: numbers::whole(counts.second as u64),
+    }
 }

@@ -1,5 +1,5 @@
--- What a tick leaves alone: the table's length, its header, and of each record the places of the tree, the rate and the
--- spare places. It changes balances, waiting counts and waiting places only.
+-- What a tick leaves alone: the table's length, its header, and of each record the places of the tree, the rate, the port and
+-- the spare places. It changes balances, waiting counts and waiting places only.
 use Prim.Native.Nat.{ℕ, _+_, _*_, _-_, _<_}
 use mathlib.Core.Path.{_≡_, refl, ap, _∙_, subst}
 use mathlib.Core.List.{List}
@@ -8,15 +8,15 @@ use native.Mathlib.Decide.{decLt, ℕ-discrete}
 use lib.ListN.{length}
 use lib.IntN.{ℤ}
 use Rattle.numbers.specs.Whole.{plus}
-use Rattle.table.specs.Limits.{headerLength, recordLength, depthAt, rateAt, balanceAt, waitingAt, spareAt, spareLength, queueAt, queueLength, grainScale}
-use Rattle.table.specs.Places.{place, put, header, count, rate, depthGrains}
+use Rattle.table.specs.Limits.{headerLength, recordLength, depthAt, rateAt, balanceAt, waitingAt, portAt, queueAt, queueLength, grainScale}
+use Rattle.table.specs.Places.{place, put, header, count, rate, port, depthGrains}
 use Rattle.table.specs.Tree.{treeOf}
 use Rattle.table.proofs.Places.{length-put, header-put, place-put-place}
 use Rattle.treelaws.proofs.Renewed.{same-tree}
 
--- The places of a record by what they hold: tree and rate, balance, waiting count, spare places, waiting places.
-pub by-place {ℓ} : (P : ℕ → Type ℓ) → ((p : ℕ) → p < balanceAt → P p) → P balanceAt → P waitingAt → ((p : ℕ) → p < spareLength → P (spareAt + p)) → ((p : ℕ) → p < queueLength → P (queueAt + p)) → (p : ℕ) → p < recordLength → P p
-by-place P early balance waits spare queue p hp =
+-- The places of a record by what they hold: tree and rate, balance, waiting count, port and spare places, waiting places.
+pub by-place {ℓ} : (P : ℕ → Type ℓ) → ((p : ℕ) → p < balanceAt → P p) → P balanceAt → P waitingAt → ((p : ℕ) → waitingAt < p → p < queueAt → P p) → ((p : ℕ) → p < queueLength → P (queueAt + p)) → (p : ℕ) → p < recordLength → P p
+by-place P early balance waits later queue p hp =
     elim (decLt p balanceAt) [
       | yes l ↦ early p l
       | no l ↦ elim (ℕ-discrete p balanceAt) [
@@ -24,7 +24,7 @@ by-place P early balance waits spare queue p hp =
         | no e ↦ elim (ℕ-discrete p waitingAt) [
           | yes d ↦ rw d waits
           | no d ↦ elim (decLt p queueAt) [
-            | yes m ↦ subst P (omega arith) (spare (p - spareAt) (omega arith))
+            | yes m ↦ later p (omega arith) m
             | no m ↦ subst P (omega arith) (queue (p - queueAt) (omega arith))
           ]
         ]
@@ -35,10 +35,10 @@ pub record Frame (t u : List ℤ) : Type 0 where
   pub long : length u ≡ length t
   pub heading : (q : ℕ) → q < headerLength → header u q ≡ header t q
   pub early : (k p : ℕ) → p < balanceAt → place u k p ≡ place t k p
-  pub spare : (k p : ℕ) → p < spareLength → place u k (spareAt + p) ≡ place t k (spareAt + p)
+  pub later : (k p : ℕ) → waitingAt < p → p < queueAt → place u k p ≡ place t k p
 
 pub frame-refl : (t : List ℤ) → Frame t t
-frame-refl t = record { long = refl; heading = λ q h. refl; early = λ k p h. refl; spare = λ k p h. refl }
+frame-refl t = record { long = refl; heading = λ q h. refl; early = λ k p h. refl; later = λ k p low h. refl }
 
 pub frame-trans : {t u v : List ℤ} → Frame t u → Frame u v → Frame t v
 frame-trans f g =
@@ -46,7 +46,7 @@ frame-trans f g =
       long = g .long ∙ f .long;
       heading = λ q h. g .heading q h ∙ f .heading q h;
       early = λ k p h. g .early k p h ∙ f .early k p h;
-      spare = λ k p h. g .spare k p h ∙ f .spare k p h;
+      later = λ k p low h. g .later k p low h ∙ f .later k p low h;
     }
 
 -- Nothing but balances is changed.
@@ -80,7 +80,7 @@ only-frame f =
       long = f .long;
       heading = f .heading;
       early = λ k p h. f .others k p (omega arith) (λ e. omega arith);
-      spare = λ k p h. f .others k (spareAt + p) (omega arith) (λ e. omega arith);
+      later = λ k p low h. f .others k p (omega arith) (λ e. omega arith);
     }
 
 pub frame-tree : (t u : List ℤ) → Frame t u → treeOf u ≡ treeOf t
@@ -89,6 +89,10 @@ frame-tree t u f = same-tree u t (λ k p h. f .early k p (omega arith))
 pub frame-rate : (t u : List ℤ) → Frame t u → (k : ℕ) → rate u k ≡ rate t k
 unfolding rate
 frame-rate t u f k = ap plus (f .early k rateAt (omega arith))
+
+pub frame-port : (t u : List ℤ) → Frame t u → (k : ℕ) → port u k ≡ port t k
+unfolding port
+frame-port t u f k = ap plus (f .later k portAt (omega arith) (omega arith))
 
 pub frame-depth : (t u : List ℤ) → Frame t u → (k : ℕ) → depthGrains u k ≡ depthGrains t k
 unfolding depthGrains

@@ -18,6 +18,7 @@ use Rattle.ticklaws.proofs.Frame.{frame-tree}
 use Rattle.ticklaws.proofs.Supplier.{not-supplied}
 use Rattle.ticklaws.proofs.Keeps.{tick-keeps, ticked-settled, none-supplied}
 use Rattle.ticklaws.proofs.Entries.{ticked-entries}
+use Rattle.ticklaws.proofs.Ports.{ticked-port, ticked-ports}
 
 -- A balance that is not enough is below the amount.
 too-little : (t : List ℤ) (amount j : ℕ) → enough t amount j ≡ false → plus (balance t j) < minus (balance t j) + amount
@@ -37,4 +38,6 @@ tick-laws t h =
       order = tick-keeps t h;
       ends = λ k hk waits j on. omega (arith, too-little (ticked t .table) _ j (none-enough t f k hk waits j on));
       entries = omega (arith, ticked-entries t f);
+      ports = λ p. omega (arith, ticked-port t f p);
+      both = omega (arith, ticked-ports t f);
     }

@@ -12,5 +12,6 @@ pub mod Served
 pub mod Lent
 pub mod Keeps
 pub mod Entries
+pub mod Ports
 pub mod Laws
 pub mod StepFour

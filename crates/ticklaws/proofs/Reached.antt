@@ -9,7 +9,7 @@ use lib.ListN.{length}
 use lib.IntN.{ℤ, pos}
 use Rattle.numbers.specs.Whole.{plus, minus}
 use Rattle.numbers.proofs.Parts.{zarith}
-use Rattle.table.specs.Limits.{tableLength, recordLength, nodes, sortAt, parentAt, levelAt, kindAt, shareAt, depthAt, rateAt, balanceAt, spareAt, root}
+use Rattle.table.specs.Limits.{tableLength, recordLength, nodes, sortAt, parentAt, levelAt, kindAt, shareAt, depthAt, rateAt, balanceAt, portAt, spareAt, root}
 use Rattle.table.specs.Places.{place, count, balance, waiting, depthGrains, arrival}
 use Rattle.table.specs.Tree.{Tree, treeOf, there, isClass}
 use Rattle.table.proofs.Facts.{InOrder, Limits, Root, Class, Balance, Request, stated-kept}
@@ -45,7 +45,7 @@ module _ (t u : List ℤ) (f : InOrder t) (r : Reached t u) (most : Under (treeO
       (λ p l. r .frame .early k p l ∙ f .empty k hk h p (omega arith))
       (r .vacant .zero k hk h)
       (omega (arith, zarith, r .queues .few k hk))
-      (λ p l. r .frame .spare k p l ∙ f .empty k hk h (spareAt + p) (omega arith))
+      (λ p low l. r .frame .later k p low l ∙ f .empty k hk h p (omega arith))
       (λ p l. r .queues .spare k hk p l (omega arith))
 
   limits-again : (k : ℕ) → k < nodes → there (treeOf t) k ≡ true → Limits u k
@@ -60,6 +60,7 @@ module _ (t u : List ℤ) (f : InOrder t) (r : Reached t u) (most : Under (treeO
         share = rw (e kindAt (omega arith), e shareAt (omega arith)) (l .share);
         depth = rw (e depthAt (omega arith)) (l .depth);
         waiting = r .queues .few k hk;
+        port = rw (e sortAt (omega arith), r .frame .later k portAt (omega arith) (omega arith)) (l .port);
       }
 
   root-again : Root u
@@ -108,7 +109,7 @@ module _ (t u : List ℤ) (f : InOrder t) (r : Reached t u) (most : Under (treeO
         heading = λ p hp. r .frame .heading (suc p) (omega arith) ∙ f .heading p hp;
         empty = rw same unused-zero;
         limits = rw same limits-again;
-        spare = rw same (λ k hk h. record { places = λ p hp. r .frame .spare k p hp ∙ f .spare k hk h .places p hp; queue = r .queues .spare k hk });
+        spare = rw same (λ k hk h. record { places = λ p hp. r .frame .later k (spareAt + p) (omega arith) (omega arith) ∙ f .spare k hk h .places p hp; queue = r .queues .spare k hk });
         root = root-again;
         child = rw same (f .child);
         class = rw same class-again;

@@ -12,7 +12,7 @@ use Rattle.numbers.specs.Below.{forBelow}
 use Rattle.numbers.proofs.Parts.{plus-pos, minus-pos}
 use Rattle.numbers.proofs.All.{below-cases}
 use Rattle.numbers.proofs.Steps.{for-reaches}
-use Rattle.table.specs.Limits.{tableLength, headerLength, recordLength, nodes, balanceAt, waitingAt, spareAt, queueAt, queueLength, requestLength}
+use Rattle.table.specs.Limits.{tableLength, headerLength, recordLength, nodes, balanceAt, waitingAt, queueAt, queueLength, requestLength}
 use Rattle.table.specs.Places.{place, put, header, balance, waiting}
 use Rattle.table.specs.Tick.{takenOut}
 use Rattle.table.proofs.Places.{length-put, header-put, place-put-same, place-put-node, place-put-place}
@@ -109,7 +109,7 @@ module _ (t : List ℤ) (n : length t ≡ tableLength) (k : ℕ) (hk : k < nodes
         long = rw (taken t k) (length-put (freed t k) k waitingAt (pos (waiting t k - 1)) ∙ freed-run .long ∙ moved-run .long);
         heading = λ q hq. rw (taken t k) (header-put (freed t k) k waitingAt (pos (waiting t k - 1)) q hq ∙ freed-run .heading q hq ∙ moved-run .heading q hq);
         early = λ j p hp. taken-before j p (omega arith) (λ d. omega arith);
-        spare = λ j p hp. taken-before j (spareAt + p) (omega arith) (λ d. omega arith);
+        later = λ j p low hp. taken-before j p (omega arith) (λ d. omega arith);
       }
 
   pub taken-balance : (j : ℕ) → balance (takenOut t k) j ≡ balance t j

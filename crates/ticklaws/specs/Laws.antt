@@ -6,11 +6,11 @@ use mathlib.Core.List.{List}
 use lib.ListN.{length}
 use lib.IntN.{ℤ}
 use Rattle.numbers.specs.Whole.{plus, minus}
-use Rattle.table.specs.Limits.{nodes, entryLength}
+use Rattle.table.specs.Limits.{nodes, firstPort, secondPort, entryLength}
 use Rattle.table.specs.Places.{balance, waiting, size}
 use Rattle.table.specs.Tree.{treeOf, atOrAbove}
 use Rattle.table.specs.Order.{inOrder}
-use Rattle.table.specs.Tick.{grains, allWaiting, ticked}
+use Rattle.table.specs.Tick.{grains, allWaiting, ticked, portEntries, portWaiting}
 
 pub record TickLaws (t : List ℤ) : Type 0 where
   -- The table is in order again.
@@ -22,3 +22,6 @@ pub record TickLaws (t : List ℤ) : Type 0 where
       → plus (balance (ticked t .table) j) < minus (balance (ticked t .table) j) + grains (size (ticked t .table) k 0)
   -- Every request that waited still waits or has an entry of four numbers.
   pub entries : length (ticked t .entries) + entryLength * allWaiting (ticked t .table) ≡ entryLength * allWaiting t
+  -- The same at each port, and the entries of the two ports are all.
+  pub ports : (p : ℕ) → length (portEntries t p) + entryLength * portWaiting (ticked t .table) p ≡ entryLength * portWaiting t p
+  pub both : length (portEntries t firstPort) + length (portEntries t secondPort) ≡ length (ticked t .entries)

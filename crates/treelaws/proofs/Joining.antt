@@ -13,7 +13,7 @@ use lib.IntN.{ℤ, pos}
 use Rattle.numbers.specs.Whole.{plus}
 use Rattle.numbers.proofs.Tests.{by-test, true-false}
 use Rattle.numbers.proofs.Parts.{plus-pos}
-use Rattle.table.specs.Limits.{tableLength, headerLength, recordLength, nodes, sortAt, levelAt, rateAt, root}
+use Rattle.table.specs.Limits.{tableLength, headerLength, recordLength, nodes, sortAt, levelAt, rateAt, portAt, root}
 use Rattle.table.specs.Places.{place, header, rate}
 use Rattle.table.specs.Tree.{treeOf, there}
 use Rattle.table.specs.Rates.{rateIn}
@@ -21,7 +21,7 @@ use Rattle.table.proofs.Places.{same-places}
 use Rattle.table.proofs.Facts.{InOrder, facts}
 use Rattle.treelaws.specs.Joins.{Join, refusalOf, afterJoin, afterJoins, AllAccepted, none, next}
 use Rattle.treelaws.proofs.Renewed.{same-tree}
-use Rattle.treelaws.proofs.Joined.{JoinAccepted, join-accepted, givenBy, same-there, level-by-place, JoinLeaves, join-leaves}
+use Rattle.treelaws.proofs.Joined.{JoinAccepted, join-accepted, Given, of-tree, of-port, givenBy, same-there, level-by-place, JoinLeaves, join-leaves}
 
 -- A join of the list has node k.
 abbrev pub HasNode : List Join → ℕ → Type 0
@@ -31,9 +31,9 @@ HasNode joins k = (j : Join) × Among j joins × (plus (j .node) ≡ k)
 pub record JoinsLeave (t : List ℤ) (joins : List Join) (u : List ℤ) : Type 0 where
   pub long : length u ≡ tableLength
   pub heading : (p : ℕ) → p < headerLength → header u p ≡ header t p
-  pub rest : (k p : ℕ) → rateAt < p → p < recordLength → place u k p ≡ place t k p
-  pub kept : (k p : ℕ) → p < rateAt → (HasNode joins k → ⊥) → place u k p ≡ place t k p
-  pub written : (j : Join) → Among j joins → (p : ℕ) → p < rateAt → place u (plus (j .node)) p ≡ givenBy j (suc (treeOf u .level (plus (j .parent)))) p
+  pub rest : (k p : ℕ) → rateAt < p → p < recordLength → (p ≡ portAt → ⊥) → place u k p ≡ place t k p
+  pub kept : (k p : ℕ) → Given p → (HasNode joins k → ⊥) → place u k p ≡ place t k p
+  pub written : (j : Join) → Among j joins → (p : ℕ) → Given p → place u (plus (j .node)) p ≡ givenBy j (suc (treeOf u .level (plus (j .parent)))) p
   pub free : (j : Join) → Among j joins → there (treeOf t) (plus (j .node)) ≡ false
   pub disk : rate u root ≡ rate t root
   pub rates : (k : ℕ) → k < nodes → there (treeOf u) k ≡ true → place u k rateAt ≡ pos (rateIn (treeOf u) (rate u root) k)
@@ -44,7 +44,7 @@ none-leave t nt r =
     record {
       long = nt;
       heading = λ p hp. refl;
-      rest = λ k p low hp. refl;
+      rest = λ k p low hp other. refl;
       kept = λ k p hp nobody. refl;
       written = λ j m. absurd (among-none m);
       free = λ j m. absurd (among-none m);
@@ -59,7 +59,7 @@ next-leave t j v joins u a s r =
     record {
       long = r .long;
       heading = λ p hp. r .heading p hp ∙ s .heading p hp;
-      rest = λ k p low hp. r .rest k p low hp ∙ s .rest k p low hp;
+      rest = λ k p low hp other. r .rest k p low hp other ∙ s .rest k p low hp other;
       kept = λ k p hp nobody. r .kept k p hp (λ h. nobody (h .0, among-rest (h .1), h .2)) ∙ s .kept k p hp (λ e. nobody (j, among-first refl, sym e));
       written = λ i m p hp. ⊎-elim (λ e. rw e (first p hp)) (λ n. r .written i n p hp) (among-cases m);
       free = λ i m. ⊎-elim (λ e. rw e (a .unused)) (λ n. earlier (plus (i .node)) (r .free i n)) (among-cases m);
@@ -73,24 +73,24 @@ next-leave t j v joins u a s r =
     apart k e same = true-false e (rw same (a .unused))
 
     there-still : (k : ℕ) → there (treeOf t) k ≡ true → there (treeOf v) k ≡ true
-    there-still k e = same-there v t k (s .kept k sortAt (omega arith) (apart k e)) ∙ e
+    there-still k e = same-there v t k (s .kept k sortAt (of-tree (omega arith)) (apart k e)) ∙ e
 
-    still : (k p : ℕ) → p < rateAt → there (treeOf v) k ≡ true → place u k p ≡ place v k p
+    still : (k p : ℕ) → Given p → there (treeOf v) k ≡ true → place u k p ≡ place v k p
     still k p hp e = r .kept k p hp (λ h. true-false e (rw (h .2) at (r .free (h .0) (h .1))))
 
     earlier : (k : ℕ) → there (treeOf v) k ≡ false → there (treeOf t) k ≡ false
     earlier k e = by-test (there (treeOf t) k) (λ h. absurd (true-false (there-still k h) e)) (λ h. h)
 
     later : (k : ℕ) → there (treeOf u) k ≡ false → there (treeOf v) k ≡ false
-    later k e = by-test (there (treeOf v) k) (λ h. absurd (true-false (same-there u v k (still k sortAt (omega arith) h) ∙ h) e)) (λ h. h)
+    later k e = by-test (there (treeOf v) k) (λ h. absurd (true-false (same-there u v k (still k sortAt (of-tree (omega arith)) h) ∙ h) e)) (λ h. h)
 
     level : treeOf t .level (plus (j .parent)) ≡ treeOf u .level (plus (j .parent))
     level =
         level-by-place t (plus (j .parent))
-        ∙ ap plus (sym (still (plus (j .parent)) levelAt (omega arith) (there-still (plus (j .parent)) (a .there)) ∙ s .kept (plus (j .parent)) levelAt (omega arith) (apart (plus (j .parent)) (a .there))))
+        ∙ ap plus (sym (still (plus (j .parent)) levelAt (of-tree (omega arith)) (there-still (plus (j .parent)) (a .there)) ∙ s .kept (plus (j .parent)) levelAt (of-tree (omega arith)) (apart (plus (j .parent)) (a .there))))
         ∙ sym (level-by-place u (plus (j .parent)))
 
-    first : (p : ℕ) → p < rateAt → place u (plus (j .node)) p ≡ givenBy j (suc (treeOf u .level (plus (j .parent)))) p
+    first : (p : ℕ) → Given p → place u (plus (j .node)) p ≡ givenBy j (suc (treeOf u .level (plus (j .parent)))) p
     first p hp = still (plus (j .node)) p hp (s .here) ∙ s .written p hp ∙ ap (λ (l : ℕ). givenBy j (suc l) p) level
 
 pub joins-leave : {t : List ℤ} {joins : List Join} → AllAccepted t joins → length t ≡ tableLength → ((k : ℕ) → k < nodes → there (treeOf t) k ≡ true → place t k rateAt ≡ pos (rateIn (treeOf t) (rate t root) k)) → JoinsLeave t joins (afterJoins t joins)
@@ -112,11 +112,11 @@ found (i ∷ joins) k = go (ℕ-discrete (plus (i .node)) k) (found joins k)
 
 written-level : (t : List ℤ) (joins : List Join) (u : List ℤ) → JoinsLeave t joins u → (j : Join) → Among j joins → treeOf u .level (plus (j .node)) ≡ suc (treeOf u .level (plus (j .parent)))
 unfolding givenBy
-written-level t joins u r j m = level-by-place u (plus (j .node)) ∙ ap plus (r .written j m levelAt (omega arith)) ∙ plus-pos (suc (treeOf u .level (plus (j .parent))))
+written-level t joins u r j m = level-by-place u (plus (j .node)) ∙ ap plus (r .written j m levelAt (of-tree (omega arith))) ∙ plus-pos (suc (treeOf u .level (plus (j .parent))))
 
 module _ (t : List ℤ) (joins others : List Join) (u v : List ℤ) (same : (j : Join) → Among j joins ↔ Among j others) (r : JoinsLeave t joins u) (s : JoinsLeave t others v) where
   -- A node that no join has.
-  untouched : (k p : ℕ) → p < rateAt → (HasNode joins k → ⊥) → place u k p ≡ place v k p
+  untouched : (k p : ℕ) → Given p → (HasNode joins k → ⊥) → place u k p ≡ place v k p
   untouched k p hp nobody = r .kept k p hp nobody ∙ sym (s .kept k p hp (λ h. nobody (h .0, same (h .0) .1 (h .1), h .2)))
 
   -- Levels agree, by induction on the level.
@@ -129,19 +129,19 @@ module _ (t : List ℤ) (joins others : List Join) (u v : List ℤ) (same : (j :
   same-level : (n k : ℕ) → treeOf u .level k < n → treeOf u .level k ≡ treeOf v .level k
   same-level zero k h = absurd (omega arith)
   same-level (suc n) k h =
-      elim (found joins k) [ yes f ↦ rw (← f .2) (joined-level n (same-level n) (f .0) (f .1) (rw (← f .2) at h)) | no nobody ↦ level-by-place u k ∙ ap plus (untouched k levelAt (omega arith) nobody) ∙ sym (level-by-place v k) ]
+      elim (found joins k) [ yes f ↦ rw (← f .2) (joined-level n (same-level n) (f .0) (f .1) (rw (← f .2) at h)) | no nobody ↦ level-by-place u k ∙ ap plus (untouched k levelAt (of-tree (omega arith)) nobody) ∙ sym (level-by-place v k) ]
 
-  joined-place : (j : Join) → Among j joins → (p : ℕ) → p < rateAt → place u (plus (j .node)) p ≡ place v (plus (j .node)) p
+  joined-place : (j : Join) → Among j joins → (p : ℕ) → Given p → place u (plus (j .node)) p ≡ place v (plus (j .node)) p
   joined-place j m p hp =
       r .written j m p hp
       ∙ ap (λ (l : ℕ). givenBy j (suc l) p) (same-level (suc (treeOf u .level (plus (j .parent)))) (plus (j .parent)) (omega arith))
       ∙ sym (s .written j (same j .0 m) p hp)
 
-  tree-place : (k p : ℕ) → p < rateAt → place u k p ≡ place v k p
-  tree-place k p hp = elim (found joins k) [ yes f ↦ rw (← f .2) (joined-place (f .0) (f .1) p hp) | no nobody ↦ untouched k p hp nobody ]
+  given-place : (k p : ℕ) → Given p → place u k p ≡ place v k p
+  given-place k p hp = elim (found joins k) [ yes f ↦ rw (← f .2) (joined-place (f .0) (f .1) p hp) | no nobody ↦ untouched k p hp nobody ]
 
   trees : treeOf u ≡ treeOf v
-  trees = same-tree u v tree-place
+  trees = same-tree u v (λ k p hp. given-place k p (of-tree hp))
 
   rate-place : (k : ℕ) → k < nodes → place u k rateAt ≡ place v k rateAt
   rate-place k hk =
@@ -154,7 +154,16 @@ module _ (t : List ℤ) (joins others : List Join) (u v : List ℤ) (same : (j :
     where
       each : (k p : ℕ) → k < nodes → p < recordLength → place u k p ≡ place v k p
       each k p hk hp =
-          elim (decLt p rateAt) [ yes l ↦ tree-place k p l | no l ↦ elim (ℕ-discrete p rateAt) [ yes e ↦ rw e (rate-place k hk) | no ne ↦ r .rest k p (omega arith) hp ∙ sym (s .rest k p (omega arith) hp) ] ]
+          elim (decLt p rateAt) [
+            | yes l ↦ given-place k p (of-tree l)
+            | no l ↦ elim (ℕ-discrete p rateAt) [
+                | yes e ↦ rw e (rate-place k hk)
+                | no ne ↦ elim (ℕ-discrete p portAt) [
+                    | yes e ↦ rw e (given-place k portAt of-port)
+                    | no other ↦ r .rest k p (omega arith) hp other ∙ sym (s .rest k p (omega arith) hp other)
+                  ]
+              ]
+          ]
 
 -- Two orders of the same joins, each accepted all through, leave one table.
 pub join-order : (t : List ℤ) (joins others : List Join) → ((j : Join) → Among j joins ↔ Among j others) → AllAccepted t joins → AllAccepted t others → afterJoins t joins ≡ afterJoins t others

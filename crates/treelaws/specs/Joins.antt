@@ -14,17 +14,18 @@ pub record Join : Type 0 where
   pub kind : ℤ
   pub share : ℤ
   pub depth : ℤ
+  pub port : ℤ
 
 -- The refusal of join j at table t, and the table after it.
 unfoldable pub refusalOf : List ℤ → Join → ℕ
-refusalOf t j = joinRefusal t (j .node) (j .parent) (j .sort) (j .kind) (j .share) (j .depth)
+refusalOf t j = joinRefusal t (j .node) (j .parent) (j .sort) (j .kind) (j .share) (j .depth) (j .port)
 
 unfoldable pub afterJoin : List ℤ → Join → List ℤ
-afterJoin t j = joinTable t (j .node) (j .parent) (j .sort) (j .kind) (j .share) (j .depth)
+afterJoin t j = joinTable t (j .node) (j .parent) (j .sort) (j .kind) (j .share) (j .depth) (j .port)
 
 -- The table with the record of join j written, its rates not yet renewed.
 unfoldable pub joinedBy : List ℤ → Join → List ℤ
-joinedBy t j = joined t (plus (j .node)) (plus (j .parent)) (j .sort) (j .kind) (j .share) (j .depth)
+joinedBy t j = joined t (plus (j .node)) (plus (j .parent)) (j .sort) (j .kind) (j .share) (j .depth) (j .port)
 
 -- The table after the joins of a list in turn.
 unfoldable pub afterJoins : List ℤ → List Join → List ℤ

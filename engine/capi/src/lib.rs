@@ -36,8 +36,9 @@ pub unsafe extern "C" fn hds_join(
     kind: i64,
     share: i64,
     depth: i64,
+    port: i64,
 ) -> i64 {
-    let new = NewNode { node, parent, sort, kind, share, depth };
+    let new = NewNode { node, parent, sort, kind, share, depth, port };
     number(Engine.join(lent_mut(table, table_length), &new))
 }
 
@@ -77,15 +78,23 @@ pub unsafe extern "C" fn hds_request(
     number(Engine.request(lent_mut(table, table_length), client, tag, size))
 }
 
-/// Tick: answers how many were dispatched.
+/// Tick: `counts` gets how many dispatches each list received.
 #[no_mangle]
 pub unsafe extern "C" fn hds_tick(
     table: *mut i64,
     table_length: usize,
-    list: *mut i64,
-    list_length: usize,
+    first: *mut i64,
+    first_length: usize,
+    second: *mut i64,
+    second_length: usize,
+    counts: *mut i64,
 ) -> i64 {
-    number(Engine.tick(lent_mut(table, table_length), lent_mut(list, list_length)))
+    let lists = [lent_mut(first, first_length), lent_mut(second, second_length)];
+    let answer = Engine.tick(lent_mut(table, table_length), lists);
+    number(answer.map(|values| {
+        lent_mut(counts, values.len()).copy_from_slice(&values);
+        0
+    }))
 }
 
 /// Look: `seen` gets rate, balance, waiting count and the grains nobody gets.

@@ -1,6 +1,7 @@
 //! The boundary to the archive: the exported functions of `include/hds.h`, and the controller over them.
 
-use hds_engine::{Answer, Controller, NewNode, Seen};
+use hds_engine::steps::with_lent_counts;
+use hds_engine::{Answer, Controller, Counts, Lists, NewNode, Seen};
 
 extern "C" {
     fn hds_open(table: *mut i64, len: usize, rate: i64, depth: i64) -> i64;
@@ -13,12 +14,21 @@ extern "C" {
         kind: i64,
         share: i64,
         depth: i64,
+        port: i64,
     ) -> i64;
     fn hds_leave(table: *mut i64, len: usize, node: i64) -> i64;
     fn hds_change_share(table: *mut i64, len: usize, node: i64, kind: i64, share: i64) -> i64;
     fn hds_change_rate(table: *mut i64, len: usize, rate: i64) -> i64;
     fn hds_request(table: *mut i64, len: usize, client: i64, tag: i64, size: i64) -> i64;
-    fn hds_tick(table: *mut i64, len: usize, list: *mut i64, list_len: usize) -> i64;
+    fn hds_tick(
+        table: *mut i64,
+        len: usize,
+        first: *mut i64,
+        first_len: usize,
+        second: *mut i64,
+        second_len: usize,
+        counts: *mut Counts,
+    ) -> i64;
     fn hds_look(table: *const i64, len: usize, node: i64, seen: *mut Seen) -> i64;
     fn hds_same(first: *const i64, first_len: usize, second: *const i64, second_len: usize) -> i64;
     fn hds_plan_read(table: *mut i64, len: usize, plan: *const u8, plan_len: usize) -> i64;
@@ -55,9 +65,9 @@ impl Controller for Cabinet {
     }
 
     fn join(&mut self, table: &mut [i64], new: &NewNode) -> Answer<i64> {
-        let NewNode { node, parent, sort, kind, share, depth } = *new;
+        let NewNode { node, parent, sort, kind, share, depth, port } = *new;
         let (numbers, len) = (table.as_mut_ptr(), table.len());
-        answer(unsafe { hds_join(numbers, len, node, parent, sort, kind, share, depth) })
+        answer(unsafe { hds_join(numbers, len, node, parent, sort, kind, share, depth, port) })
     }
 
     fn leave(&mut self, table: &mut [i64], node: i64) -> Answer<i64> {
@@ -76,9 +86,14 @@ impl Controller for Cabinet {
         answer(unsafe { hds_request(table.as_mut_ptr(), table.len(), client, tag, size) })
     }
 
-    fn tick(&mut self, table: &mut [i64], list: &mut [i64]) -> Answer<i64> {
+    fn tick(&mut self, table: &mut [i64], lists: Lists) -> Answer<Counts> {
         let (numbers, len) = (table.as_mut_ptr(), table.len());
-        answer(unsafe { hds_tick(numbers, len, list.as_mut_ptr(), list.len()) })
+        let [(first, first_len), (second, second_len)] =
+            lists.map(|list| (list.as_mut_ptr(), list.len()));
+        let told = with_lent_counts(|counts| unsafe {
+            hds_tick(numbers, len, first, first_len, second, second_len, counts)
+        });
+        told.unwrap_or_else(|what| panic!("{what}"))
     }
 
     fn look(&mut self, table: &[i64], node: i64) -> Answer<Seen> {

@@ -38,11 +38,11 @@ pub(crate) fn all() -> Vec<Scene> {
 }
 
 /// Disk 1000, root depth 40, client 5 with weight 4 and depth 16, in the first edition and in the second.
-const ONE_CLIENT: [u8; 20] = [
+pub(crate) const ONE_CLIENT: [u8; 20] = [
     0xE8, 0x03, 0x00, 0x00, 0x28, 0x00, 0x00, 0x00, 0x01, 0x05, 0x00, 0x0D, 0x00, 0x03, 0x04, 0x00,
     0x10, 0x00, 0x00, 0x00,
 ];
-const ONE_CLIENT_SECOND: [u8; 26] = [
+pub(crate) const ONE_CLIENT_SECOND: [u8; 26] = [
     0xFF, 0xFF, 0xFF, 0xFF, 0xE8, 0x03, 0x00, 0x00, 0x28, 0x00, 0x00, 0x00, 0x01, 0x05, 0x00, 0x11,
     0x00, 0x03, 0x04, 0x00, 0x00, 0x00, 0x10, 0x00, 0x00, 0x00,
 ];
@@ -58,7 +58,7 @@ const STATED_NODES: [u8; 65] = [
     0x02, 0x88, 0x13, 0x00, 0x00, 0x08, 0x00, 0x00, 0x00, // a client of fixed 5000
 ];
 
-fn answered(number: i64, steps: impl IntoIterator<Item = Step>) -> Vec<Told> {
+pub(crate) fn answered(number: i64, steps: impl IntoIterator<Item = Step>) -> Vec<Told> {
     steps.into_iter().map(|step| (step, Reply::Number(number))).collect()
 }
 
@@ -111,11 +111,11 @@ fn second(rate: i64, depth: i64, nodes: &[NewNode]) -> Vec<u8> {
 }
 
 fn stated(node: i64, parent: i64, share: i64, depth: i64) -> NewNode {
-    NewNode { node, parent, sort: CLIENT, kind: STATED, share, depth }
+    NewNode { node, parent, sort: CLIENT, kind: STATED, share, depth, port: 0 }
 }
 
 fn upper(node: i64, parent: i64) -> NewNode {
-    NewNode { node, parent, sort: CLASS, kind: WEIGHTED, share: 1, depth: 8 }
+    NewNode { node, parent, sort: CLASS, kind: WEIGHTED, share: 1, depth: 8, port: 0 }
 }
 
 /// 14, then open and the joins entry by entry, with 16 behind all others of its join, then 15.

@@ -2,6 +2,7 @@
 
 pub mod cabinet;
 mod editions;
+mod ports;
 mod renewals;
 pub mod scenes;
 mod stated;

@@ -6,6 +6,7 @@ use hds_engine::plan::Plan;
 use hds_engine::rates::{renew_all, renew_below};
 use hds_engine::steps::{Call, Step};
 use hds_engine::table::*;
+use hds_engine::NewNode;
 
 use crate::scenes::*;
 use crate::trees;
@@ -60,7 +61,8 @@ fn shapes() -> Vec<(String, Vec<i64>)> {
 /// An open and joins, which make the table from any other.
 pub(crate) fn made(table: &[i64]) -> Vec<Step> {
     let Plan { rate, depth, nodes } = Plan::of_table(table);
-    let joins = nodes.into_iter().map(|new| Step::Call(Call::Join(new)));
+    let on_its_port = |new: NewNode| NewNode { port: get(table, new.node as usize, PORT), ..new };
+    let joins = nodes.into_iter().map(|new| Step::Call(Call::Join(on_its_port(new))));
     std::iter::once(open(rate, depth)).chain(joins).collect()
 }
 

@@ -1,7 +1,7 @@
 //! Lists of steps with known numbers: the edges of document 01 with the costs of document 02's request (a), every end of
 //! the ranges of cost, the grains nobody gets before and after every change, what step 4 picks, every call at wrong
 //! lengths and at every limit, plans cut short, lengthened and changed byte by byte, a table damaged in every clause
-//! of "in order", and the scenes of `renewals`, `stated` and `editions`. Each begins with two zeroed tables.
+//! of "in order", and the scenes of `renewals`, `stated`, `editions` and `ports`. Each begins with two zeroed tables.
 
 use hds_engine::cost::{cost, largest_size, RANGE_ENDS};
 use hds_engine::damage;
@@ -12,7 +12,7 @@ use hds_engine::steps::{Call, Reply, Step, World};
 use hds_engine::table::*;
 use hds_engine::{Engine, NewNode};
 
-use crate::{editions, renewals, stated, trees};
+use crate::{editions, ports, renewals, stated, trees};
 
 /// A name and its steps.
 pub type Scene = (String, Vec<Step>);
@@ -35,6 +35,7 @@ pub fn all() -> Vec<Scene> {
     scenes.extend(renewals::wrong_rates());
     scenes.extend(stated());
     scenes.extend(editions());
+    scenes.extend(ports());
     scenes
 }
 
@@ -53,12 +54,25 @@ pub fn editions() -> Vec<Scene> {
     editions::all()
 }
 
+/// The scenes of ports.
+pub fn ports() -> Vec<Scene> {
+    ports::all()
+}
+
 pub(crate) fn open(rate: i64, depth: i64) -> Step {
     Step::Call(Call::Open { rate, depth })
 }
 
 pub(crate) fn join(node: i64, parent: i64, sort: i64, kind: i64, share: i64, depth: i64) -> Step {
-    Step::Call(Call::Join(NewNode { node, parent, sort, kind, share, depth }))
+    Step::Call(Call::Join(NewNode { node, parent, sort, kind, share, depth, port: 0 }))
+}
+
+/// The join of that step, with a port.
+pub(crate) fn on_port(port: i64, join: Step) -> Step {
+    match join {
+        Step::Call(Call::Join(new)) => Step::Call(Call::Join(NewNode { port, ..new })),
+        other => other,
+    }
 }
 
 pub(crate) fn client(node: i64, parent: i64, kind: i64, share: i64, depth: i64) -> Step {
@@ -73,8 +87,14 @@ pub(crate) fn request(client: i64, tag: i64, size: i64) -> Step {
     Step::Call(Call::Request { client, tag, size })
 }
 
+/// A tick whose second list is empty.
 pub(crate) fn tick(list_len: usize) -> Step {
-    Step::Call(Call::Tick { list_len })
+    tick_of(list_len, 0)
+}
+
+/// A tick with lists of these lengths.
+pub(crate) fn tick_of(first: usize, second: usize) -> Step {
+    Step::Call(Call::Tick { list_lens: [first, second] })
 }
 
 pub(crate) fn look(node: i64) -> Step {
@@ -118,7 +138,7 @@ fn looks(nodes: &[i64]) -> Vec<Step> {
 }
 
 /// Looks at every node number, and at one beyond them at either end.
-fn look_everywhere() -> Vec<Step> {
+pub(crate) fn look_everywhere() -> Vec<Step> {
     (-1..=NODES as i64).map(look).collect()
 }
 
@@ -555,12 +575,12 @@ fn lost_grains() -> Vec<Scene> {
 /// have none. A node is a class if it is a parent here. Requests are client and size, and their tags are their arrival
 /// numbers. The list is client, arrival number, size and supplier. A size of 1 costs 8, 8 costs 12, 12 costs 16, 20 costs
 /// 24. Steps are those of the supplier above the client.
-struct Family {
-    name: &'static str,
+pub(crate) struct Family {
+    pub(crate) name: &'static str,
     root: i64,
     nodes: &'static [(i64, i64, i64)],
-    requests: &'static [(i64, i64)],
-    list: &'static [[i64; 4]],
+    pub(crate) requests: &'static [(i64, i64)],
+    pub(crate) list: &'static [[i64; 4]],
 }
 
 /// Client 2 in class 1, which has 8, and client 5 in class 4, which has nothing.
@@ -604,7 +624,7 @@ const FIVE_BRANCHES: &[(i64, i64, i64)] = &[
     (54, 53, 0),
 ];
 
-const FAMILIES: [Family; 22] = [
+pub(crate) const FAMILIES: [Family; 22] = [
     // Client 2 has class 1 at 1 step, client 5 the root at 2. Class 1 pays and with it the root, which has 0 then.
     Family {
         name: "the family before an earlier stranger",
@@ -789,22 +809,33 @@ const FAMILIES: [Family; 22] = [
 ];
 
 impl Family {
-    /// The tree, its balances, the requests and a tick.
-    fn steps(&self) -> Vec<Step> {
+    /// The clients.
+    pub(crate) fn clients(&self) -> Vec<i64> {
+        let is_class = |node: i64| self.nodes.iter().any(|&(_, parent, _)| parent == node);
+        self.nodes.iter().map(|new| new.0).filter(|&node| !is_class(node)).collect()
+    }
+
+    /// The tree with each client on the port that the function gives it, its balances and the requests.
+    pub(crate) fn asked(&self, port: impl Fn(i64) -> i64) -> Vec<Step> {
+        let clients = self.clients();
         let mut steps = vec![open(1, 20_000), poke(ROOT, BALANCE, 1000 * self.root - 1)];
         let parent_of = |node: i64| self.nodes.iter().find(|new| new.0 == node).map(|new| new.1);
         for &(node, parent, tokens) in self.nodes {
             let levels = std::iter::successors(Some(parent), |&node| parent_of(node)).count();
-            steps.push(match self.nodes.iter().any(|&(_, parent, _)| parent == node) {
-                true => class(node, parent, FIXED, 1, [2000, 500, 100][levels - 1]),
-                false => client(node, parent, FIXED, 1, 24),
+            steps.push(match clients.contains(&node) {
+                true => on_port(port(node), client(node, parent, FIXED, 1, 24)),
+                false => class(node, parent, FIXED, 1, [2000, 500, 100][levels - 1]),
             });
             steps.push(poke(node as usize, BALANCE, 1000 * tokens));
         }
         let requests = (1..).zip(self.requests);
         steps.extend(requests.map(|(arrival, &(client, size))| request(client, arrival, size)));
-        steps.push(tick(4 * self.requests.len()));
         steps
+    }
+
+    /// The same on port 0, and a tick.
+    fn steps(&self) -> Vec<Step> {
+        [self.asked(|_| 0), vec![tick(4 * self.requests.len())]].concat()
     }
 
     /// Sees that the second engine gives the list.
@@ -815,8 +846,8 @@ impl Family {
             reply = world.run(&mut Engine, &step);
         }
         let list = self.list.concat();
-        assert_eq!(reply, Some(Reply::Number(self.list.len() as i64)), "{}", self.name);
-        assert_eq!(world.list.inner()[..list.len()], list, "{}", self.name);
+        assert_eq!(reply, Some(Reply::Counts([self.list.len() as i64, 0])), "{}", self.name);
+        assert_eq!(world.lists()[0][..list.len()], list, "{}", self.name);
     }
 }
 
@@ -940,8 +971,15 @@ fn plans() -> Vec<Scene> {
 /// Disk 200,000; client 5 with 70,000 and class 9 with 300 stated, client 12 with a weight beside them, client 3 with half of
 /// the class.
 pub(crate) fn stated_plan() -> Plan {
-    let new =
-        |node, parent, sort, kind, share| NewNode { node, parent, sort, kind, share, depth: 8 };
+    let new = |node, parent, sort, kind, share| NewNode {
+        node,
+        parent,
+        sort,
+        kind,
+        share,
+        depth: 8,
+        port: 0,
+    };
     let nodes = vec![
         new(5, 0, CLIENT, STATED, 70_000),
         new(9, 0, CLASS, STATED, 300),
@@ -1017,6 +1055,9 @@ fn limits() -> Vec<Scene> {
                 client(9, 4, STATED, value, 1),
                 client(9, 0, STATED, value, 1),
                 client(9, 4, WEIGHTED, 1, value),
+                on_port(value, client(9, 4, WEIGHTED, 1, 1)),
+                on_port(value, class(9, 4, WEIGHTED, 1, 1)),
+                leave(9),
                 tick(128),
                 Step::Keep,
                 open(value, 10),

@@ -54,7 +54,7 @@ fn class_of(node: i64, rate: i64, lost: i64) -> Vec<Told> {
 
 /// Classes 1, 2, 3 below each other, client 4 on level 4, client 5 with 600 stated of 1000. What is left under the root is
 /// fixed 5000, 400 to be stated and depth 30; under classes 1, 2 and 3 it is depth 10.
-fn deep() -> Vec<Told> {
+pub(crate) fn deep() -> Vec<Told> {
     accepted([
         open(1000, 100),
         class(1, 0, FIXED, 5000, 50),

@@ -1,8 +1,8 @@
 //! Tables of a known shape, made by any controller.
 
 use hds_engine::table::{
-    at, get, waiting_count, ACCEPTED, CLASS, CLIENT, FIXED, LEVEL, MAX_CLASS_LEVEL, PARENT, QUEUE,
-    QUEUE_STEP, STATED, TABLE_LEN, WEIGHTED,
+    at, get, waiting_count, ACCEPTED, CLASS, CLIENT, FIXED, LEVEL, MAX_CLASS_LEVEL, PARENT, PORT,
+    QUEUE, QUEUE_STEP, STATED, TABLE_LEN, WEIGHTED,
 };
 use hds_engine::{Controller, Engine, NewNode};
 
@@ -13,7 +13,7 @@ pub fn opened(rate: i64, depth: i64) -> Vec<i64> {
     table
 }
 
-/// Joins a node, which must be accepted.
+/// Joins a node on port 0, which must be accepted.
 pub fn join(
     table: &mut [i64],
     node: i64,
@@ -23,7 +23,7 @@ pub fn join(
     share: i64,
     depth: i64,
 ) {
-    let new = NewNode { node, parent, sort, kind, share, depth };
+    let new = NewNode { node, parent, sort, kind, share, depth, port: 0 };
     assert_eq!(Engine.join(table, &new), Ok(0), "{new:?}");
 }
 
@@ -182,6 +182,15 @@ pub fn all_stated(rate: i64) -> Vec<i64> {
         (7, 4, CLIENT, WEIGHTED, 1, 100),
     ] {
         join(&mut table, node, parent, sort, kind, share, depth);
+    }
+    table
+}
+
+/// The table with each client on the port that the function gives its number.
+pub fn with_ports(table: &[i64], port: impl Fn(i64) -> i64) -> Vec<i64> {
+    let mut table = table.to_vec();
+    for client in clients(&table) {
+        table[at(client as usize, PORT)] = port(client);
     }
     table
 }

@@ -224,10 +224,10 @@ fn the_ninth_waiting_request() {
 fn lengths_of_the_dispatch_list() {
     let mut disk = Disk::open(1, 40);
     disk.join(client(5, 0, WEIGHTED, 1, 16)).unwrap();
-    assert_eq!(disk.tick_with(&mut []), Ok(0));
+    assert_eq!(disk.tick_with(&mut [], &mut []), Ok([0, 0]));
     disk.request(5, 0, 12).unwrap();
     disk.request(5, 0, 12).unwrap();
-    assert_eq!(disk.tick_with(&mut [9; 7]), Err(BUFFER_SHORT));
-    assert_eq!(disk.tick_with(&mut [9; 8]), Ok(0));
-    assert_eq!(disk.tick_with(&mut [9; 9]), Ok(0));
+    assert_eq!(disk.tick_with(&mut [9; 7], &mut []), Err(BUFFER_SHORT));
+    assert_eq!(disk.tick_with(&mut [9; 8], &mut []), Ok([0, 0]));
+    assert_eq!(disk.tick_with(&mut [9; 9], &mut []), Ok([0, 0]));
 }

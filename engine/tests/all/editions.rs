@@ -7,7 +7,6 @@ use std::io::Write;
 use std::process::{Command, Stdio};
 
 use crate::support::*;
-use hds_engine::differential::first_difference;
 use hds_engine::faulty::{Editions, Fault, Faulty, FAULTS};
 use hds_engine::load;
 use hds_engine::loads::input;
@@ -709,13 +708,9 @@ fn every_misreading_is_worked_by_hand() {
 
 #[test]
 fn few_runs_tell_every_misreading_by_a_plan() {
+    let mut runs = Runs::new(Profile::Wild);
     for fault in FAULTS.into_iter().filter(|fault| matches!(fault, Fault::WrongEditions(_))) {
-        let found = (0..60).find_map(|seed| {
-            let mut steps = run(seed, 400, Profile::Wild);
-            let mut faulty = Faulty::new(fault);
-            let (position, _) = first_difference(&mut Engine, &mut faulty, &steps)?;
-            Some(steps.swap_remove(position))
-        });
+        let found = runs.shows(fault, 60);
         let is_plan = matches!(
             found,
             Some(Step::Call(

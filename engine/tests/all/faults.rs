@@ -2,7 +2,7 @@
 
 use crate::support::*;
 use hds_engine::differential::{differential, differential_runs, first_difference};
-use hds_engine::faulty::{Fault, Faulty, Pick, Stated, FAULTS};
+use hds_engine::faulty::{Fault, Faulty, Pick, Ports, Stated, FAULTS};
 use hds_engine::judge::{watch, Promise, Violation};
 use hds_engine::order::CLAUSES;
 use hds_engine::random::{run, Profile};
@@ -11,7 +11,7 @@ use hds_engine::table::*;
 use hds_engine::{Controller, Engine};
 
 /// Faults that the judge must object to, with the promise that is broken.
-pub const LOUD: [(Fault, Promise); 29] = [
+pub const LOUD: [(Fault, Promise); 32] = [
     (Fault::CutsFirst, Promise::Client),
     (Fault::ChargesClient, Promise::Client),
     (Fault::SparesRoot, Promise::Disk),
@@ -44,6 +44,10 @@ pub const LOUD: [(Fault, Promise); 29] = [
     // What nobody has left is given once more, or nobody gets what is stated.
     (Fault::WrongStated(Stated::NotTakenOff), Promise::Disk),
     (Fault::WrongStated(Stated::Kept), Promise::Client),
+    // The second list has nothing, or has all twice, or nobody above the client pays for it.
+    (Fault::WrongPorts(Ports::SecondZero), Promise::Client),
+    (Fault::WrongPorts(Ports::SecondTwice), Promise::Disk),
+    (Fault::WrongPorts(Ports::OwnBalances), Promise::Disk),
 ];
 
 /// A list of calls that brings a fault out.
@@ -63,13 +67,19 @@ pub fn scenario(fault: Fault) -> Vec<Step> {
         Fault::RefusesBySize => one_client(1000, 8, 8, 12),
         Fault::CostWraps => one_client(1000, 8, i64::MAX, 12),
         Fault::WrongStated(_) => weight_beside_a_stated_rate(),
+        Fault::WrongPorts(_) => one_client_on(1, 28_000, 8, 1, 30),
         _ => one_client(28_000, 8, 1, 12),
     })
 }
 
 /// One client that always asks for that size.
 fn one_client(rate: i64, depth: i64, size: i64, ticks: usize) -> Vec<Call> {
-    let mut calls = vec![open(rate, depth), Call::Join(client(1, 0, WEIGHTED, 1, depth))];
+    one_client_on(0, rate, depth, size, ticks)
+}
+
+fn one_client_on(port: i64, rate: i64, depth: i64, size: i64, ticks: usize) -> Vec<Call> {
+    let join = Call::Join(on_port(port, client(1, 0, WEIGHTED, 1, depth)));
+    let mut calls = vec![open(rate, depth), join];
     for _ in 0..ticks {
         calls.extend(vec![request(1, size); 8]);
         calls.push(tick());
@@ -202,21 +212,18 @@ fn naming_nobody_breaks_the_disks_promise_alone() {
 
 #[test]
 fn the_differential_finds_every_fault() {
+    let mut runs = [Profile::Wild, Profile::Clean].map(Runs::new);
     for fault in FAULTS {
-        let profile = if fault.needs_wild_runs() { Profile::Wild } else { Profile::Clean };
-        assert!(is_found(fault, profile, 60), "{fault:?}");
+        let runs = &mut runs[usize::from(!fault.needs_wild_runs())];
+        assert!(runs.shows(fault, 60).is_some(), "{fault:?}");
     }
 }
 
 #[test]
 fn few_runs_tell_every_wrong_pick_by_a_tick() {
+    let mut runs = Runs::new(Profile::Family);
     for fault in FAULTS.into_iter().filter(|fault| matches!(fault, Fault::WrongPick(_))) {
-        let found = (0..3).find_map(|seed| {
-            let mut steps = run(seed, 400, Profile::Family);
-            let mut faulty = Faulty::new(fault);
-            let (position, _) = first_difference(&mut Engine, &mut faulty, &steps)?;
-            Some(steps.swap_remove(position))
-        });
+        let found = runs.shows(fault, 12);
         assert!(matches!(found, Some(Step::Call(Call::Tick { .. }))), "{fault:?}: {found:?}");
     }
 }
@@ -254,16 +261,10 @@ fn a_waiting_size_of_the_depth_is_out_of_order() {
 
 #[test]
 fn the_differential_finds_every_lacking_clause() {
+    let mut runs = Runs::new(Profile::Wild);
     for (clause, (name, _)) in CLAUSES.iter().enumerate() {
-        assert!(is_found(Fault::LacksClause(clause), Profile::Wild, 200), "{name}");
+        assert!(runs.shows(Fault::LacksClause(clause), 200).is_some(), "{name}");
     }
-}
-
-fn is_found(fault: Fault, profile: Profile, seeds: u64) -> bool {
-    (0..seeds).any(|seed| {
-        let steps = run(seed, 400, profile);
-        first_difference(&mut Engine, &mut Faulty::new(fault), &steps).is_some()
-    })
 }
 
 #[test]
@@ -288,6 +289,8 @@ fn a_difference_comes_with_a_short_list_of_calls() {
         (Fault::CutsFirst, 8),
         (Fault::KeepsRecord, 5),
         (Fault::InventsCount, 2),
+        (Fault::WrongPorts(Ports::NotStored), 5),
+        (Fault::WrongPorts(Ports::AllOnFirst), 10),
     ] {
         let mut seeds = (0..60).map(|seed| (seed, run(seed, 400, Profile::Clean)));
         let difference = seeds.find_map(|(seed, steps)| {

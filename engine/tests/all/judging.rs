@@ -10,7 +10,7 @@ use hds_engine::random::{run, Profile, Rng};
 use hds_engine::refusal::{BUFFER_SHORT, QUEUE_FULL};
 use hds_engine::steps::{Call, Reply, Step, World};
 use hds_engine::table::*;
-use hds_engine::{Controller, Engine, NewNode};
+use hds_engine::{Controller, Counts, Engine, NewNode};
 
 /// A judge that is told calls, accepted or not, and lists.
 struct Told(Judge);
@@ -23,15 +23,21 @@ impl Told {
     }
 
     fn accepted(&mut self, call: Call) {
-        self.0.observe(&call, Reply::Number(0), &[]);
+        self.0.observe(&call, Reply::Number(0), [&[], &[]]);
     }
 
     fn tick(&mut self, entries: &[Entry]) {
-        self.tick_answers(entries.len() as i64, &entries.concat());
+        self.tick_on_ports([entries, &[]]);
     }
 
-    fn tick_answers(&mut self, answer: i64, list: &[i64]) {
-        self.0.observe(&tick(), Reply::Number(answer), list);
+    fn tick_on_ports(&mut self, entries: [&[Entry]; 2]) {
+        let lists = entries.map(|entries| entries.concat());
+        let counts = entries.map(|entries| entries.len() as i64);
+        self.tick_answers(counts, lists.each_ref().map(Vec::as_slice));
+    }
+
+    fn tick_answers(&mut self, counts: Counts, lists: [&[i64]; 2]) {
+        self.0.observe(&tick(), Reply::Counts(counts), lists);
     }
 
     fn found(&self) -> Vec<(Promise, usize, std::ops::Range<usize>)> {
@@ -73,13 +79,13 @@ fn a_client_counts_only_while_it_waits() {
     assert_eq!(told.found(), []);
     // Refused requests do not make it wait.
     for _ in 0..5 {
-        told.0.observe(&request(5, 1), Reply::Refused(QUEUE_FULL), &[]);
+        told.0.observe(&request(5, 1), Reply::Refused(QUEUE_FULL), [&[], &[]]);
         told.tick(&[]);
     }
     assert_eq!(told.found(), []);
     // Refused ticks bring no rate.
     told.accepted(request(5, 1));
-    (0..5).for_each(|_| told.0.observe(&tick(), Reply::Refused(BUFFER_SHORT), &[]));
+    (0..5).for_each(|_| told.0.observe(&tick(), Reply::Refused(BUFFER_SHORT), [&[], &[]]));
     assert_eq!(told.found(), []);
 }
 
@@ -205,9 +211,57 @@ fn as_many_entries_count_as_the_tick_answers_and_the_list_has() {
         (0, 30, 0),
         (-7, 30, 0),
     ] {
-        let mut told = Told::new(8000, 8);
-        told.tick_answers(answer, &list[..length]);
-        assert_eq!(told.found().len(), broken, "{answer} of {length} numbers");
+        // Whichever list it is.
+        let list = &list[..length];
+        for (counts, lists) in [([answer, 0], [list, &[]]), ([0, answer], [&[], list])] {
+            let mut told = Told::new(8000, 8);
+            told.tick_answers(counts, lists);
+            assert_eq!(told.found().len(), broken, "{answer} of {length} numbers");
+        }
+    }
+}
+
+#[test]
+fn the_entries_of_both_lists_count_together() {
+    // Six of 8 tokens, of which so many stand on the second list.
+    for second in 0..=6 {
+        for (rate, broken) in FORTY_EIGHT_TOKENS {
+            let mut told = Told::new(rate, 8);
+            told.accepted(Call::Join(on_port(1, client(5, 0, WEIGHTED, 1, 8))));
+            let entries = [[5, 0, 1, 5]; 6];
+            told.tick_on_ports([&entries[second..], &entries[..second]]);
+            let found = [(Promise::Disk, 0, 1..2)];
+            assert_eq!(told.found(), found[..broken], "{second}");
+        }
+    }
+    // Class 1 has depth 8 and the rate 8000: 24 tokens on each list.
+    for (share, broken) in [(5000, 0), (4999, 1)] {
+        let mut told = Told::new(16_000, 72);
+        told.accepted(Call::Join(class(1, 0, FIXED, share, 8)));
+        told.tick_on_ports([&[[5, 0, 20, 1]], &[[6, 0, 20, 1]]]);
+        let found = [(Promise::Class, 1, 1..2)];
+        assert_eq!(told.found(), found[..broken]);
+    }
+}
+
+#[test]
+fn an_entry_counts_for_its_client_on_either_list() {
+    // A client of depth 8 and rate 4000 lags 4000 grains, then 0, then 4000, and then just
+    // its depth, whatever its port is.
+    for port in [0, 1] {
+        for list in [0, 1] {
+            let mut told = Told::new(4000, 8);
+            told.accepted(Call::Join(on_port(port, client(5, 0, WEIGHTED, 1, 8))));
+            (0..3).for_each(|_| told.accepted(request(5, 1)));
+            told.tick(&[]);
+            let mut lists: [&[Entry]; 2] = [&[], &[]];
+            lists[list] = &[[5, 7, 1, 5]];
+            told.tick_on_ports(lists);
+            told.tick(&[]);
+            assert_eq!(told.found(), []);
+            told.tick(&[]);
+            assert_eq!(told.found(), [(Promise::Client, 5, 6..8)], "{port} {list}");
+        }
     }
 }
 
@@ -354,8 +408,8 @@ fn counting_sizes_raises_a_false_alarm() {
     // its depth of 8.
     let steps = scenario(Fault::ChargesSize);
     assert_eq!(watch(&mut Engine, &steps), []);
-    assert_eq!(all_pairs(&mut Engine, &steps, cost_of), Ends::new());
-    assert!(all_pairs(&mut Engine, &steps, |size| size).contains_key(&1));
+    assert_eq!(all_pairs(&mut Engine, &steps, BOTH, cost_of), Ends::new());
+    assert!(all_pairs(&mut Engine, &steps, BOTH, |size| size).contains_key(&1));
 }
 
 #[test]
@@ -365,8 +419,8 @@ fn counting_sizes_misses_a_broken_promise() {
     let steps = scenario(Fault::ChargesSize);
     let charges_size = &mut Faulty::new(Fault::ChargesSize);
     assert!(watch(charges_size, &steps).iter().any(|found| found.promise == Promise::Disk));
-    assert!(all_pairs(charges_size, &steps, cost_of).contains_key(&0));
-    assert!(!all_pairs(charges_size, &steps, |size| size).contains_key(&0));
+    assert!(all_pairs(charges_size, &steps, BOTH, cost_of).contains_key(&0));
+    assert!(!all_pairs(charges_size, &steps, BOTH, |size| size).contains_key(&0));
 }
 
 #[test]
@@ -402,7 +456,7 @@ fn the_judge_is_quiet_where_a_family_takes_all_spare() {
     for step in &steps {
         world.run(&mut Engine, step);
         if matches!(step, Step::Call(Call::Tick { .. })) {
-            let list = entries(world.list.inner(), 3);
+            let list = entries(world.lists()[0], 3);
             assert_eq!(list, [[5, 7, 12, 5], [2, 7, 1, 1], [3, 7, 1, 1]]);
             assert_eq!(waiting_in_all(world.table.inner()), 1);
         }
@@ -414,7 +468,7 @@ fn the_judge_takes_any_nonsense() {
     let mut rng = Rng::new(5);
     for seed in 0..20 {
         let mut judge = Judge::default();
-        judge.observe(&open(1000, 40), Reply::Number(0), &[]);
+        judge.observe(&open(1000, 40), Reply::Number(0), [&[], &[]]);
         for step in run(seed, 300, Profile::Wild) {
             let Step::Call(mut call) = step else { continue };
             if let Call::Join(new) = &mut call {
@@ -425,15 +479,20 @@ fn the_judge_takes_any_nonsense() {
                     ..*new
                 };
             }
-            let list: Vec<i64> = (0..40).map(|_| rng.edge(0, 8)).collect();
-            let answer = rng.edge(0, 10);
-            judge.observe(&call, Reply::Number(answer), &list);
+            let list: Vec<i64> = (0..80).map(|_| rng.edge(0, 8)).collect();
+            let counts = [(); 2].map(|()| rng.edge(0, 10));
+            let reply = match call {
+                Call::Tick { .. } => Reply::Counts(counts),
+                _ => Reply::Number(counts[0]),
+            };
+            let (first, second) = list.split_at(rng.below(80));
+            judge.observe(&call, reply, [first, second]);
         }
     }
 }
 
 /// Earliest end of a violation, for each node that has one.
-type Ends = BTreeMap<usize, usize>;
+pub type Ends = BTreeMap<usize, usize>;
 
 #[test]
 fn running_extremes_find_what_all_pairs_find() {
@@ -446,7 +505,8 @@ fn running_extremes_find_what_all_pairs_find() {
         for mut steps in runs {
             steps.truncate(150);
             let quick = earliest(&watch(&mut Faulty::new(fault), &steps));
-            assert_eq!(quick, all_pairs(&mut Faulty::new(fault), &steps, cost_of), "{fault:?}");
+            let all = all_pairs(&mut Faulty::new(fault), &steps, BOTH, cost_of);
+            assert_eq!(quick, all, "{fault:?}");
             loud += quick.len();
         }
     }
@@ -476,10 +536,19 @@ struct Moment {
 /// What an entry of that size counts, in tokens.
 type Count = fn(i64) -> i64;
 
+/// The lists that count.
+type Counted = [bool; 2];
+pub const BOTH: Counted = [true, true];
+
 /// The promises over all pairs of a start and an end, straight from the words
 /// of document 01.
-fn all_pairs(controller: &mut dyn Controller, steps: &[Step], count: Count) -> Ends {
-    let moments = history(controller, steps, count);
+pub fn all_pairs(
+    controller: &mut dyn Controller,
+    steps: &[Step],
+    counted: Counted,
+    count: Count,
+) -> Ends {
+    let moments = history(controller, steps, counted, count);
     let mut ends = Ends::new();
     for end in 0..moments.len() {
         for start in 0..=end {
@@ -509,7 +578,12 @@ fn is_broken(before: &Moment, calls: &[Moment], node: usize, new: &NewNode) -> b
     }
 }
 
-fn history(controller: &mut dyn Controller, steps: &[Step], count: Count) -> Vec<Moment> {
+fn history(
+    controller: &mut dyn Controller,
+    steps: &[Step],
+    counted: Counted,
+    count: Count,
+) -> Vec<Moment> {
     let mut world = World::default();
     let mut moments: Vec<Moment> = Vec::new();
     controller.start();
@@ -522,8 +596,13 @@ fn history(controller: &mut dyn Controller, steps: &[Step], count: Count) -> Vec
                 moments = vec![Moment { tree, disk_rate: rate, ..Moment::default() }];
             }
         } else if let Some(last) = moments.last() {
-            let next = next_moment(last, call, reply, world.list.inner(), count);
-            moments.push(next);
+            let entries = match reply {
+                Some(Reply::Counts(counts)) => entries_of(world.lists(), counts),
+                _ => Default::default(),
+            };
+            let counted = [0, 1].into_iter().filter(|&list| counted[list]);
+            let entries: Vec<Entry> = counted.flat_map(|list| entries[list].clone()).collect();
+            moments.push(next_moment(last, call, reply, &entries, count));
         }
     }
     moments
@@ -533,7 +612,7 @@ fn next_moment(
     last: &Moment,
     call: &Call,
     reply: Option<Reply>,
-    list: &[i64],
+    entries: &[Entry],
     count: Count,
 ) -> Moment {
     let mut next = Moment {
@@ -542,7 +621,9 @@ fn next_moment(
         open_requests: last.open_requests.clone(),
         ..Moment::default()
     };
-    let Some(Reply::Number(answer)) = reply else { return next };
+    if !matches!(reply, Some(Reply::Number(_) | Reply::Counts(_))) {
+        return next;
+    }
     match *call {
         Call::Join(new) => {
             next.tree.insert(new.node as usize, new);
@@ -563,7 +644,7 @@ fn next_moment(
         }
         Call::Tick { .. } => {
             next.rates = last.tree.keys().map(|&node| (node, rate_of(last, node))).collect();
-            for entry in list.chunks(4).take(answer as usize) {
+            for entry in entries {
                 let (client, grains) = (entry[0] as usize, count(entry[2]) * 1000);
                 *next.dispatched.entry(client).or_insert(0) += grains;
                 *next.open_requests.get_mut(&client).unwrap() -= 1;

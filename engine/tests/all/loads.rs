@@ -147,7 +147,7 @@ fn random_inputs_have_everything_in_them() {
     assert_eq!(seen.steps, BTreeSet::from([0, 1, 2, 3, 4]));
     assert_eq!(seen.in_a_tick, BTreeSet::from([0, 1, 2, 3]));
     assert!(seen.drained);
-    let texts: BTreeSet<Vec<u8>> = random(12, 1000).iter().map(|input| load::text(input)).collect();
+    let texts: BTreeSet<Vec<u8>> = random(12, 1500).iter().map(|input| load::text(input)).collect();
     for number in [2, 3, 4, 8, 14, 15, 16] {
         assert!(texts.contains(format!("refused {number}\n").as_bytes()), "{number}");
     }

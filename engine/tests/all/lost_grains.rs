@@ -379,7 +379,7 @@ fn lost_of(controller: &mut dyn Controller) -> [i64; 8] {
         assert_eq!(controller.join(&mut table, &new), Ok(0));
     }
     for _ in 0..2 {
-        assert_eq!(controller.tick(&mut table, &mut []), Ok(0));
+        assert_eq!(controller.tick(&mut table, [&mut [], &mut []]), Ok([0, 0]));
     }
     [0, 1, 2, 3, 4, 5, 6, 7].map(|node| controller.look(&table, node).unwrap()[3])
 }

@@ -12,6 +12,7 @@ mod lost_grains;
 mod observer;
 mod ordering;
 mod plan_files;
+mod ports;
 mod refusals;
 mod renewal;
 mod runs;

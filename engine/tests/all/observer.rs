@@ -6,7 +6,7 @@ use std::collections::{BTreeMap, VecDeque};
 use crate::support::*;
 use hds_engine::faulty::{Fault, Faulty, Pick};
 use hds_engine::random::{run, Profile, Rng};
-use hds_engine::steps::{Call, Reply, Step, World};
+use hds_engine::steps::{Reply, World};
 use hds_engine::{Controller, Engine};
 
 /// What the observer keeps of the nodes of a table, by number.
@@ -18,6 +18,7 @@ struct Observer {
     depths: BTreeMap<i64, i64>,
     /// For each client its requests, oldest first: tag, size, arrival number.
     queues: BTreeMap<i64, VecDeque<[i64; 3]>>,
+    ports: BTreeMap<i64, i64>,
     /// Every node together with each node below it, and with itself.
     lines: Vec<Line>,
 }
@@ -65,8 +66,16 @@ impl Observer {
             rates: of_place(6).collect(),
             depths: of_place(5).map(|(node, depth)| (node, 1000 * depth)).collect(),
             queues,
+            ports: of_place(9).collect(),
             lines,
         }
+    }
+
+    /// Of some entries, those of each port's clients.
+    fn by_port(&self, entries: &[Entry]) -> [Vec<Entry>; 2] {
+        [0, 1].map(|port| {
+            entries.iter().copied().filter(|entry| self.ports[&entry[0]] == port).collect()
+        })
     }
 
     /// What the oldest request of a client needs, in grains.
@@ -125,37 +134,41 @@ impl Observer {
         nearest.into_values().collect()
     }
 
-    /// Follows a tick's list. In step 4 each entry must be a candidate, with no other
-    /// that has fewer steps, or as many and a lower arrival number; at the end there
-    /// is no candidate.
-    fn follow(&mut self, list: &[Entry], met: &mut Met) -> Result<(), String> {
+    /// Follows a tick's lists. In step 4 the next entry of one of them must be the
+    /// candidate that has fewer steps than any other, or as many and a lower arrival
+    /// number; it is the list of the candidate's port. At the end there is no candidate,
+    /// and no entry either.
+    fn follow(&mut self, lists: &[Vec<Entry>; 2], met: &mut Met) -> Result<(), String> {
         let own = self.first_three_steps();
-        if !list.starts_with(&own) {
-            return Err(format!("{list:?} does not start with step 2's {own:?}"));
+        let own = self.by_port(&own);
+        for (list, own) in lists.iter().zip(&own) {
+            if !list.starts_with(own) {
+                return Err(format!("{list:?} does not start with step 2's {own:?}"));
+            }
         }
+        let mut rest = [0, 1].map(|port| lists[port][own[port].len()..].iter());
         let first = self.candidates();
         let mut gone: Vec<Candidate> = Vec::new();
-        for &entry in &list[own.len()..] {
+        loop {
             let candidates = self.candidates();
-            let is_entry = |one: &&Candidate| (one.client, one.supplier) == (entry[0], entry[3]);
-            let Some(&chosen) = candidates.iter().find(is_entry) else {
-                return Err(format!("{entry:?} is none of {candidates:?}"));
+            let goes_before = |one: &Candidate, other: &Candidate| {
+                one.steps < other.steps || one.steps == other.steps && one.arrival < other.arrival
             };
-            for one in &candidates {
-                let fewer = one.steps < chosen.steps;
-                if fewer || one.steps == chosen.steps && one.arrival < chosen.arrival {
-                    return Err(format!("{one:?} goes before {chosen:?}"));
-                }
-            }
+            let is_next =
+                |one: &&Candidate| !candidates.iter().any(|other| goes_before(other, one));
+            let Some(&chosen) = candidates.iter().find(is_next) else { break };
+            let port = self.ports[&chosen.client];
+            let Some(&entry) = rest[port as usize].next() else {
+                return Err(format!("{chosen:?} has a supplier and waits"));
+            };
             count(met, &first, &gone, &candidates, chosen);
             gone.push(chosen);
             if self.dispatch(chosen.client, chosen.supplier) != entry {
-                return Err(format!("{entry:?} is not the oldest of its client"));
+                return Err(format!("{entry:?} is not the oldest of {chosen:?}, which is next"));
             }
         }
-        let left = self.candidates();
-        if !left.is_empty() {
-            return Err(format!("{left:?} have a supplier and wait"));
+        if let Some(entry) = rest.iter_mut().find_map(Iterator::next) {
+            return Err(format!("{entry:?} has no supplier"));
         }
         let waiting = self.queues.values().any(|queue| !queue.is_empty());
         *met.entry("others wait without a supplier").or_default() +=
@@ -222,12 +235,12 @@ fn count(
 const SITUATIONS: usize = 16;
 
 /// Goes through runs of that profile under a controller. What is done after an
-/// accepted tick gets the table before it and after it, and its list.
+/// accepted tick gets the table before it and after it, and its lists.
 fn after_ticks(
     controller: &mut dyn Controller,
     profile: Profile,
     seeds: u64,
-    mut after: impl FnMut(&[i64], &[i64], &[Entry]),
+    mut after: impl FnMut(&[i64], &[i64], &[Vec<Entry>; 2]),
 ) {
     for seed in 0..seeds {
         let mut world = World::default();
@@ -235,9 +248,8 @@ fn after_ticks(
         for step in run(seed, 400, profile) {
             let before = world.table.inner().to_vec();
             let reply = world.run(controller, &step);
-            if let (Step::Call(Call::Tick { .. }), Some(Reply::Number(count))) = (&step, reply) {
-                let list = entries(world.list.inner(), count as usize);
-                after(&before, world.table.inner(), &list);
+            if let Some(Reply::Counts(counts)) = reply {
+                after(&before, world.table.inner(), &entries_of(world.lists(), counts));
             }
         }
     }
@@ -249,9 +261,9 @@ fn every_dispatch_of_step_four_is_the_right_one() {
         [(Profile::Clean, 100, 5), (Profile::Family, 100, 200), (Profile::Wild, 200, 1)]
     {
         let mut met = Met::new();
-        after_ticks(&mut Engine, profile, seeds, |before, after, list| {
+        after_ticks(&mut Engine, profile, seeds, |before, after, lists| {
             let mut observer = Observer::new(before);
-            if let Err(what) = observer.follow(list, &mut met) {
+            if let Err(what) = observer.follow(lists, &mut met) {
                 panic!("{what}");
             }
             assert_eq!(observer, Observer::new(after));
@@ -276,8 +288,8 @@ fn the_observer_objects_to_wrong_picks() {
     ] {
         let mut objections = 0;
         let faulty = &mut Faulty::new(Fault::WrongPick(pick));
-        after_ticks(faulty, Profile::Family, 4, |before, _, list| {
-            let answer = Observer::new(before).follow(list, &mut Met::new());
+        after_ticks(faulty, Profile::Family, 4, |before, _, lists| {
+            let answer = Observer::new(before).follow(lists, &mut Met::new());
             objections += usize::from(answer.is_err());
         });
         assert!(objections > 0, "{pick:?}");
@@ -312,19 +324,24 @@ fn the_numbers_of_the_nodes_do_not_matter_to_step_four() {
     let mut rng = Rng::new(3);
     let mut in_step_four = 0;
     for profile in [Profile::Clean, Profile::Family, Profile::Wild] {
-        after_ticks(&mut Engine, profile, 40, |before, after, list| {
-            let own = Observer::new(before).first_three_steps().len();
+        after_ticks(&mut Engine, profile, 40, |before, after, lists| {
+            let mut observer = Observer::new(before);
+            let own = observer.first_three_steps();
+            let own = observer.by_port(&own);
             let numbers = any_numbers(&mut rng);
             let rename = |entry: &Entry| {
                 let [client, tag, size, supplier] = *entry;
                 [numbers[client as usize], tag, size, numbers[supplier as usize]]
             };
-            let mut expected: Vec<Entry> = list.iter().map(rename).collect();
-            expected[..own].sort_by_key(|entry| entry[0]);
+            let expected = [0, 1].map(|port| {
+                let mut expected: Vec<Entry> = lists[port].iter().map(rename).collect();
+                expected[..own[port].len()].sort_by_key(|entry| entry[0]);
+                expected
+            });
             let mut table = renumbered(before, &numbers);
             assert_eq!(dispatches(&mut Engine, &mut table), expected);
             assert_eq!(table, renumbered(after, &numbers));
-            in_step_four += list.len() - own;
+            in_step_four += lists.concat().len() - own.concat().len();
         });
     }
     assert!(in_step_four > 2000, "{in_step_four}");

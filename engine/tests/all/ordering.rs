@@ -96,8 +96,9 @@ fn every_zero_place_counts() {
     for node in 0..NODES {
         for place in 0..RECORD_LEN {
             let filled = QUEUE + QUEUE_STEP * waiting_count(&sound, node);
-            let zero = !is_used(&sound, node) || (SPARE..QUEUE).contains(&place) || place >= filled;
-            if zero {
+            let is_free = is_used(&sound, node) && place < filled && !(10..16).contains(&place);
+            // Clients 2 and 3 may be on port 1, which their place 9 says.
+            if !is_free || place == 9 && ![2, 3].contains(&node) {
                 assert!(!holds(&[(node, place, 1)]), "node {node}, place {place}");
             }
         }
@@ -276,10 +277,10 @@ fn no_clause_panics_on_any_contents() {
 fn damage_meets_the_limits_of_waiting_sizes() {
     // Client 2 has depth 20, which a size of 16 costs, and client 3 depth 30,
     // which 26 costs. Both are full, so that a depth one less is one too low.
-    let mut rng = Rng::new(4);
+    let mut rng = Rng::new(5);
     let table = sound().table;
     let mut seen = BTreeSet::new();
-    for _ in 0..5000 {
+    for _ in 0..10_000 {
         for step in any(&mut rng, &table) {
             if let Step::Poke { place, value } = step {
                 seen.insert((place, value));

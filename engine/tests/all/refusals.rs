@@ -38,7 +38,7 @@ fn change_rate(rate: i64) -> Call {
 }
 
 fn tick_with(list_len: usize) -> Call {
-    Call::Tick { list_len }
+    Call::Tick { list_lens: [list_len, 0] }
 }
 
 fn look(node: i64) -> Call {
@@ -107,7 +107,8 @@ fn open_makes_the_root_alone() {
 
 #[test]
 fn a_table_out_of_order_comes_first() {
-    let nowhere = NewNode { node: -1, parent: -1, sort: -1, kind: -1, share: -1, depth: -1 };
+    let nowhere =
+        NewNode { node: -1, parent: -1, sort: -1, kind: -1, share: -1, depth: -1, port: -1 };
     let cases: &Cases = &[
         (&[1], Call::Join(client(9, 0, WEIGHTED, 1, 1))),
         (&[1, 2, 3], Call::Join(nowhere)),

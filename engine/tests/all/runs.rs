@@ -7,7 +7,7 @@ use hds_engine::differential::{differential, differential_runs, first_difference
 use hds_engine::random::{run, Profile, Rng};
 use hds_engine::steps::{Call, Reply, Step, World};
 use hds_engine::table::*;
-use hds_engine::{plans, Answer, Controller, Engine, NewNode, Seen};
+use hds_engine::{plans, Answer, Controller, Counts, Engine, Lists, NewNode, Seen};
 
 #[test]
 fn two_hundred_thousand_calls_against_itself() {
@@ -108,8 +108,8 @@ fn clean_runs_reach_deep_trees_and_every_supplier() {
             let before = world.table.inner().to_vec();
             let reply = world.run(&mut Engine, &step);
             let table = world.table.inner();
-            if let (Step::Call(Call::Tick { .. }), Some(Reply::Number(count))) = (&step, reply) {
-                for entry in world.list.inner().chunks(4).take(count as usize) {
+            if let Some(Reply::Counts(counts)) = reply {
+                for entry in entries_of(world.lists(), counts).concat() {
                     supplier_levels.insert(get(&before, entry[3] as usize, LEVEL));
                     client_levels.insert(get(&before, entry[0] as usize, LEVEL));
                 }
@@ -128,13 +128,13 @@ fn clean_runs_reach_deep_trees_and_every_supplier() {
 }
 
 /// How often something happened to requests of a size.
-type Counts = BTreeMap<i64, usize>;
+type Sizes = BTreeMap<i64, usize>;
 
 /// What the requests of some runs met.
 #[derive(Debug, Default)]
 struct Met {
-    accepted: Counts,
-    dispatched: Counts,
+    accepted: Sizes,
+    dispatched: Sizes,
     /// Accepted with a cost of just the depth, and refused with 8: with a cost
     /// one above it, the size itself being the depth, and at the largest size.
     just_fits: usize,
@@ -160,8 +160,8 @@ impl Met {
         }
     }
 
-    fn tick(&mut self, entries: &[i64]) {
-        for entry in entries.chunks(4) {
+    fn tick(&mut self, entries: &[Entry]) {
+        for entry in entries {
             *self.dispatched.entry(entry[2]).or_default() += 1;
         }
     }
@@ -181,8 +181,8 @@ fn met_in_runs(profile: Profile) -> Met {
                         met.request(get(&before, *client as usize, DEPTH), *size, answer);
                     }
                 }
-                (Step::Call(Call::Tick { .. }), Some(Reply::Number(count))) => {
-                    met.tick(&world.list.inner()[..4 * count as usize]);
+                (_, Some(Reply::Counts(counts))) => {
+                    met.tick(&entries_of(world.lists(), counts).concat());
                 }
                 _ => {}
             }
@@ -246,7 +246,7 @@ fn a_list_of_steps_is_shortened_to_what_matters() {
     assert_eq!(short, needed);
 }
 
-/// Panics at a tick with something waiting.
+/// Panics at a tick with a second list for two.
 struct Panicking;
 
 impl Controller for Panicking {
@@ -268,11 +268,11 @@ impl Controller for Panicking {
     fn request(&mut self, table: &mut [i64], client: i64, tag: i64, size: i64) -> Answer<i64> {
         Engine.request(table, client, tag, size)
     }
-    fn tick(&mut self, table: &mut [i64], list: &mut [i64]) -> Answer<i64> {
-        if list.len() == 8 {
+    fn tick(&mut self, table: &mut [i64], lists: Lists) -> Answer<Counts> {
+        if lists[1].len() == 8 {
             std::panic::resume_unwind(Box::new("a panic without a message"));
         }
-        Engine.tick(table, list)
+        Engine.tick(table, lists)
     }
     fn look(&mut self, table: &[i64], node: i64) -> Answer<Seen> {
         Engine.look(table, node)
@@ -293,11 +293,12 @@ impl Controller for Panicking {
 
 #[test]
 fn a_panic_is_a_difference() {
-    let calls = steps(&[open(1000, 40), Call::Tick { list_len: 4 }, Call::Tick { list_len: 8 }]);
+    let ticks = [[8, 4], [0, 8]].map(|list_lens| Call::Tick { list_lens });
+    let calls = [steps(&[open(1000, 40)]), steps(&ticks)].concat();
     let found = first_difference(&mut Engine, &mut Panicking, &calls);
     assert_eq!(found.map(|(position, _)| position), Some(2));
     assert!(first_difference(&mut Panicking, &mut Panicking, &calls).is_some());
     let difference = differential(&mut Engine, &mut Panicking, 11, &calls).unwrap_err();
-    assert_eq!(difference.steps, [Step::Call(Call::Tick { list_len: 8 })]);
+    assert_eq!(difference.steps, [Step::Call(Call::Tick { list_lens: [0, 8] })]);
     assert!(difference.to_string().contains("seed 11"));
 }

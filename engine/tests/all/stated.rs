@@ -679,23 +679,25 @@ fn the_judge_counts_stated_rates() {
             Call::Join(client(6, 0, WEIGHTED, 1, 8)),
             request(node, 1),
         ] {
-            judge.observe(&call, Reply::Number(0), &[]);
+            judge.observe(&call, Reply::Number(0), [&[], &[]]);
         }
         judge
     };
     for (node, quiet) in [(5, 26), (6, 11)] {
         let mut judge = waiting(node);
-        (0..quiet).for_each(|_| judge.observe(&tick(), Reply::Number(0), &[]));
+        let mut idle = || judge.observe(&tick(), Reply::Counts([0, 0]), [&[], &[]]);
+        (0..quiet).for_each(|_| idle());
         assert_eq!(judge.violations(), []);
-        judge.observe(&tick(), Reply::Number(0), &[]);
+        judge.observe(&tick(), Reply::Counts([0, 0]), [&[], &[]]);
         let found = judge.violations().first().expect("a violation");
         assert_eq!((found.promise, found.node), (Promise::Client, node as usize));
     }
     // At a disk rate of 300 nothing is left for client 6, and as much for client 5.
     for (node, ticks, broken) in [(6, 1000, 0), (5, 26, 0), (5, 27, 1)] {
         let mut judge = waiting(node);
-        judge.observe(&change_rate(300), Reply::Number(0), &[]);
-        (0..ticks).for_each(|_| judge.observe(&tick(), Reply::Number(0), &[]));
+        judge.observe(&change_rate(300), Reply::Number(0), [&[], &[]]);
+        let mut idle = || judge.observe(&tick(), Reply::Counts([0, 0]), [&[], &[]]);
+        (0..ticks).for_each(|_| idle());
         assert_eq!(judge.violations().len(), broken, "client {node}");
     }
 }

@@ -4,7 +4,7 @@
 use hds_engine::differential::first_difference;
 use hds_engine::random::{run, Profile};
 use hds_engine::refusal::NOT_IN_ORDER;
-use hds_engine::{Answer, Controller, Engine, NewNode, Seen};
+use hds_engine::{Answer, Controller, Counts, Engine, Lists, NewNode, Seen};
 
 #[derive(Clone, Copy, Debug, PartialEq)]
 enum Name {
@@ -14,7 +14,8 @@ enum Name {
     ChangeShare,
     ChangeRate,
     Request,
-    Tick,
+    TickFirst,
+    TickSecond,
     Look,
     Same,
     PlanRead,
@@ -28,7 +29,7 @@ enum Way {
     Refuses,
     /// Gives every accepted call the same answer, and does the rest right.
     AnswersAlike,
-    /// Leaves table, list and plan buffer as they were.
+    /// Leaves table, lists and plan buffer as they were.
     LeavesBuffers,
 }
 
@@ -87,9 +88,15 @@ impl Controller for Stuck {
         self.make(Name::Request, 1, table, request)
     }
 
-    fn tick(&mut self, table: &mut [i64], list: &mut [i64]) -> Answer<i64> {
-        // Here it is the list that stays; a table that stays is found as well.
-        self.make(Name::Tick, 0, list, |list| Engine.tick(table, list))
+    fn tick(&mut self, table: &mut [i64], [first, second]: Lists) -> Answer<Counts> {
+        // Here it is one of the lists that stays; a table that stays is found as well.
+        match self.0 {
+            Name::TickFirst => self
+                .make(Name::TickFirst, [0, 0], first, |first| Engine.tick(table, [first, second])),
+            _ => self.make(Name::TickSecond, [0, 0], second, |second| {
+                Engine.tick(table, [first, second])
+            }),
+        }
     }
 
     fn look(&mut self, table: &[i64], node: i64) -> Answer<Seen> {
@@ -126,7 +133,8 @@ fn every_stuck_call_is_found() {
         Name::ChangeShare,
         Name::ChangeRate,
         Name::Request,
-        Name::Tick,
+        Name::TickFirst,
+        Name::TickSecond,
         Name::Look,
         Name::Same,
         Name::PlanRead,

@@ -1,9 +1,12 @@
 //! Helpers for the tests.
 
+use hds_engine::differential::first_difference;
+use hds_engine::faulty::{Fault, Faulty};
 use hds_engine::order;
+use hds_engine::random::{run, Profile};
 use hds_engine::steps::{Call, Reply, Step, World};
 use hds_engine::table::*;
-use hds_engine::{Answer, Controller, Engine, NewNode, Seen};
+use hds_engine::{Answer, Controller, Counts, Engine, Lists, NewNode, Seen};
 
 /// A table under the engine, with short calls.
 pub struct Disk {
@@ -57,13 +60,23 @@ impl Disk {
         self.engine.plan_read(plan, &mut self.table)
     }
 
-    pub fn tick_with(&mut self, list: &mut [i64]) -> Answer<i64> {
-        self.engine.tick(&mut self.table, list)
+    pub fn tick_with(&mut self, first: &mut [i64], second: &mut [i64]) -> Answer<Counts> {
+        self.engine.tick(&mut self.table, [first, second])
     }
 
-    /// A tick with a list of just the needed length; gives the dispatches.
-    pub fn tick(&mut self) -> Vec<Entry> {
+    /// A tick with lists of just the needed lengths; gives the dispatches of each port's
+    /// clients.
+    pub fn tick_on_ports(&mut self) -> [Vec<Entry>; 2] {
         dispatches(&mut self.engine, &mut self.table)
+    }
+
+    /// A tick where nothing waits at clients of port 1, with a list of just the needed
+    /// length and an empty second one; gives the dispatches.
+    pub fn tick(&mut self) -> Vec<Entry> {
+        assert_eq!(waiting_by_port(&self.table)[1], 0);
+        let [first, second] = self.tick_on_ports();
+        assert_eq!(second, Vec::<Entry>::new());
+        first
     }
 
     pub fn rate(&mut self, node: i64) -> i64 {
@@ -85,13 +98,16 @@ impl Disk {
     }
 }
 
-/// A controller's tick with a list of just the needed length; gives the dispatches
-/// and sees that the list beyond them stays untouched.
-pub fn dispatches(controller: &mut dyn Controller, table: &mut [i64]) -> Vec<Entry> {
-    let mut list = vec![-77; 4 * waiting_in_all(table)];
-    let count = controller.tick(table, &mut list).unwrap() as usize;
-    assert!(list[4 * count..].iter().all(|&number| number == -77));
-    entries(&list, count)
+/// A controller's tick with lists of just the needed lengths; gives the dispatches of each
+/// list and sees that the lists beyond them stay untouched.
+pub fn dispatches(controller: &mut dyn Controller, table: &mut [i64]) -> [Vec<Entry>; 2] {
+    let mut lists = waiting_by_port(table).map(|count| vec![-77; 4 * count]);
+    let [first, second] = &mut lists;
+    let counts = controller.tick(table, [first, second]).unwrap();
+    for (list, count) in lists.iter().zip(counts) {
+        assert!(list[4 * count as usize..].iter().all(|&number| number == -77));
+    }
+    entries_of(lists.each_ref().map(Vec::as_slice), counts)
 }
 
 /// The first entries of a list.
@@ -99,12 +115,22 @@ pub fn entries(list: &[i64], count: usize) -> Vec<Entry> {
     list.chunks(4).take(count).map(|entry| entry.try_into().unwrap()).collect()
 }
 
+/// The first entries of each list.
+pub fn entries_of(lists: [&[i64]; 2], counts: Counts) -> [Vec<Entry>; 2] {
+    [0, 1].map(|port| entries(lists[port], counts[port] as usize))
+}
+
 pub fn class(node: i64, parent: i64, kind: i64, share: i64, depth: i64) -> NewNode {
-    NewNode { node, parent, sort: CLASS, kind, share, depth }
+    NewNode { node, parent, sort: CLASS, kind, share, depth, port: 0 }
 }
 
 pub fn client(node: i64, parent: i64, kind: i64, share: i64, depth: i64) -> NewNode {
-    NewNode { node, parent, sort: CLIENT, kind, share, depth }
+    NewNode { node, parent, sort: CLIENT, kind, share, depth, port: 0 }
+}
+
+/// The node with another port.
+pub fn on_port(port: i64, new: NewNode) -> NewNode {
+    NewNode { port, ..new }
 }
 
 /// A controller that is watched: a refusal must leave each buffer as it came,
@@ -155,11 +181,15 @@ impl<C: Controller> Controller for Watched<C> {
         self.change(table, |inner, table| inner.request(table, client, tag, size))
     }
 
-    fn tick(&mut self, table: &mut [i64], list: &mut [i64]) -> Answer<i64> {
-        let before = list.to_vec();
-        let answer = self.change(table, |inner, table| inner.tick(table, list));
-        let written = answer.map_or(0, |count| 4 * count as usize);
-        assert!(list[written..] == before[written..], "the list beyond the dispatches was written");
+    fn tick(&mut self, table: &mut [i64], [first, second]: Lists) -> Answer<Counts> {
+        let before = [first.to_vec(), second.to_vec()];
+        let answer =
+            self.change(table, |inner, table| inner.tick(table, [&mut *first, &mut *second]));
+        let counts = answer.unwrap_or([0, 0]);
+        for ((list, before), count) in [first, second].into_iter().zip(&before).zip(counts) {
+            let written = 4 * count as usize;
+            assert!(list[written..] == before[written..], "a list beyond its dispatches");
+        }
         answer
     }
 
@@ -271,7 +301,36 @@ pub fn request(client: i64, size: i64) -> Call {
     Call::Request { client, tag: 7, size }
 }
 
-/// A tick whose list is long enough for anything.
+/// A tick whose lists are long enough for anything.
 pub fn tick() -> Call {
-    Call::Tick { list_len: 4 * 8 * 63 }
+    Call::Tick { list_lens: [4 * 8 * 63; 2] }
+}
+
+/// Runs of a profile from the seeds 0, 1, ..., each made when it is first asked for.
+pub struct Runs {
+    profile: Profile,
+    made: Vec<Vec<Step>>,
+}
+
+impl Runs {
+    pub fn new(profile: Profile) -> Runs {
+        Runs { profile, made: Vec::new() }
+    }
+
+    fn get(&mut self, seed: usize) -> &[Step] {
+        while self.made.len() <= seed {
+            self.made.push(run(self.made.len() as u64, 400, self.profile));
+        }
+        &self.made[seed]
+    }
+
+    /// The step after which the first of so many runs shows a difference between the engine
+    /// and one with that fault.
+    pub fn shows(&mut self, fault: Fault, runs: usize) -> Option<Step> {
+        (0..runs).find_map(|seed| {
+            let steps = self.get(seed);
+            let (position, _) = first_difference(&mut Engine, &mut Faulty::new(fault), steps)?;
+            Some(steps[position].clone())
+        })
+    }
 }

@@ -21,7 +21,7 @@ returns c =
     let call = c .before .before in
     let s = call .before .before in
     let done =
-    rw (toZ-ofZ w64 (s .args .node) (s .fits .node), toZ-ofZ w64 (s .args .parent) (s .fits .parent), toZ-ofZ w64 (s .args .sort) (s .fits .sort), toZ-ofZ w64 (s .args .kind) (s .fits .kind), toZ-ofZ w64 (s .args .share) (s .fits .share), toZ-ofZ w64 (s .args .depth) (s .fits .depth)) at (call .join .ensures) in
+    rw (toZ-ofZ w64 (s .args .node) (s .fits .node), toZ-ofZ w64 (s .args .parent) (s .fits .parent), toZ-ofZ w64 (s .args .sort) (s .fits .sort), toZ-ofZ w64 (s .args .kind) (s .fits .kind), toZ-ofZ w64 (s .args .share) (s .fits .share), toZ-ofZ w64 (s .args .depth) (s .fits .depth), toZ-ofZ w64 (s .args .port) (s .fits .port)) at (call .join .ensures) in
     (toZ-ofZ w64 _ (sfits-of (c .answer-number .ok)) ∙ c .answer-number .ensures ∙ ap exported (done .0), done .1)
 
 pub hds-join-spec : {M : Type 1} → statement M

@@ -27,6 +27,9 @@ whole-requires-5 c κs = search needs
 whole-requires-6 : tie.Need-whole-requires-6
 whole-requires-6 c κs = search needs
 
+whole-requires-7 : tie.Need-whole-requires-7
+whole-requires-7 c κs = search needs
+
 join-requires : tie.Need-join-requires
 join-requires c κs = search needs
 
@@ -39,7 +42,8 @@ same-length c = search needs
 returns : tie.Need-returns
 unfolding joinAnswer
 returns c =
-    let w = c .before .before .before in
+    let last = c .before .before .before in
+    let w = last .before in
     let third = w .before .before .before in
     let node = toZ-ofZ w64 _ (sfits-of (third .before .before .whole .ok)) ∙ third .before .before .whole .ensures in
     let parent = toZ-ofZ w64 _ (sfits-of (third .before .whole2 .ok)) ∙ third .before .whole2 .ensures in
@@ -47,7 +51,8 @@ returns c =
     let kind = toZ-ofZ w64 _ (sfits-of (w .before .before .whole4 .ok)) ∙ w .before .before .whole4 .ensures in
     let share = toZ-ofZ w64 _ (sfits-of (w .before .whole5 .ok)) ∙ w .before .whole5 .ensures in
     let depth = toZ-ofZ w64 _ (sfits-of (w .whole6 .ok)) ∙ w .whole6 .ensures in
-    let joined = rw (node, parent, sort, kind, share, depth) at (c .before .before .join .ensures) in
+    let port = toZ-ofZ w64 _ (sfits-of (last .whole7 .ok)) ∙ last .whole7 .ensures in
+    let joined = rw (node, parent, sort, kind, share, depth, port) at (c .before .before .join .ensures) in
     (c .number-told .ensures .0 ∙ ap numberTold (joined .0) ∙ number-outcome _ done, (c .number-told .ensures .1, joined .1))
 
 pub join-numbers-spec : {M : Type 1} → statement M
@@ -60,6 +65,7 @@ join-numbers-spec =
     whole-requires-4
     whole-requires-5
     whole-requires-6
+    whole-requires-7
     join-requires
     number-told-requires
     same-length

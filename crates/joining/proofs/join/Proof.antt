@@ -26,13 +26,13 @@ use Rattle.joining.proofs.join.Statement.{statement}
 use Rattle.joining.proofs.join.Tie as tie
 
 abbrev join : tie.Start → Join
-join s = asked (s .args .node) (s .args .parent) (s .args .sort) (s .args .kind) (s .args .share) (s .args .depth)
+join s = asked (s .args .node) (s .args .parent) (s .args .sort) (s .args .kind) (s .args .share) (s .args .depth) (s .args .port)
 
 -- The number is that of the definition.
 number : (c : tie.After-join-refusal) → let s = c .before .before in c .join-refusal .result ≡ refusalOf (s .args .table .now) (join s)
 number c =
     let s = c .before .before .fits in
-    rw (toZ-ofZ w64 _ (s .node), toZ-ofZ w64 _ (s .parent), toZ-ofZ w64 _ (s .sort), toZ-ofZ w64 _ (s .kind), toZ-ofZ w64 _ (s .share), toZ-ofZ w64 _ (s .depth)) at (c .join-refusal .ensures .0)
+    rw (toZ-ofZ w64 _ (s .node), toZ-ofZ w64 _ (s .parent), toZ-ofZ w64 _ (s .sort), toZ-ofZ w64 _ (s .kind), toZ-ofZ w64 _ (s .share), toZ-ofZ w64 _ (s .depth), toZ-ofZ w64 _ (s .port)) at (c .join-refusal .ensures .0)
 
 accepted : (c : tie.Else1) → let s = c .before .before .before in refusalOf (s .args .table .now) (join s) ≡ 0
 accepted c = sym (number (c .before)) ∙ c .if1 .left
@@ -46,7 +46,7 @@ start c = c .before .before .before
 natural : (c : tie.After-new-node) → Natural (c .new-node .result) (join (start (accepts c)))
 natural c =
     let s = start (accepts c) .fits in
-    rw (toZ-ofZ w64 _ (s .node), toZ-ofZ w64 _ (s .parent), toZ-ofZ w64 _ (s .sort), toZ-ofZ w64 _ (s .kind), toZ-ofZ w64 _ (s .share), toZ-ofZ w64 _ (s .depth)) at (c .new-node .ensures)
+    rw (toZ-ofZ w64 _ (s .node), toZ-ofZ w64 _ (s .parent), toZ-ofZ w64 _ (s .sort), toZ-ofZ w64 _ (s .kind), toZ-ofZ w64 _ (s .share), toZ-ofZ w64 _ (s .depth), toZ-ofZ w64 _ (s .port)) at (c .new-node .ensures)
 
 -- What is written.
 written : (c : tie.After-write-node) → let s = start (accepts (c .before)) in c .write-node .last .0 ≡ joinedBy (s .args .table .now) (join s)
@@ -55,7 +55,7 @@ written c =
 
 in-order : (c : tie.Else1) → let s = start c in inOrder (renewed (joinedBy (s .args .table .now) (join s))) ≡ true
 unfolding refusalOf joinedBy joinTable
-in-order c = subst (λ (u : List ℤ). inOrder u ≡ true) (kept-new _ _ _ (accepted c)) (join-keeps _ _ _ _ _ _ _ (accepted c))
+in-order c = subst (λ (u : List ℤ). inOrder u ≡ true) (kept-new _ _ _ (accepted c)) (join-keeps _ _ _ _ _ _ _ _ (accepted c))
 
 -- The parent's number.
 parent : (c : tie.After-natural) → c .natural .result ≡ plus (start (accepts (c .before .before .before .before)) .args .parent)
@@ -64,7 +64,7 @@ parent c = natural-of (c .natural .ensures) (start (accepts (c .before .before .
 -- Renewing below it renews everything.
 renews : (c : tie.Else1) → let s = start c in RenewsAll (joinedBy (s .args .table .now) (join s)) (plus (s .args .parent))
 unfolding refusalOf joinedBy
-renews c = join-renews-below _ _ _ _ _ _ _ (accepted c)
+renews c = join-renews-below _ _ _ _ _ _ _ _ (accepted c)
 
 returns : tie.Need-returns
 unfolding refusalOf joinAnswer joinTable

@@ -17,4 +17,7 @@ join-limits-spec =
     (λ c κs. tt)
     (λ c κs. tt)
     (λ c κs. tt)
-    (λ c. tested _ _ (search limits depth 8)))
+    (λ c κs. tt)
+    (λ c κs. tt)
+    (λ c κs. tt)
+    (λ c. tested _ _ (search limits depth 9)))

@@ -15,7 +15,7 @@ use Rattle.joining.proofs.join_refusal.Statement.{statement}
 use Rattle.joining.proofs.join_refusal.Tie as tie
 
 abbrev join : tie.Start → Join
-join s = asked (s .args .node) (s .args .parent) (s .args .sort) (s .args .kind) (s .args .share) (s .args .depth)
+join s = asked (s .args .node) (s .args .parent) (s .args .sort) (s .args .kind) (s .args .share) (s .args .depth) (s .args .port)
 
 abbrev start : tie.Else2 → tie.Start
 start c = c .before .before .before .before
@@ -26,7 +26,7 @@ order c = holds (c .before .in-order .ensures) (c .if1 .left)
 fits : (c : tie.After-join-limits) → c .join-limits .result ≡ joinLimits (join (c .before .before .before))
 fits c =
     let s = c .before .before .before .fits in
-    rw (toZ-ofZ w64 _ (s .node), toZ-ofZ w64 _ (s .parent), toZ-ofZ w64 _ (s .sort), toZ-ofZ w64 _ (s .kind), toZ-ofZ w64 _ (s .share), toZ-ofZ w64 _ (s .depth)) at (c .join-limits .ensures)
+    rw (toZ-ofZ w64 _ (s .node), toZ-ofZ w64 _ (s .parent), toZ-ofZ w64 _ (s .sort), toZ-ofZ w64 _ (s .kind), toZ-ofZ w64 _ (s .share), toZ-ofZ w64 _ (s .depth), toZ-ofZ w64 _ (s .port)) at (c .join-limits .ensures)
 
 within : (c : tie.Else2) → joinLimits (join (start c)) ≡ true
 within c = holds (fits (c .before)) (c .if2 .left)
@@ -34,7 +34,7 @@ within c = holds (fits (c .before)) (c .if2 .left)
 natural : (c : tie.After-new-node) → Natural (c .new-node .result) (join (start (c .before)))
 natural c =
     let s = start (c .before) .fits in
-    rw (toZ-ofZ w64 _ (s .node), toZ-ofZ w64 _ (s .parent), toZ-ofZ w64 _ (s .sort), toZ-ofZ w64 _ (s .kind), toZ-ofZ w64 _ (s .share), toZ-ofZ w64 _ (s .depth)) at (c .new-node .ensures)
+    rw (toZ-ofZ w64 _ (s .node), toZ-ofZ w64 _ (s .parent), toZ-ofZ w64 _ (s .sort), toZ-ofZ w64 _ (s .kind), toZ-ofZ w64 _ (s .share), toZ-ofZ w64 _ (s .depth), toZ-ofZ w64 _ (s .port)) at (c .new-node .ensures)
 
 tree-refusal-requires : tie.Need-tree-refusal-requires
 tree-refusal-requires c κs = judged _ _ _ (natural c) (order (c .before .before .before)) (within (c .before))

@@ -1,4 +1,4 @@
--- `joining::write_node` meets its contract: writing balance 0 changes nothing, since it is 0 already; then six places.
+-- `joining::write_node` meets its contract: writing balance 0 changes nothing, since it is 0 already; then seven places.
 use Prim.Native.Nat.{ℕ, suc}
 use mathlib.Core.Path.{_≡_, refl, sym, ap, _∙_}
 use mathlib.Core.List.{List}
@@ -7,7 +7,7 @@ use native.Mathlib.Numerals.{add-one}
 use borrow.Author.Needs.{needs}
 use lib.IntN.{ℤ, pos}
 use Rattle.numbers.specs.Whole.{plus}
-use Rattle.table.specs.Limits.{sortAt, parentAt, levelAt, kindAt, shareAt, depthAt, balanceAt}
+use Rattle.table.specs.Limits.{sortAt, parentAt, levelAt, kindAt, shareAt, depthAt, portAt, balanceAt}
 use Rattle.table.specs.Places.{place, put}
 use Rattle.table.specs.Tree.{treeOf}
 use Rattle.table.specs.Calls.{joined}
@@ -32,7 +32,8 @@ put-natural-requires-4 c κs = omega arith
 returns : tie.Need-returns
 unfolding joinedBy joined joinOf treeOf plus
 returns c =
-    let depth = c .before in
+    let port = c .before in
+    let depth = port .before .before .before in
     let share = depth .before .before .before in
     let kind = share .before .before .before in
     let level = kind .before .before .before in
@@ -41,13 +42,14 @@ returns c =
     let balance = sort .before .before .before in
     let own = balance .before .before in
     let k = own .before .before .args .new .node in
-    put-then k depthAt (depth .put-natural7 .ensures) refl
+    put-then k portAt (port .put-natural8 .ensures) refl
+    (put-then k depthAt (depth .put-natural7 .ensures) refl
     (put-then k shareAt (share .put-natural6 .ensures) refl
     (put-then k kindAt (kind .put-natural5 .ensures) refl
     (put-then k levelAt (level .put-natural4 .ensures) (ap pos (add-one _ ∙ ap suc (own .natural .ensures)))
     (put-then k parentAt (parent .put-natural3 .ensures) refl
     (put-then k sortAt (sort .put-natural2 .ensures) refl
-    (unwritten k balanceAt (balance .put-natural .ensures) (own .before .before .pre .balance)))))))
+    (unwritten k balanceAt (balance .put-natural .ensures) (own .before .before .pre .balance))))))))
 
 pub write-node-spec : {M : Type 1} → statement M
 write-node-spec =
@@ -59,6 +61,7 @@ write-node-spec =
     (λ c κs. search needs)
     (λ c κs. search needs)
     put-natural-requires-4
+    (λ c κs. search needs)
     (λ c κs. search needs)
     (λ c κs. search needs)
     (λ c κs. search needs)

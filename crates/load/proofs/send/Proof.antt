@@ -70,7 +70,7 @@ go-on-requires : tie.Need-go-on-requires Inv-loop μ-loop
 go-on-requires c κs =
     let inv = head (c .before .before) .loop .inv in
     let some = left (c .before .before) in
-    (omega (arith, inv .1), inv .0 .order some, some, inv .0 .few)
+    (omega (arith, inv .1), inv .0 .loaded some, some, inv .0 .few)
 
 array-share-prefix-text-2 : tie.Need-array-share-prefix-text-2 Inv-loop μ-loop
 array-share-prefix-text-2 c = search needs

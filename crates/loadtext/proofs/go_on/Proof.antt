@@ -10,7 +10,7 @@ slice-aggregate-list-clients : tie.Need-slice-aggregate-list-clients
 slice-aggregate-list-clients c = search needs
 
 list-clients-requires : tie.Need-list-clients-requires
-list-clients-requires c κs = (facts _ (c .before .before .before .pre .1) .long, omega arith)
+list-clients-requires c κs = (facts _ (c .before .before .before .pre .1 .order) .long, omega arith)
 
 array-share-prefix-nodes : tie.Need-array-share-prefix-nodes
 array-share-prefix-nodes c = search needs

@@ -3,12 +3,12 @@ use mathlib.Core.Path.{refl, ap}
 use borrow.Author.Needs.{needs}
 use Rattle.text.proofs.Appending.{append-as}
 use Rattle.loadtext.specs.Text.{tickLines}
-use Rattle.loadtext.proofs.Seams.{request-order, next-entries, next-load}
+use Rattle.loadtext.proofs.Seams.{request-loaded, next-entries, next-load}
 use Rattle.loadtext.proofs.put_next.Statement.{statement}
 use Rattle.loadtext.proofs.put_next.Tie as tie
 
 ask-requires : tie.Need-ask-requires
-ask-requires c κs = search needs
+ask-requires c κs = let start = c .before .before .before in (start .pre .1 .order, start .pre .2)
 
 add-made : tie.Need-add-made
 add-made c = search needs
@@ -17,7 +17,7 @@ put-tick-requires : tie.Need-put-tick-requires
 put-tick-requires c κs =
     let asking = c .before .before .before .before .before in
     let start = asking .before .before .before .before in
-    (start .pre .0, request-order _ _ _ (asking .ask .ensures) (start .pre .1), start .pre .3)
+    (start .pre .0, request-loaded _ _ _ (asking .ask .ensures) (start .pre .1), start .pre .3)
 
 same-length : tie.Need-same-length
 same-length c = search needs

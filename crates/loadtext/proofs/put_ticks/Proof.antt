@@ -52,7 +52,7 @@ put-next-requires c κs =
     let inv = head (room c) .loop .inv in
     let begin = start (head (room c)) in
     let short = leb-true (head (room c) .loop .next .length) lastPlace (room c .if2 .taken) in
-    (omega (arith, short, inv .3, begin .pre .0), inv .0 .order, inv .6, omega (arith, inv .5), omega (arith, inv .0 .within, begin .pre .4))
+    (omega (arith, short, inv .3, begin .pre .0), inv .0 .loaded, inv .6, omega (arith, inv .5), omega (arith, inv .0 .within, begin .pre .4))
 
 loop-less : tie.Need-loop-less Inv-loop μ-loop
 loop-less c = let put = c .before .before .before .before in omega (arith, put .put-next .ensures .1 .1 .0)
@@ -71,7 +71,7 @@ loop-again c =
       search needs,
       search needs,
       search needs,
-      inv .6 ∙ sym (after-clients _ (inv .0 .order)) ∙ sym (ap (λ (l : Load). clients (l .table)) (call .1 .0)),
+      inv .6 ∙ sym (after-clients _ (inv .0 .loaded .order)) ∙ sym (ap (λ (l : Load). clients (l .table)) (call .1 .0)),
     )
 
 same-length : tie.Need-same-length Inv-loop μ-loop

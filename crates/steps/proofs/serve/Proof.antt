@@ -6,70 +6,88 @@ use mathlib.Core.List.{List}
 use native.Mathlib.Omega.{arith}
 use lib.ListN.{length}
 use lib.IntN.{ℤ}
+use Rattle.table.specs.Limits.{firstPort, secondPort}
 use Rattle.table.specs.Places.{waiting}
 use Rattle.table.specs.Tick.{ready}
 use Rattle.ticklaws.proofs.Served.{ready-facts}
 use Rattle.steps.specs.Steps.{Serving, serving}
-use Rattle.steps.proofs.Shows.{Going, going-first, going-next, going-done}
-use Rattle.steps.proofs.Serving.{serving-within, served-own, served-falls, serving-turn, serving-done}
+use Rattle.steps.proofs.Shows.{Going, going-first, going-next, going-done, Turn, entry-room}
+use Rattle.steps.proofs.Serving.{serving-within, served-own, serving-turn, serving-done}
 use Rattle.steps.proofs.serve.Statement.{statement}
 use Rattle.steps.proofs.serve.Tie as tie
 
 abbrev Inv-loop : tie.InvT-loop
-Inv-loop table₀ list₀ n k written₀ table list written =
-    (length table ≡ length table₀) × (length list ≡ length list₀) × Going Serving (serving k) table₀ list₀ n table list written
+Inv-loop table₀ first₀ second₀ k n table first second written =
+    (length table ≡ length table₀)
+    × (length first ≡ length first₀)
+    × (length second ≡ length second₀)
+    × Going Serving (serving k) table₀ first₀ second₀ n table first second written
 
 abbrev μ-loop : tie.MeasureT-loop
-μ-loop table₀ list₀ n k written₀ table list written = waiting table k
+μ-loop table₀ first₀ second₀ k n table first second written = waiting table k
 
 loop-holds : tie.Need-loop-holds Inv-loop μ-loop
-loop-holds c = (refl, refl, going-first Serving _ _ _ _ (c .pre .0) (c .pre .2))
+loop-holds c = (refl, refl, refl, going-first Serving _ _ _ _ _ (c .pre .0) (c .pre .2) (c .pre .3))
 
 ready-requires : tie.Need-ready-requires Inv-loop μ-loop
-ready-requires c κs = (serving-within _ (c .before .loop .inv .2 .on), c .before .before .pre .1)
+ready-requires c κs = (serving-within _ (c .before .loop .inv .3 .on), c .before .before .pre .1)
 
--- From a turn back to the loop, and from its end to its beginning.
+-- From a turn back to the loop.
 abbrev at : tie.Then1 Inv-loop μ-loop → tie.At-loop Inv-loop μ-loop
 at c = c .before .before .before
-
-abbrev turn : tie.After-list Inv-loop μ-loop → tie.Then1 Inv-loop μ-loop
-turn c = c .before .before .before .before .before
 
 -- The client is ready in a turn.
 found : (c : tie.Then1 Inv-loop μ-loop) → ready (at c .loop .table) (at c .before .args .k) ≡ true
 found c = sym (c .before .ready .ensures) ∙ c .if1 .taken
 
+turn : (c : tie.Then1 Inv-loop μ-loop) → let here = at c in Turn Serving (serving (here .before .args .k)) (here .loop .table) (here .before .args .k) (here .before .args .k)
+turn c = let here = at c in serving-turn (here .before .args .k) (here .loop .table) (here .loop .inv .3 .on) (here .before .pre .1) (found c)
+
 dispatch-requires : tie.Need-dispatch-requires Inv-loop μ-loop
 dispatch-requires c κs =
-    let here = at (c .before .before) in
+    let then : tie.Then1 Inv-loop μ-loop = c .before .before .before in
+    let here = at then in
     let hk = here .before .pre .1 in
-    let e = found (c .before .before) in
-    let on = here .loop .inv .2 .on in
-    (serving-within _ on, hk, hk, ready-facts _ _ e .waits, omega (arith, here .loop .inv .2 .room, served-falls (here .loop .table) on _ hk e))
+    let going = here .loop .inv .3 in (
+      serving-within _ (going .on),
+      hk,
+      hk,
+      ready-facts _ _ (found then) .waits,
+      entry-room _ _ _ _ _ (turn then) firstPort _ _ (going .first),
+      entry-room _ _ _ _ _ (turn then) secondPort _ _ (going .second),
+    )
 
-add-written : tie.Need-add-written Inv-loop μ-loop
-add-written c = let here = at (turn c) in omega (arith, here .before, here .loop .inv .2 .room, here .loop .inv .1)
+-- From the end of a turn back to its dispatch, and from there to its beginning.
+abbrev made : tie.After-second Inv-loop μ-loop → tie.After-dispatch Inv-loop μ-loop
+made c = c .before .before .before
+
+abbrev then : tie.After-dispatch Inv-loop μ-loop → tie.Then1 Inv-loop μ-loop
+then c = c .before .before .before .before
 
 loop-less : tie.Need-loop-less Inv-loop μ-loop
 loop-less c =
-    let here = at (turn c) in
+    let here = at (then (made c)) in
     let k = here .before .args .k in
     omega (
       arith,
-      served-own (here .loop .table) (here .loop .inv .2 .on) k (here .before .pre .1) (found (turn c)),
-      ap (λ (u : List ℤ). waiting u k) (c .before .before .dispatch .ensures .0),
+      served-own (here .loop .table) (here .loop .inv .3 .on) k (here .before .pre .1) (found (then (made c))),
+      ap (λ (u : List ℤ). waiting u k) (made c .dispatch .ensures .0),
     )
 
 loop-again : tie.Need-loop-again Inv-loop μ-loop
 loop-again c =
-    let start = at (turn c) .before in
-    let at = at (turn c) .loop in
-    let made = c .before .before .dispatch in (
-      made .kept .0 ∙ at .inv .0,
-      made .kept .1 .0 ∙ at .inv .1,
-      going-next Serving _ _ _ _ (at .table) (at .list) (at .written) (start .args .k) (start .args .k) (at .inv .2)
-          (serving-turn (start .args .k) (at .table) (at .inv .2 .on) (start .pre .1) (found (turn c)))
-          _ _ (made .ensures .0) (made .ensures .1) (made .kept .1 .0),
+    let at = at (then (made c)) .loop in
+    let done = made c .dispatch in
+    let first = done .ensures .1 .0 in
+    let second = done .ensures .1 .1 .0 in
+    let counts = done .ensures .1 .1 .1 in (
+      done .kept .0 ∙ at .inv .0,
+      done .kept .1 .0 ∙ at .inv .1,
+      done .kept .1 .1 .0 ∙ at .inv .2,
+      going-next Serving _ _ _ _ _ (at .table) (at .first) (at .second) (at .written) _ _ (at .inv .3) (turn (then (made c))) _ _ _ _
+          (done .ensures .0)
+          (record { list = first; count = counts .0; long = done .kept .1 .0 })
+          (record { list = second; count = counts .1; long = done .kept .1 .1 .0 }),
     )
 
 same-length : tie.Need-same-length Inv-loop μ-loop
@@ -78,10 +96,13 @@ same-length c = c .before .before .before .loop .inv .0
 same-length-2 : tie.Need-same-length-2 Inv-loop μ-loop
 same-length-2 c = c .before .before .before .loop .inv .1
 
+same-length-3 : tie.Need-same-length-3 Inv-loop μ-loop
+same-length-3 c = c .before .before .before .loop .inv .2
+
 returns : tie.Need-returns Inv-loop μ-loop
 returns c =
     let at = c .before .before .before .loop in
-    going-done Serving _ _ _ _ _ _ _ (at .inv .2) (serving-done _ (at .table) (sym (c .before .ready .ensures) ∙ c .if1 .left))
+    going-done Serving _ _ _ _ _ _ _ _ _ (at .inv .3) (serving-done _ (at .table) (sym (c .before .ready .ensures) ∙ c .if1 .left))
 
 pub serve-spec : {M : Type 1} → statement M
 serve-spec =
@@ -92,9 +113,9 @@ serve-spec =
     loop-holds
     ready-requires
     dispatch-requires
-    add-written
     loop-less
     loop-again
     same-length
     same-length-2
+    same-length-3
     returns)

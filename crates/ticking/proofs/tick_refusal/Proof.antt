@@ -1,4 +1,4 @@
--- `ticking::tick_refusal` meets its contract: each cause in turn.
+-- `ticking::tick_refusal` meets its contract: each cause in turn, the second for either list.
 use Prim.Native.Nat.{_*_}
 use mathlib.Core.Path.{_≡_, sym, ap, _∙_}
 use mathlib.Core.Bool.{true, not}
@@ -6,16 +6,17 @@ use native.Mathlib.Omega.{arith}
 use borrow.Author.Needs.{needs}
 use borrow.Author.Tests.{not-false, lt-ltb, le-ltb}
 use lib.ListN.{length}
-use Rattle.table.specs.Limits.{entryLength}
+use Rattle.numbers.proofs.Tests.{or-true-left, or-true-right}
+use Rattle.table.specs.Limits.{entryLength, firstPort, secondPort}
 use Rattle.table.specs.Order.{inOrder}
-use Rattle.table.specs.Tick.{allWaiting, tickRefusal}
+use Rattle.table.specs.Tick.{portWaiting, listShort, tickRefusal}
 use Rattle.table.proofs.Facts.{facts}
 use Rattle.table.proofs.Refusals.{first-here, first-past, first-end}
 use Rattle.ticking.proofs.Waiting.{few}
 use Rattle.ticking.proofs.tick_refusal.Statement.{statement}
 use Rattle.ticking.proofs.tick_refusal.Tie as tie
 
-abbrev start : tie.After-all-waiting → tie.Start
+abbrev start : tie.After-waiting-by-port → tie.Start
 start c = c .before .before .before
 
 order : (c : tie.Else1) → let s = c .before .before in inOrder (s .args .table .now) ≡ true
@@ -28,33 +29,56 @@ returns : tie.Need-returns
 unfolding tickRefusal
 returns c = (sym (first-here 1 _ _ (ap not (sym (c .before .in-order .ensures)) ∙ c .if1 .taken)), omega arith)
 
-all-waiting-requires : tie.Need-all-waiting-requires
-all-waiting-requires c κs = order c
+waiting-by-port-requires : tie.Need-waiting-by-port-requires
+waiting-by-port-requires c κs = order c
 
 mul-if2 : tie.Need-mul-if2
-mul-if2 c = let f = few _ (facts _ (order (c .before))) in omega (arith, f, c .all-waiting .ensures)
+mul-if2 c =
+    let counted = c .before in
+    let f = few _ (facts _ (order (counted .before))) firstPort in
+    omega (arith, f, counted .waiting-by-port .ensures .0)
 
 returns-2 : tie.Need-returns-2
-unfolding tickRefusal
+unfolding tickRefusal listShort
 returns-2 c =
-    let s = start (c .before) in (
-      sym
-          (first-past 1 _ _ (ap not (order (c .before .before)))
-          ∙ first-here 13 _ _ (lt-ltb (length (s .args .list .now)) (entryLength * allWaiting (s .args .table .now)) (omega (arith, c .if2 .taken, c .before .all-waiting .ensures)))),
-      omega arith,
-    )
+    let counted = c .before .before in
+    let s = start counted .args in
+    let short = lt-ltb (length (s .first .now)) (entryLength * portWaiting (s .table .now) firstPort) (omega (arith, c .if2 .taken, counted .waiting-by-port .ensures .0)) in
+    (sym (first-past 1 _ _ (ap not (order (counted .before))) ∙ first-here 13 _ _ (rw short)), omega arith)
+
+mul-if3 : tie.Need-mul-if3
+mul-if3 c =
+    let counted = c .before .before .before in
+    let f = few _ (facts _ (order (counted .before))) secondPort in
+    omega (arith, f, counted .waiting-by-port .ensures .1)
 
 returns-3 : tie.Need-returns-3
-unfolding tickRefusal
+unfolding tickRefusal listShort
 returns-3 c =
-    let s = start (c .before) in (
-      sym
-          (first-past 1 _ _ (ap not (order (c .before .before)))
-          ∙ first-past 13 _ _ (le-ltb (length (s .args .list .now)) (entryLength * allWaiting (s .args .table .now)) (omega (arith, c .if2 .left, c .before .all-waiting .ensures)))
-          ∙ first-end),
-      omega arith,
-    )
+    let counted = c .before .before .before .before in
+    let s = start counted .args in
+    let long = le-ltb (length (s .first .now)) (entryLength * portWaiting (s .table .now) firstPort) (omega (arith, c .before .before .if2 .left, counted .waiting-by-port .ensures .0)) in
+    let short = lt-ltb (length (s .second .now)) (entryLength * portWaiting (s .table .now) secondPort) (omega (arith, c .if3 .taken, counted .waiting-by-port .ensures .1)) in
+    (sym (first-past 1 _ _ (ap not (order (counted .before))) ∙ first-here 13 _ _ (rw (long, short))), omega arith)
+
+returns-4 : tie.Need-returns-4
+unfolding tickRefusal listShort
+returns-4 c =
+    let counted = c .before .before .before .before in
+    let s = start counted .args in
+    let long₀ = le-ltb (length (s .first .now)) (entryLength * portWaiting (s .table .now) firstPort) (omega (arith, c .before .before .if2 .left, counted .waiting-by-port .ensures .0)) in
+    let long₁ = le-ltb (length (s .second .now)) (entryLength * portWaiting (s .table .now) secondPort) (omega (arith, c .if3 .left, counted .waiting-by-port .ensures .1)) in
+    (sym (first-past 1 _ _ (ap not (order (counted .before))) ∙ first-past 13 _ _ (rw (long₀, long₁)) ∙ first-end), omega arith)
 
 pub tick-refusal-spec : {M : Type 1} → statement M
 tick-refusal-spec =
-    tie.close (tie.spec in-order-requires returns all-waiting-requires mul-if2 returns-2 returns-3)
+    tie.close
+    (tie.spec
+    in-order-requires
+    returns
+    waiting-by-port-requires
+    mul-if2
+    returns-2
+    mul-if3
+    returns-3
+    returns-4)

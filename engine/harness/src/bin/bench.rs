@@ -15,7 +15,7 @@ use hds_engine::plan::{Edition, Plan};
 use hds_engine::table::{
     at, classes, get, waiting_in_all, BALANCE, CLIENT, DEPTH, NODES, PARENT, ROOT, WEIGHTED,
 };
-use hds_engine::{Controller, Engine, NewNode};
+use hds_engine::{Controller, Engine, Lists, NewNode};
 
 /// Copies of a table that are used in turn within a round; they fit into the second cache together.
 const COPIES: usize = 16;
@@ -28,8 +28,8 @@ const LOAD_TURNS: usize = 15;
 /// The load's ratio at most.
 const LOAD_BOUND: f64 = 1.00;
 
-/// A call to be measured, on a table and a list.
-type Call = Box<dyn Fn(&mut dyn Controller, &mut [i64], &mut [i64])>;
+/// A call to be measured, on a table and the lists of a tick.
+type Call = Box<dyn Fn(&mut dyn Controller, &mut [i64], Lists)>;
 
 /// What is measured: its name, the table before it, the call.
 type Case = (&'static str, Vec<i64>, Call);
@@ -92,7 +92,12 @@ fn cases() -> Vec<Case> {
                 trees::fill(&mut table, each, most, size);
                 balances(&mut table);
                 check(what, &table);
+                let both = trees::with_ports(&table, |client| client % 2);
                 cases.push((name(&format!("tick, {waiting}, {what}")), table, Box::new(tick)));
+                if waiting == "every queue full" {
+                    let row = name(&format!("tick, {waiting}, {what}, on both ports"));
+                    cases.push((row, both, Box::new(tick)));
+                }
             }
         }
         let mut waiting = table.clone();
@@ -114,11 +119,12 @@ fn cases() -> Vec<Case> {
     cases
 }
 
-/// Sees that a tick of this table does what the case says.
+/// Sees that a tick of this table, whose clients are on port 0, does what the case says.
 fn check(what: &str, table: &[i64]) {
     let waiting = waiting_in_all(table);
     let mut list = vec![-1; 4 * waiting];
-    let gone = Engine.tick(&mut table.to_vec(), &mut list).expect("a tick") as usize;
+    let counts = Engine.tick(&mut table.to_vec(), [&mut list, &mut []]).expect("a tick");
+    let gone = counts[0] as usize;
     let from_root = list.chunks(4).filter(|entry| entry[3] == 0).count();
     let from_class = list.chunks(4).take(gone).filter(|entry| is_parent(table, entry)).count();
     let right = match what {
@@ -142,13 +148,14 @@ fn look_at(node: i64) -> Call {
     Box::new(move |controller, table, _| assert!(controller.look(table, node).is_ok()))
 }
 
-fn request(controller: &mut dyn Controller, table: &mut [i64], _: &mut [i64]) {
+fn request(controller: &mut dyn Controller, table: &mut [i64], _: Lists) {
     let client = trees::last_client(table);
     assert!(controller.request(table, client, 7, 1).is_ok());
 }
 
 fn join_and_leave(parent: i64) -> Call {
-    let new = NewNode { node: 63, parent, sort: CLIENT, kind: WEIGHTED, share: 5, depth: 1 };
+    let (node, sort, kind) = (63, CLIENT, WEIGHTED);
+    let new = NewNode { node, parent, sort, kind, share: 5, depth: 1, port: 0 };
     Box::new(move |controller, table, _| {
         assert!(controller.join(table, &new).is_ok());
         assert!(controller.leave(table, 63).is_ok());
@@ -161,8 +168,8 @@ fn change_share(node: i64) -> Call {
     })
 }
 
-fn tick(controller: &mut dyn Controller, table: &mut [i64], list: &mut [i64]) {
-    assert!(controller.tick(table, list).is_ok());
+fn tick(controller: &mut dyn Controller, table: &mut [i64], lists: Lists) {
+    assert!(controller.tick(table, lists).is_ok());
 }
 
 /// Reads the plan of a table in an edition.
@@ -209,7 +216,7 @@ fn stepped(number: i64) -> i64 {
 fn measure(rounds: usize, table: &[i64], call: &Call) -> [f64; 2] {
     let mut times = [Vec::new(), Vec::new()];
     let mut copies = vec![table.to_vec(); COPIES];
-    let mut list = vec![0; 4 * 8 * 63];
+    let mut lists = [vec![0; 4 * 8 * 63], vec![0; 4 * 8 * 63]];
     for _ in 0..rounds {
         for which in [0, 1] {
             let controller: &mut dyn Controller =
@@ -221,7 +228,8 @@ fn measure(rounds: usize, table: &[i64], call: &Call) -> [f64; 2] {
                 }
                 let began = Instant::now();
                 for copy in &mut copies {
-                    call(controller, black_box(copy), black_box(&mut list));
+                    let lists = lists.each_mut().map(Vec::as_mut_slice);
+                    call(controller, black_box(copy), black_box(lists));
                 }
                 nanoseconds += began.elapsed().as_nanos();
             }

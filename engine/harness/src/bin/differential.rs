@@ -1,8 +1,8 @@
 //! The second engine and the archive, call by call: after each call the answers, all lent buffers and the guards around
 //! them are compared. `differential [random calls] [first seed]`. All runs of the archive but the wild ones stand before
 //! demand 3's judge too, and each faulty engine must be told from the archive, wrong renewals of rates by the scenes of
-//! changes too, and misread stated rates and editions of plans by the scenes of these. The last line counts scenes, runs,
-//! judged runs and faulty engines.
+//! changes too, and misread stated rates, editions of plans and ports by the scenes of these. The last line counts scenes,
+//! runs, judged runs and faulty engines.
 
 use std::process::ExitCode;
 use std::time::Instant;
@@ -74,15 +74,17 @@ fn compare(most: usize, first: u64) -> Result<Counts, String> {
     }
     counts.calls += random;
     let (changes, stated) = (scenes::changes(), scenes::stated());
-    let editions = scenes::editions();
+    let (editions, ports) = (scenes::editions(), scenes::ports());
+    let mut runs = Runs::default();
     for fault in FAULTS.into_iter().filter(|&fault| fault != Fault::None) {
         let told_by_scenes = match fault {
             Fault::WrongRenewal(_) => told_by(fault, &changes),
             Fault::WrongStated(_) => told_by(fault, &stated),
             Fault::WrongEditions(_) => told_by(fault, &editions),
+            Fault::WrongPorts(_) => told_by(fault, &ports),
             _ => true,
         };
-        if !told_apart(fault) || !told_by_scenes {
+        if !told_apart(fault, &mut runs) || !told_by_scenes {
             return Err(format!("{fault:?} was not told from the archive"));
         }
         counts.faults += 1;
@@ -96,13 +98,29 @@ fn told_by(fault: Fault, scenes: &[Scene]) -> bool {
     scenes.iter().any(|(_, steps)| first_difference(&mut faulty, &mut Cabinet, steps).is_some())
 }
 
+/// Runs that tell faulty engines apart, each made when it is first asked for.
+#[derive(Default)]
+struct Runs(Vec<Vec<Step>>);
+
+impl Runs {
+    /// So many there are.
+    const COUNT: usize = 398;
+
+    fn get(&mut self, index: usize) -> &[Step] {
+        while self.0.len() <= index {
+            let next = self.0.len();
+            let profile = [Profile::Wild, Profile::Family][next % 2];
+            self.0.push(run(1 + next as u64 / 2, LENGTH, profile));
+        }
+        &self.0[index]
+    }
+}
+
 /// Whether some run shows a difference between a faulty engine and the archive.
-fn told_apart(fault: Fault) -> bool {
-    let profiles = [Profile::Wild, Profile::Family];
-    let mut kinds = (1..200).flat_map(|seed| profiles.map(|profile| (seed, profile)));
-    kinds.any(|(seed, profile)| {
-        let steps = run(seed, LENGTH, profile);
-        first_difference(&mut Faulty::new(fault), &mut Cabinet, &steps).is_some()
+fn told_apart(fault: Fault, runs: &mut Runs) -> bool {
+    (0..Runs::COUNT).any(|index| {
+        let mut faulty = Faulty::new(fault);
+        first_difference(&mut faulty, &mut Cabinet, runs.get(index)).is_some()
     })
 }
 

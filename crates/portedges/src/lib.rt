@@ -1,0 +1,1 @@
+// The edges of two ports, proved together in proofs/. No functions.

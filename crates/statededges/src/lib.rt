@@ -1,0 +1,1 @@
+// The edges of stated rates, proved together in proofs/. No functions.
