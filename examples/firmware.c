@@ -1,8 +1,9 @@
 /*
  * A cabinet's firmware in small: it checks plans, then runs one editing suite
- * with two streams and a backup beside it; at the end a playout desk joins. It
- * prints every answer and every dispatch; firmware.out is worked out from
- * documents 01 and 02 by hand.
+ * with two streams and a backup beside it; at the end a playout desk joins. The
+ * streams are at the host on the first port, backup and desk at the host on the
+ * second. It prints every answer and every dispatch; firmware.out is worked out
+ * from documents 01 and 02 by hand.
  */
 #include <inttypes.h>
 #include <stdio.h>
@@ -11,10 +12,9 @@
 #include "hds.h"
 
 #define TABLE table, HDS_TABLE_LENGTH
-#define LIST list, HDS_LONGEST_LIST
 
 static int64_t table[HDS_TABLE_LENGTH];
-static int64_t list[HDS_LONGEST_LIST];
+static int64_t lists[HDS_PORTS][HDS_LONGEST_LIST];
 
 static void answer(const char *call, int64_t number)
 {
@@ -36,17 +36,25 @@ static void look(int64_t node)
                seen[HDS_SEEN_RATE], seen[HDS_SEEN_BALANCE], seen[HDS_SEEN_WAITING], seen[HDS_SEEN_LOST]);
 }
 
-static void tick(void)
+/* Hands a host what goes to its port. */
+static void host(int port, const int64_t *list, int64_t count)
 {
-    int64_t count = hds_tick(TABLE, LIST);
-
-    answer("tick", count);
     for (int64_t i = 0; i < count; i++) {
         const int64_t *entry = list + HDS_ENTRY_LENGTH * i;
 
-        printf("  client %" PRId64 ", tag %" PRId64 ", size %" PRId64 ", supplier %" PRId64 "\n", entry[HDS_ENTRY_CLIENT],
-               entry[HDS_ENTRY_TAG], entry[HDS_ENTRY_SIZE], entry[HDS_ENTRY_SUPPLIER]);
+        printf("  host %d: client %" PRId64 ", tag %" PRId64 ", size %" PRId64 ", supplier %" PRId64 "\n", port,
+               entry[HDS_ENTRY_CLIENT], entry[HDS_ENTRY_TAG], entry[HDS_ENTRY_SIZE], entry[HDS_ENTRY_SUPPLIER]);
     }
+}
+
+/* A tick with so many numbers on each list. */
+static void tick(size_t first, size_t second)
+{
+    int64_t counts[HDS_PORTS] = {0, 0};
+
+    answer("tick", hds_tick(TABLE, lists[HDS_FIRST_PORT], first, lists[HDS_SECOND_PORT], second, counts));
+    for (int port = 0; port < HDS_PORTS; port++)
+        host(port, lists[port], counts[port]);
 }
 
 /* Checks a plan, reads it and writes it again. */
@@ -73,7 +81,7 @@ static void plans(void)
     printf("%s\n", memcmp(buffer, good, sizeof good) == 0 ? "the same bytes" : "other bytes");
 }
 
-/* Writes the plan of a tree with a stated node, and reads it into another table. */
+/* Writes the plan of a tree with a stated node and two ports, and reads it into another table. */
 static void save(void)
 {
     static int64_t other[HDS_TABLE_LENGTH];
@@ -85,6 +93,9 @@ static void save(void)
     answer("write, second edition", length);
     answer("read", hds_plan_read(other, HDS_TABLE_LENGTH, buffer, (size_t)length));
     answer("same", hds_same(TABLE, other, HDS_TABLE_LENGTH));
+    /* Plans have no ports: in the other table all are on the first. */
+    printf("port of backup 4: %" PRId64 ", read from the plan: %" PRId64 "\n", table[HDS_PLACE(4, HDS_PORT_AT)],
+           other[HDS_PLACE(4, HDS_PORT_AT)]);
 }
 
 int main(void)
@@ -99,8 +110,9 @@ int main(void)
     answer("join suite 1", hds_join_class(TABLE, 1, 0, hds_fixed(5000), 40));
     answer("join stream 2", hds_join_client(TABLE, 2, 1, hds_weighted(3), 16));
     answer("join stream 3", hds_join_client(TABLE, 3, 1, hds_weighted(2), 24));
-    answer("join backup 4", hds_join_client(TABLE, 4, 0, hds_weighted(1), 24));
+    answer("join backup 4", hds_join_client_on(TABLE, 4, 0, hds_weighted(1), 24, HDS_SECOND_PORT));
     answer("join 4 again", hds_join_client(TABLE, 4, 0, hds_weighted(1), 8));
+    answer("join suite 5 on a port", hds_join(TABLE, 5, 0, HDS_CLASS, HDS_WEIGHTED, 1, 8, HDS_SECOND_PORT));
     answer("join 5, too deep", hds_join_client(TABLE, 5, 0, hds_weighted(1), 9));
     for (int64_t node = 0; node <= 5; node++)
         look(node);
@@ -115,10 +127,12 @@ int main(void)
     answer("request at 3", hds_request(TABLE, 3, 301, 12));
     answer("request at suite 1", hds_request(TABLE, 1, 101, 1));
     answer("request too large", hds_request(TABLE, 2, 202, 13));
-    answer("tick, short list", hds_tick(TABLE, list, 11));
+    /* Two requests wait at the first port and one at the second: 8 numbers and 4. */
+    tick(7, HDS_LONGEST_LIST);
+    tick(HDS_LONGEST_LIST, 3);
     /* The disk is one step above the backup and two above stream 2, so 401 goes before 201. */
     for (int i = 0; i < 4; i++)
-        tick();
+        tick(8, 4);
     for (int64_t node = 0; node <= 4; node++)
         look(node);
 
@@ -141,8 +155,8 @@ int main(void)
      * Playout desk 5 gets 2000 grains a tick, whatever the disk's rate becomes. Suite and backup divide the other 6000, then
      * 3001, of which one grain is lost. The disk cannot get less than 2000, nor stream 2 a stated share: it is in a suite.
      */
-    answer("join desk 5, too much", hds_join_client(TABLE, 5, 0, hds_stated(8001), 8));
-    answer("join desk 5", hds_join_client(TABLE, 5, 0, hds_stated(2000), 8));
+    answer("join desk 5, too much", hds_join_client_on(TABLE, 5, 0, hds_stated(8001), 8, HDS_SECOND_PORT));
+    answer("join desk 5", hds_join_client_on(TABLE, 5, 0, hds_stated(2000), 8, HDS_SECOND_PORT));
     look(1);
     look(5);
     answer("change rate", hds_change_rate(TABLE, 5001));
@@ -151,6 +165,17 @@ int main(void)
     answer("change rate", hds_change_rate(TABLE, 1999));
     answer("change share of 2", hds_set_share(TABLE, 2, hds_stated(900)));
     save();
+
+    /* Stream 2 and the backup have enough of their own; both go in one tick, each to its host. */
+    answer("request at 2", hds_request(TABLE, 2, 203, 1));
+    answer("request at 4", hds_request(TABLE, 4, 402, 1));
+    tick(4, 4);
+    for (int64_t node = 0; node <= 5; node++)
+        look(node);
+    /* Nothing waits at the second port, and its list may be empty. Stream 3 has enough at the second tick. */
+    answer("request at 3", hds_request(TABLE, 3, 302, 1));
+    for (int i = 0; i < 2; i++)
+        tick(4, 0);
     answer("leave suite 1", hds_leave(TABLE, 1));
     answer("leave backup 4", hds_leave(TABLE, 4));
     return 0;

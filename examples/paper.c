@@ -194,7 +194,7 @@ static void ask_in_turn(int64_t credit[NODES], bool rising)
 /* One tick. What was dispatched for a stream, in tokens, is added to what was sent for it. */
 static void tick(int64_t sent[NODES])
 {
-    int64_t count = accepted("tick", hds_tick(TABLE, LIST));
+    int64_t count = accepted("tick", hds_tick_first(TABLE, LIST));
 
     for (int64_t i = 0; i < count; i++) {
         const int64_t *entry = list + HDS_ENTRY_LENGTH * i;

@@ -13,14 +13,17 @@
  *
  * A refused call leaves every buffer as it came. Tables, lists and plans of any length and contents and arguments of
  * any size are safe. These are the caller's to see to: a pointer is not null, also where the length is 0; it is
- * aligned and points to as many numbers (or bytes) as the length says, look's to HDS_SEEN_LENGTH; the buffers of
- * one call do not overlap; one call at a time writes a buffer; the stack is deep enough.
+ * aligned and points to as many numbers (or bytes) as the length says, look's to HDS_SEEN_LENGTH and tick's counts to
+ * HDS_PORTS; the buffers of one call do not overlap; one call at a time writes a buffer; the stack is deep enough.
  *
  * UNITS. A token is 1 KiB, 1000 grains a token. Tokens: depths, sizes, costs. Grains: balances. Grains per tick: rates,
  * lost grains.
  *
  * COST. A request is charged more than its size, since the head moves for it: hds_cost gives the tokens. The dispatch
- * list gives sizes.
+ * lists give sizes.
+ *
+ * PORTS. A cabinet can have two hosts. A client is on the port that it joined with, and its dispatches stand on that
+ * port's list. Disk, table, balances and who goes when are one for both ports.
  *
  * THE TABLE is HDS_TABLE_LENGTH numbers of 64 bits that the caller hands to each call and keeps between the calls. It
  * holds no pointers, and the calls keep nothing outside it: a copy of it is a table like the first.
@@ -33,7 +36,7 @@
  *                or signal handler counts as another thread.
  *   A stop       A call judges before it writes, so a refused one has written nothing. A program that is stopped in
  *                an accepted call leaves the table with a part of what the call writes: after a tick, some balances
- *                raised and others not, and requests gone that stand only in the list. Every call is safe on such a
+ *                raised and others not, and requests gone that stand only in a list. Every call is safe on such a
  *                table, and most such tables pass as in order. Where a table must outlive a stop, make the call on a
  *                copy and then point to the copy; the manual has the steps.
  *
@@ -71,12 +74,19 @@ extern "C" {
  * HDS_FIXED need not be HDS_WEIGHTED. 16 is a further refusal. HDS_LONGEST_PLAN is 832 and was 702; HDS_PLAN_LENGTH is
  * for the first edition. Compile everything that includes this header again. Plans of version 4 and tables of versions
  * 2 to 4 can be used; a plan of the second edition, or a table with a stated node, cannot be used by version 4.
+ * From 5 to 6: hds_join takes the port last. hds_tick takes a list for each port and a buffer for the two counts, and
+ * answers 0 where it answered how many were dispatched. Both have other arguments now: a program that was compiled with
+ * version 5 and is linked with these archives hands them wrong ones. Compile everything that calls them again.
+ * hds_join_client joins on the first port and hds_tick_first ticks a cabinet with one host, so that with hds_tick_first
+ * for hds_tick, and hds_join_class and hds_join_client for hds_join, everything is as before. HDS_SPARE_AT is 10 and
+ * was 9. Plans of version 5 and tables of versions 2 to 5 can be used, with all clients on the first port; a table with
+ * a client on the second cannot be used by version 5.
  *
  * A stored table is one of this version where it was stored by version HDS_OLDEST_TABLE_VERSION to HDS_VERSION_MAJOR.
  */
-#define HDS_VERSION_MAJOR 5
+#define HDS_VERSION_MAJOR 6
 #define HDS_VERSION_MINOR 0
-#define HDS_VERSION "5.0"
+#define HDS_VERSION "6.0"
 #define HDS_OLDEST_TABLE_VERSION 2
 
 /* The table: a header, then a record for each node. */
@@ -135,8 +145,9 @@ extern "C" {
 #define HDS_RATE_AT 6
 #define HDS_BALANCE_AT 7
 #define HDS_WAITING_AT 8
-#define HDS_SPARE_AT 9
-#define HDS_SPARE_LENGTH 7
+#define HDS_PORT_AT 9
+#define HDS_SPARE_AT 10
+#define HDS_SPARE_LENGTH 6
 #define HDS_QUEUE_AT 16
 #define HDS_QUEUE_LENGTH 24
 #define HDS_REQUEST_LENGTH 3
@@ -146,7 +157,7 @@ extern "C" {
 
 /*
  * A dispatch list: HDS_ENTRY_LENGTH numbers for each request that goes. One of HDS_LONGEST_LIST numbers is long enough
- * for every tick: 63 clients, each with 8 requests waiting.
+ * for either port at every tick: 63 clients, each with 8 requests waiting.
  */
 #define HDS_ENTRY_LENGTH 4
 #define HDS_LONGEST_LIST 2016
@@ -206,10 +217,15 @@ enum hds_edition { HDS_FIRST_EDITION = 1, HDS_SECOND_EDITION = 2 };
 #define HDS_STACK_PLAN_CHECK 32768
 #define HDS_STACK_MOST 32768
 
-/* Sorts of node; 0 in a table is a record that is not used. Kinds of share, and how many there are. */
+/*
+ * Sorts of node; 0 in a table is a record that is not used. Kinds of share, and how many there are. Ports, and how many
+ * there are: each is also the place of its count in what hds_tick writes.
+ */
 enum hds_sort { HDS_UNUSED = 0, HDS_CLASS = 1, HDS_CLIENT = 2 };
 enum hds_kind { HDS_FIXED = 0, HDS_WEIGHTED = 1, HDS_STATED = 2 };
 #define HDS_KINDS 3
+enum hds_port { HDS_FIRST_PORT = 0, HDS_SECOND_PORT = 1 };
+#define HDS_PORTS 2
 
 /* The causes of refusal: name, number, what it means. */
 #define HDS_REFUSALS(X)                                                                                                  \
@@ -225,7 +241,7 @@ enum hds_kind { HDS_FIXED = 0, HDS_WEIGHTED = 1, HDS_STATED = 2 };
     X(HDS_IN_DEBT, 10, "the leaving class has a balance below 0")                                                        \
     X(HDS_QUEUE_FULL, 11, "the client has 8 requests waiting")                                                           \
     X(HDS_COUNT_AT_END, 12, "the count of accepted requests is at its end")                                              \
-    X(HDS_BUFFER_SHORT, 13, "the list is shorter than 4 numbers for each waiting request, or the buffer than the plan")  \
+    X(HDS_BUFFER_SHORT, 13, "a list is too short for what waits at its port, 4 numbers each, or the buffer for the plan")  \
     X(HDS_PLAN_WRONG, 14, "the plan's length, count, an offset or a kind is wrong")                                      \
     X(HDS_PLAN_OUT_OF_ORDER, 15, "the plan's entries do not stand by level, then by number")                             \
     X(HDS_STATED_WRONG, 16, "stated rates above the disk's rate, or a stated node not under the root or in edition 1")
@@ -284,10 +300,11 @@ int64_t hds_open(int64_t *table, size_t table_length, int64_t rate, int64_t dept
  * rate itself in grains per tick, 1 to 1,000,000,000, for a child of the root only; the root divides the disk's rate
  * less all stated rates, any other class its whole rate. Renews the rates of all nodes below that class, at every level;
  * all others stay, the class's own too. Answers 0. A client's depth is at least the cost of its largest request: with
- * less than HDS_LEAST_COST it joins and can never ask. With hds_join_class and hds_join_client, below, a compiler tells
+ * less than HDS_LEAST_COST it joins and can never ask. The port, an hds_port, says which list of a tick has the client's
+ * dispatches, until it leaves; for a class it is 0. With hds_join_class and hds_join_client, below, a compiler tells
  * sort, kind and share apart. Refused:
  *   HDS_NOT_IN_ORDER      the table
- *   HDS_OUTSIDE_LIMITS    node, parent, sort, kind, share (by its kind) or depth
+ *   HDS_OUTSIDE_LIMITS    node, parent, sort, kind, share (by its kind), depth, or port (not 0 or 1, or 1 for a class)
  *   HDS_NOT_THERE         no node has the parent's number
  *   HDS_IN_USE            a node has the joining number
  *   HDS_WRONG_NODE        the parent is a client
@@ -297,7 +314,7 @@ int64_t hds_open(int64_t *table, size_t table_length, int64_t rate, int64_t dept
  *   HDS_STATED_WRONG      a stated share under another class than the root, or stated rates would be above the disk's
  */
 int64_t hds_join(int64_t *table, size_t table_length, int64_t node, int64_t parent, int64_t sort, int64_t kind,
-                 int64_t share, int64_t depth);
+                 int64_t share, int64_t depth, int64_t port);
 
 /*
  * Takes a node out and renews the rates of all nodes below the parent that it had; all others stay. Answers 0. Refused:
@@ -348,12 +365,17 @@ int64_t hds_request(int64_t *table, size_t table_length, int64_t client, int64_t
  * One tick. Balances grow. Each client, by rising number, sends its oldest requests as far as its own balance pays.
  * Balances are cut to the depths. Then the oldest requests borrow, one at a time: the supplier of a request is the
  * first node with enough from the client upwards; the request whose supplier is the fewest levels up goes, of several
- * the one that arrived first; then all are looked at again. Answers how many were dispatched; the list gets
- * HDS_ENTRY_LENGTH numbers for each, in the order in which they go, and stays untouched beyond them. Refused:
+ * the one that arrived first; then all are looked at again. So the requests go in one order, whatever their ports.
+ * The first list gets those of clients on HDS_FIRST_PORT, the second those of clients on HDS_SECOND_PORT: each
+ * HDS_ENTRY_LENGTH numbers for each request, in the order in which they go, and stays untouched beyond them.
+ * counts[HDS_FIRST_PORT] and counts[HDS_SECOND_PORT] say how many there are on each. Answers 0. A list may be empty
+ * where nothing waits at its port. Refused, with the counts left as they came, too:
  *   HDS_NOT_IN_ORDER      the table
- *   HDS_BUFFER_SHORT      the list is shorter than HDS_ENTRY_LENGTH numbers for each waiting request of all clients
+ *   HDS_BUFFER_SHORT      a list is shorter than HDS_ENTRY_LENGTH numbers for each waiting request of the clients on its
+ *                         port, however long the other is
  */
-int64_t hds_tick(int64_t *table, size_t table_length, int64_t *list, size_t list_length);
+int64_t hds_tick(int64_t *table, size_t table_length, int64_t *first, size_t first_length, int64_t *second,
+                 size_t second_length, int64_t counts[HDS_PORTS]);
 
 /*
  * Shows a node: its rate, its balance, how many of its requests wait and its lost grains, at seen[HDS_SEEN_RATE] and so
@@ -366,8 +388,8 @@ int64_t hds_tick(int64_t *table, size_t table_length, int64_t *list, size_t list
 int64_t hds_look(const int64_t *table, size_t table_length, int64_t node, int64_t seen[HDS_SEEN_LENGTH]);
 
 /*
- * Whether two tables have the same tree and disk rate, whatever their balances and requests. Answers 1 for yes, 0 for
- * no. Refused:
+ * Whether two tables have the same tree and disk rate, whatever their balances, requests and ports. Answers 1 for yes,
+ * 0 for no. Refused:
  *   HDS_NOT_IN_ORDER      either table
  */
 int64_t hds_same(const int64_t *first, size_t first_length, const int64_t *second, size_t second_length);
@@ -375,8 +397,8 @@ int64_t hds_same(const int64_t *first, size_t first_length, const int64_t *secon
 /*
  * Reads a plan of either edition: opens the table and joins the plan's entries in turn. The table may hold anything
  * before. Answers the edition that it met, an hds_edition, so never 0: test for below 0. It is HDS_SECOND_EDITION for
- * bytes that begin with HDS_PLAN_MARK bytes FF, HDS_FIRST_EDITION for all others. As in join, a client of a depth below
- * HDS_LEAST_COST is accepted and can never ask. Refused:
+ * bytes that begin with HDS_PLAN_MARK bytes FF, HDS_FIRST_EDITION for all others. A plan has no ports: every client is
+ * on HDS_FIRST_PORT then. As in join, a client of a depth below HDS_LEAST_COST is accepted and can never ask. Refused:
  *   HDS_NOT_IN_ORDER      the table's length (its contents are not judged)
  *   HDS_PLAN_WRONG        the plan's length, count, an offset or a kind, by its edition
  *   HDS_OUTSIDE_LIMITS to HDS_DEPTH_ABOVE    as open refuses the disk's rate and depth, then as join refuses the
@@ -388,8 +410,8 @@ int64_t hds_plan_read(int64_t *table, size_t table_length, const uint8_t *plan, 
 
 /*
  * Writes the plan of a table in the edition given, an hds_edition, into a buffer, and nothing beyond it. The second
- * edition can hold every tree. In the edition that hds_plan_read answered, a plan that was read is written to the same
- * bytes. Answers the plan's length in bytes. Refused:
+ * edition can hold every tree. Ports are not written. In the edition that hds_plan_read answered, a plan that was read
+ * is written to the same bytes. Answers the plan's length in bytes. Refused:
  *   HDS_NOT_IN_ORDER      the table
  *   HDS_OUTSIDE_LIMITS    edition not 1 or 2
  *   HDS_BUFFER_SHORT      the buffer is shorter than the plan of this edition
@@ -462,18 +484,37 @@ static inline struct hds_share hds_stated(int64_t rate)
 static inline int64_t hds_join_class(int64_t *table, size_t table_length, int64_t node, int64_t parent,
                                      struct hds_share share, int64_t depth)
 {
-    return hds_join(table, table_length, node, parent, HDS_CLASS, share.kind, share.share, depth);
+    return hds_join(table, table_length, node, parent, HDS_CLASS, share.kind, share.share, depth, HDS_FIRST_PORT);
+}
+
+/* A client on a port; hds_join_client, below, joins it on the first. */
+static inline int64_t hds_join_client_on(int64_t *table, size_t table_length, int64_t node, int64_t parent,
+                                         struct hds_share share, int64_t depth, enum hds_port port)
+{
+    return hds_join(table, table_length, node, parent, HDS_CLIENT, share.kind, share.share, depth, port);
 }
 
 static inline int64_t hds_join_client(int64_t *table, size_t table_length, int64_t node, int64_t parent,
                                       struct hds_share share, int64_t depth)
 {
-    return hds_join(table, table_length, node, parent, HDS_CLIENT, share.kind, share.share, depth);
+    return hds_join_client_on(table, table_length, node, parent, share, depth, HDS_FIRST_PORT);
 }
 
 static inline int64_t hds_set_share(int64_t *table, size_t table_length, int64_t node, struct hds_share share)
 {
     return hds_change_share(table, table_length, node, share.kind, share.share);
+}
+
+/*
+ * A tick of a cabinet with one host, on the first port. Answers how many were dispatched to the list. Refused as
+ * hds_tick with an empty second list: HDS_BUFFER_SHORT also where a request waits at a client on the second port.
+ */
+static inline int64_t hds_tick_first(int64_t *table, size_t table_length, int64_t *list, size_t list_length)
+{
+    int64_t none[1], counts[HDS_PORTS];
+    int64_t answer = hds_tick(table, table_length, list, list_length, none, 0, counts);
+
+    return answer < 0 ? answer : counts[HDS_FIRST_PORT];
 }
 
 #ifdef __cplusplus

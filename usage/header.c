@@ -1,7 +1,7 @@
 /*
  * What include/hds.h itself says: names and texts of the refusals, the calls with types of their own beside the plain ones, the
- * places of what look shows, the lengths of plans in both editions, and costs beside what a request is charged. It is compiled as C
- * and as C++. Prints what fails, then 'N passed, 0 failed'.
+ * places of what look shows, the lists and counts of the two ports, the lengths of plans in both editions, and costs beside what a
+ * request is charged. It is compiled as C and as C++. Prints what fails, then 'N passed, 0 failed'.
  */
 #include <stdio.h>
 #include <string.h>
@@ -51,18 +51,18 @@ static void refusals(void)
 static void typed_calls(void)
 {
     alike(hds_open(TABLE, 1000, 40), hds_open(PLAIN, 1000, 40), 0, "open");
-    alike(hds_join_class(TABLE, 1, 0, hds_fixed(5000), 20), hds_join(PLAIN, 1, 0, HDS_CLASS, HDS_FIXED, 5000, 20), 0,
+    alike(hds_join_class(TABLE, 1, 0, hds_fixed(5000), 20), hds_join(PLAIN, 1, 0, HDS_CLASS, HDS_FIXED, 5000, 20, 0), 0,
           "hds_join_class, fixed");
-    alike(hds_join_class(TABLE, 2, 1, hds_weighted(2), 10), hds_join(PLAIN, 2, 1, HDS_CLASS, HDS_WEIGHTED, 2, 10), 0,
+    alike(hds_join_class(TABLE, 2, 1, hds_weighted(2), 10), hds_join(PLAIN, 2, 1, HDS_CLASS, HDS_WEIGHTED, 2, 10, 0), 0,
           "hds_join_class, weighted");
-    alike(hds_join_client(TABLE, 3, 2, hds_fixed(7), 4), hds_join(PLAIN, 3, 2, HDS_CLIENT, HDS_FIXED, 7, 4), 0,
+    alike(hds_join_client(TABLE, 3, 2, hds_fixed(7), 4), hds_join(PLAIN, 3, 2, HDS_CLIENT, HDS_FIXED, 7, 4, 0), 0,
           "hds_join_client, fixed");
-    alike(hds_join_client(TABLE, 4, 2, hds_weighted(9), 5), hds_join(PLAIN, 4, 2, HDS_CLIENT, HDS_WEIGHTED, 9, 5), 0,
+    alike(hds_join_client(TABLE, 4, 2, hds_weighted(9), 5), hds_join(PLAIN, 4, 2, HDS_CLIENT, HDS_WEIGHTED, 9, 5, 0), 0,
           "hds_join_client, weighted");
     alike(hds_set_share(TABLE, 3, hds_weighted(8)), hds_change_share(PLAIN, 3, HDS_WEIGHTED, 8), 0, "hds_set_share");
-    alike(hds_join_class(TABLE, 5, 0, hds_stated(300), 6), hds_join(PLAIN, 5, 0, HDS_CLASS, HDS_STATED, 300, 6), 0,
+    alike(hds_join_class(TABLE, 5, 0, hds_stated(300), 6), hds_join(PLAIN, 5, 0, HDS_CLASS, HDS_STATED, 300, 6, 0), 0,
           "hds_join_class, stated");
-    alike(hds_join_client(TABLE, 6, 0, hds_stated(700), 7), hds_join(PLAIN, 6, 0, HDS_CLIENT, HDS_STATED, 700, 7), 0,
+    alike(hds_join_client(TABLE, 6, 0, hds_stated(700), 7), hds_join(PLAIN, 6, 0, HDS_CLIENT, HDS_STATED, 700, 7, 0), 0,
           "hds_join_client, stated");
     alike(hds_set_share(TABLE, 6, hds_stated(701)), hds_change_share(PLAIN, 6, HDS_STATED, 701), -HDS_STATED_WRONG,
           "hds_set_share, stated");
@@ -90,7 +90,7 @@ static int64_t charged(int64_t size)
 
     asked(size, HDS_GREATEST_DEPTH);
     table[HDS_PLACE(HDS_ROOT, HDS_BALANCE_AT)] = (int64_t)HDS_GREATEST_DEPTH * HDS_GRAIN_SCALE;
-    if (hds_tick(TABLE, list, HDS_ENTRY_LENGTH) != 1 || list[HDS_ENTRY_SIZE] != size)
+    if (hds_tick_first(TABLE, list, HDS_ENTRY_LENGTH) != 1 || list[HDS_ENTRY_SIZE] != size)
         return INT64_MIN;
     return (int64_t)HDS_GREATEST_DEPTH * HDS_GRAIN_SCALE - table[HDS_PLACE(HDS_ROOT, HDS_BALANCE_AT)];
 }
@@ -128,7 +128,7 @@ static void looks(void)
     for (int64_t node = 1; node <= 3; node++)
         hds_join_client(TABLE, node, HDS_ROOT, hds_weighted(1), 8);
     hds_request(TABLE, 2, 7, 1);
-    hds_tick(TABLE, list, HDS_LONGEST_LIST);
+    hds_tick_first(TABLE, list, HDS_LONGEST_LIST);
     for (int i = 0; i <= HDS_SEEN_LENGTH; i++)
         seen[i] = -7;
     check(hds_look(TABLE, 4, seen) == -HDS_NOT_THERE, "a node that is not there");
@@ -141,6 +141,36 @@ static void looks(void)
     check(seen[HDS_SEEN_RATE] == 333 && seen[HDS_SEEN_BALANCE] == 333, "a client's rate and balance");
     check(seen[HDS_SEEN_WAITING] == 1 && seen[HDS_SEEN_LOST] == 0, "a client's waiting requests and lost grains");
     check(seen[HDS_SEEN_LENGTH] == -7, "look writes no further number");
+}
+
+/* Each port has its own list and count, written where a tick is accepted and nowhere else; one host needs no second list. */
+static void ports(void)
+{
+    int64_t first[HDS_ENTRY_LENGTH + 1], second[2 * HDS_ENTRY_LENGTH + 1], counts[HDS_PORTS + 1] = {-7, -7, -7};
+
+    for (int i = 0; i <= HDS_ENTRY_LENGTH; i++)
+        first[i] = -8;
+    for (int i = 0; i <= 2 * HDS_ENTRY_LENGTH; i++)
+        second[i] = -9;
+    hds_open(TABLE, 24000, 40);
+    check(hds_join_client_on(TABLE, 1, HDS_ROOT, hds_weighted(2), 16, HDS_SECOND_PORT) == 0, "hds_join_client_on");
+    check(hds_join_client(TABLE, 2, HDS_ROOT, hds_weighted(1), 16) == 0, "hds_join_client");
+    check(table[HDS_PLACE(1, HDS_PORT_AT)] == HDS_SECOND_PORT && table[HDS_PLACE(2, HDS_PORT_AT)] == HDS_FIRST_PORT,
+          "HDS_PORT_AT");
+    check(HDS_PORT_AT + 1 == HDS_SPARE_AT && HDS_SPARE_AT + HDS_SPARE_LENGTH == HDS_QUEUE_AT, "HDS_SPARE_AT");
+    check(hds_tick_first(TABLE, first, 0) == 0, "hds_tick_first, nothing waits");
+    hds_request(TABLE, 1, 11, 1);
+    hds_request(TABLE, 1, 12, 2);
+    hds_request(TABLE, 2, 21, 3);
+    check(hds_tick(TABLE, first, HDS_ENTRY_LENGTH - 1, second, 2 * HDS_ENTRY_LENGTH, counts) == -HDS_BUFFER_SHORT, "the first is short");
+    check(hds_tick(TABLE, first, HDS_ENTRY_LENGTH, second, 2 * HDS_ENTRY_LENGTH - 1, counts) == -HDS_BUFFER_SHORT, "the second is short");
+    check(hds_tick_first(TABLE, first, HDS_ENTRY_LENGTH) == -HDS_BUFFER_SHORT, "hds_tick_first, the second port waits");
+    check(counts[0] == -7 && counts[1] == -7 && first[0] == -8 && second[0] == -9, "a refused tick writes nothing");
+    check(hds_tick(TABLE, first, HDS_ENTRY_LENGTH, second, 2 * HDS_ENTRY_LENGTH, counts) == 0, "hds_tick");
+    check(counts[HDS_FIRST_PORT] == 1 && counts[HDS_SECOND_PORT] == 2 && counts[HDS_PORTS] == -7, "the counts");
+    check(first[HDS_ENTRY_TAG] == 21 && first[HDS_ENTRY_LENGTH] == -8, "the first list");
+    check(second[HDS_ENTRY_TAG] == 11 && second[HDS_ENTRY_LENGTH + HDS_ENTRY_TAG] == 12 && second[2 * HDS_ENTRY_LENGTH] == -9,
+          "the second list");
 }
 
 /* The tree of typed_calls has six nodes, two of them stated; without these it can be written in both editions. */
@@ -175,6 +205,7 @@ int main(void)
     typed_calls();
     plans();
     looks();
+    ports();
     costs();
     printf("%d passed, %d failed\n", passed, failed);
     return failed != 0;

@@ -16,12 +16,14 @@
 #define PATTERN 0xA5
 #define SLACK 1024
 #define TABLE table, HDS_TABLE_LENGTH
-#define LIST list, HDS_LONGEST_LIST
+#define FIRST first, HDS_LONGEST_LIST
+#define SECOND second, HDS_LONGEST_LIST
 #define HIGHEST_TAG INT64_MAX
 #define CLIENT_DEPTH 1000
 #define LARGEST_SIZE 984 /* costs a client's whole depth */
 
-static int64_t table[HDS_TABLE_LENGTH], other[HDS_TABLE_LENGTH], list[HDS_LONGEST_LIST], seen[HDS_SEEN_LENGTH];
+static int64_t table[HDS_TABLE_LENGTH], other[HDS_TABLE_LENGTH], seen[HDS_SEEN_LENGTH];
+static int64_t first[HDS_LONGEST_LIST], second[HDS_LONGEST_LIST], counts[HDS_PORTS];
 static uint8_t plan[HDS_LONGEST_PLAN], longest[HDS_LONGEST_PLAN];
 static _Alignas(16) unsigned char stack[STACK_BYTES];
 static ucontext_t here, there;
@@ -53,14 +55,18 @@ static int64_t used(int64_t (*call)(void))
     return top - lowest;
 }
 
-/* A tree on all levels: classes 1, 2 and 3 below one another, clients below each class up to this number, queues filled. */
+/*
+ * A tree on all levels: classes 1, 2 and 3 below one another, clients of both ports below each class up to this number, queues
+ * filled.
+ */
 static void grow(int64_t last, int waiting)
 {
     hds_open(TABLE, HDS_GREATEST_RATE, HDS_GREATEST_DEPTH);
     for (int64_t node = 1; node <= 3; node++)
         hds_join_class(TABLE, node, node - 1, hds_fixed(5000), HDS_GREATEST_DEPTH - 100000 * node);
     for (int64_t node = 4; node <= last; node++)
-        hds_join_client(TABLE, node, node % 4, hds_weighted(node), CLIENT_DEPTH);
+        hds_join_client_on(TABLE, node, node % 4, hds_weighted(node), CLIENT_DEPTH,
+                           node % 8 < 4 ? HDS_FIRST_PORT : HDS_SECOND_PORT);
     for (int i = 0; i < waiting; i++)
         for (int64_t node = 4; node <= last; node++)
             hds_request(TABLE, node, HIGHEST_TAG, LARGEST_SIZE);
@@ -107,7 +113,7 @@ static int64_t open_call(void)
 
 static int64_t join_call(void)
 {
-    return hds_join(TABLE, HDS_LAST_NODE, 3, HDS_CLIENT, HDS_WEIGHTED, 1, CLIENT_DEPTH);
+    return hds_join(TABLE, HDS_LAST_NODE, 3, HDS_CLIENT, HDS_WEIGHTED, 1, CLIENT_DEPTH, HDS_FIRST_PORT);
 }
 
 static int64_t leave_call(void)
@@ -132,7 +138,7 @@ static int64_t request_call(void)
 
 static int64_t tick_call(void)
 {
-    return hds_tick(TABLE, LIST);
+    return hds_tick(TABLE, FIRST, SECOND, counts);
 }
 
 static int64_t look_call(void)
