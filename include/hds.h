@@ -36,9 +36,9 @@
  *                or signal handler counts as another thread.
  *   A stop       A call judges before it writes, so a refused one has written nothing. A program that is stopped in
  *                an accepted call leaves the table with a part of what the call writes: after a tick, some balances
- *                raised and others not, and requests gone that stand only in a list. Every call is safe on such a
- *                table, and most such tables pass as in order. Where a table must outlive a stop, make the call on a
- *                copy and then point to the copy; the manual has the steps.
+ *                raised and others not, requests gone that stand only in a list, and no counts. Every call is safe on
+ *                such a table, and most such tables pass as in order. Where a table must outlive a stop, make the call
+ *                on a copy and then point to the copy; the manual has the steps.
  *
  * LINKING. libcabinet.a has all calls but hds_plan_check, which is in libplan.a; `rt staticlib cabinet` and
  * `rt staticlib plan` write them to target/staticlib/. They need memcpy and memset, libplan.a memset alone, and nothing
@@ -75,12 +75,12 @@ extern "C" {
  * for the first edition. Compile everything that includes this header again. Plans of version 4 and tables of versions
  * 2 to 4 can be used; a plan of the second edition, or a table with a stated node, cannot be used by version 4.
  * From 5 to 6: hds_join takes the port last. hds_tick takes a list for each port and a buffer for the two counts, and
- * answers 0 where it answered how many were dispatched. Both have other arguments now: a program that was compiled with
- * version 5 and is linked with these archives hands them wrong ones. Compile everything that calls them again.
- * hds_join_client joins on the first port and hds_tick_first ticks a cabinet with one host, so that with hds_tick_first
- * for hds_tick, and hds_join_class and hds_join_client for hds_join, everything is as before. HDS_SPARE_AT is 10 and
- * was 9. Plans of version 5 and tables of versions 2 to 5 can be used, with all clients on the first port; a table with
- * a client on the second cannot be used by version 5.
+ * answers 0 where it answered how many were dispatched. A program that was compiled with version 5 and is linked with
+ * these archives hands both wrong arguments: compile everything that calls them again. hds_join_client joins on the
+ * first port and hds_tick_first ticks a cabinet with one host: with hds_tick_first for hds_tick, and hds_join_class and
+ * hds_join_client for hds_join, a program does what it did. HDS_SPARE_AT is 10 and was 9, HDS_SPARE_LENGTH 6 and was 7;
+ * the text of HDS_BUFFER_SHORT is another. Plans of version 5 and tables of versions 2 to 5 can be used, with all
+ * clients on the first port; a table with a client on the second cannot be used by version 5.
  *
  * A stored table is one of this version where it was stored by version HDS_OLDEST_TABLE_VERSION to HDS_VERSION_MAJOR.
  */
@@ -241,7 +241,7 @@ enum hds_port { HDS_FIRST_PORT = 0, HDS_SECOND_PORT = 1 };
     X(HDS_IN_DEBT, 10, "the leaving class has a balance below 0")                                                        \
     X(HDS_QUEUE_FULL, 11, "the client has 8 requests waiting")                                                           \
     X(HDS_COUNT_AT_END, 12, "the count of accepted requests is at its end")                                              \
-    X(HDS_BUFFER_SHORT, 13, "a list is too short for what waits at its port, 4 numbers each, or the buffer for the plan")  \
+    X(HDS_BUFFER_SHORT, 13, "a list is too short for what waits at its port, 4 numbers each, or the buffer for the plan")\
     X(HDS_PLAN_WRONG, 14, "the plan's length, count, an offset or a kind is wrong")                                      \
     X(HDS_PLAN_OUT_OF_ORDER, 15, "the plan's entries do not stand by level, then by number")                             \
     X(HDS_STATED_WRONG, 16, "stated rates above the disk's rate, or a stated node not under the root or in edition 1")
@@ -369,7 +369,7 @@ int64_t hds_request(int64_t *table, size_t table_length, int64_t client, int64_t
  * The first list gets those of clients on HDS_FIRST_PORT, the second those of clients on HDS_SECOND_PORT: each
  * HDS_ENTRY_LENGTH numbers for each request, in the order in which they go, and stays untouched beyond them.
  * counts[HDS_FIRST_PORT] and counts[HDS_SECOND_PORT] say how many there are on each. Answers 0. A list may be empty
- * where nothing waits at its port. Refused, with the counts left as they came, too:
+ * where nothing waits at its port. A refused tick leaves the counts as they came, too. Refused:
  *   HDS_NOT_IN_ORDER      the table
  *   HDS_BUFFER_SHORT      a list is shorter than HDS_ENTRY_LENGTH numbers for each waiting request of the clients on its
  *                         port, however long the other is

@@ -67,16 +67,7 @@ pub extern "C" fn hds_join(
     ensures answer { λ r. ⌜ r ≡ exported (joinAnswer (now (table .entry)) node parent sort kind share depth port) ⌝ }
     ensures table { λ _. ⌜ now (table .exit) ≡ joinTable (now (table .entry)) node parent sort kind share depth port ⌝ }
 {
-    answer_number(accounts::join(
-        table,
-        node,
-        parent,
-        sort,
-        kind,
-        share,
-        depth,
-        port,
-    ))
+    answer_number(accounts::join(table, node, parent, sort, kind, share, depth, port))
 }
 
 // Leave (node).

@@ -165,7 +165,10 @@ fn join_refusal(
     if !join_limits(node, parent, sort, kind, share, depth, port) {
         return 2;
     }
-    tree_refusal(table, new_node(node, parent, sort, kind, share, depth, port))
+    tree_refusal(
+        table,
+        new_node(node, parent, sort, kind, share, depth, port),
+    )
 }
 
 // The record of a joining node, with balance 0.
@@ -202,7 +205,10 @@ pub fn join(
     if number != 0 {
         return table::answered(number, 0);
     }
-    write_node(table, new_node(node, parent, sort, kind, share, depth, port));
+    write_node(
+        table,
+        new_node(node, parent, sort, kind, share, depth, port),
+    );
     rating::renewal::renew_below(table, numbers::natural(parent) as usize);
     Answer::Accepted(0)
 }

@@ -70,6 +70,10 @@ module _ (t list : List ℤ) (loaded : Loaded t) (room : entryLength * mostDispa
       (ap (λ (es : List ℤ). length es / entryLength) first-all)
       (omega (arith, nothing-second, tick-laws t (loaded .order) .ports secondPort))
 
+  -- So the second list gets nothing.
+  pub none-second : (count : ℕ) → entryLength * count ≡ length (portEntries t secondPort) → count ≡ 0
+  none-second count counted = omega (arith, counted, nothing-second, tick-laws t (loaded .order) .ports secondPort)
+
   pub tick-shown : (after : List ℤ) (count : ℕ) → after ≡ listed (portEntries t firstPort) list → entryLength * count ≡ length (portEntries t firstPort) → Shown (ticked t .entries) after count
   unfolding listed
   tick-shown after count is counted =

@@ -58,13 +58,7 @@ fn ready(table: &[i64], k: usize) -> bool
 
 // Step 2 for client k: while its oldest request is ready, it is dispatched with the client as supplier, as an entry behind the n
 // that the lists have. Returns how many the lists have then.
-fn serve(
-    table: &mut [i64],
-    first: &mut [i64],
-    second: &mut [i64],
-    n: Counts,
-    k: usize,
-) -> Counts
+fn serve(table: &mut [i64], first: &mut [i64], second: &mut [i64], n: Counts, k: usize) -> Counts
     requires { ⌜ Serving (now table) × (k < nodes) × Room firstPort (now table) (now first) (n .first) × Room secondPort (now table) (now second) (n .second) ⌝ }
     ensures { λ r. ⌜ Follows (serving k) (now (table .entry)) (now (first .entry)) (now (second .entry)) n (now (table .exit)) (now (first .exit)) (now (second .exit)) r ⌝ }
 {

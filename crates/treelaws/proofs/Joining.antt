@@ -157,12 +157,12 @@ module _ (t : List ℤ) (joins others : List Join) (u v : List ℤ) (same : (j :
           elim (decLt p rateAt) [
             | yes l ↦ given-place k p (of-tree l)
             | no l ↦ elim (ℕ-discrete p rateAt) [
-                | yes e ↦ rw e (rate-place k hk)
-                | no ne ↦ elim (ℕ-discrete p portAt) [
-                    | yes e ↦ rw e (given-place k portAt of-port)
-                    | no other ↦ r .rest k p (omega arith) hp other ∙ sym (s .rest k p (omega arith) hp other)
-                  ]
+              | yes e ↦ rw e (rate-place k hk)
+              | no ne ↦ elim (ℕ-discrete p portAt) [
+                | yes e ↦ rw e (given-place k portAt of-port)
+                | no other ↦ r .rest k p (omega arith) hp other ∙ sym (s .rest k p (omega arith) hp other)
               ]
+            ]
           ]
 
 -- Two orders of the same joins, each accepted all through, leave one table.

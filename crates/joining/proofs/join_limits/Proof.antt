@@ -20,4 +20,4 @@ join-limits-spec =
     (λ c κs. tt)
     (λ c κs. tt)
     (λ c κs. tt)
-    (λ c. tested _ _ (search limits depth 9)))
+    (λ c. tested _ _ (search limits depth 9 fits 9000)))

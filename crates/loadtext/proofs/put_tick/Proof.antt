@@ -1,9 +1,10 @@
 -- `loadtext::put_tick` meets its contract: the tick is made, and the lines of its entries are put.
+use mathlib.Core.Path.{_≡_}
 use native.Mathlib.Omega.{arith}
 use borrow.Author.Needs.{needs}
 use Rattle.table.specs.Tick.{ticked}
 use Rattle.text.proofs.Appending.{append-as}
-use Rattle.loadtext.proofs.Ticks.{Shown, tick-room, no-room, tick-shown}
+use Rattle.loadtext.proofs.Ticks.{Shown, tick-room, no-room, none-second, tick-shown}
 use Rattle.loadtext.proofs.put_tick.Statement.{statement}
 use Rattle.loadtext.proofs.put_tick.Tie as tie
 
@@ -16,6 +17,11 @@ shown c =
     let pre = start c .pre in
     tick-shown _ _ (pre .1) (pre .2) _ _ (c .run .ensures .1 .0) (c .run .ensures .1 .1 .1 .0)
 
+no-second : (c : tie.After-run) → c .run .result .second ≡ 0
+no-second c =
+    let pre = start c .pre in
+    none-second (start c .args .table .now) (start c .args .list .now) (pre .1) (pre .2) _ (c .run .ensures .1 .1 .1 .1)
+
 slice-aggregate-run : tie.Need-slice-aggregate-run
 slice-aggregate-run c = search needs
 
@@ -27,7 +33,11 @@ run-requires c κs =
     (begin .pre .1 .order, tick-room table list (begin .pre .1) (begin .pre .2), no-room table list (begin .pre .1) (begin .pre .2))
 
 put-dispatches-requires : tie.Need-put-dispatches-requires
-put-dispatches-requires c κs = let s = shown (c .before .before .before .before .before) in (omega (arith, s .few), s .listed)
+put-dispatches-requires c κs =
+    let made = c .before .before .before .before .before in
+    let s = shown made in
+    let none = no-second made in
+    (omega (arith, s .few, none), omega (arith, s .listed, none))
 
 same-length : tie.Need-same-length
 same-length c = search needs

@@ -62,8 +62,8 @@ dispatch-requires c κs =
     let going = at (chosen told) .loop .inv .3 in
     let f = found _ (going .on) _ _ (goes told) in (
       lending-within _ (going .on),
-      f .low,
-      f .node,
+      omega (arith, f .low, f .node),
+      omega (arith, f .low, f .node),
       f .waits,
       entry-room _ _ _ _ _ (turn told) firstPort _ _ (going .first),
       entry-room _ _ _ _ _ (turn told) secondPort _ _ (going .second),

@@ -64,7 +64,8 @@ second-few : (c : tie.After-waiting-on2 Inv-loop μ-loop) → c .waiting-on2 .re
 unfolding adds
 second-few c =
     let start = c .before .before .before .before in
-    omega (arith, few (start .args .table .now) (facts _ (start .pre)) secondPort (c .before .before .before .loop .k) (omega arith), c .waiting-on2 .ensures)
+    let few : (p : ℕ) → adds (start .args .table .now) p (c .before .before .before .loop .k) ≤ mostWaiting = λ p. few _ (facts _ (start .pre)) p _ (omega arith) in
+    omega (arith, few firstPort, few secondPort, c .waiting-on2 .ensures)
 
 add-second : tie.Need-add-second Inv-loop μ-loop
 add-second c = omega (arith, second-few c)

@@ -44,6 +44,11 @@ counted t p n e = omega (arith, e)
 small : (t : List ℤ) → InOrder t → (p n : ℕ) → entryLength * n ≡ length (portEntries t p) → n ≤ nodes * mostWaiting
 small t f p n e = omega (arith, e, few t f p, ticked-port t f p)
 
+both : (c : tie.After-run) → (c .run .result .first ≤ nodes * mostWaiting) × (c .run .result .second ≤ nodes * mostWaiting)
+both c =
+    let counts = c .run .ensures .1 .1 .1 in
+    (small _ (order (past c)) firstPort _ (counts .0), small _ (order (past c)) secondPort _ (counts .1))
+
 values : {a b x y : ℤ} → a ≡ b → x ≡ y → accepted (a ∷ x ∷ []) ≡ accepted (b ∷ y ∷ [])
 values p q = cc
 
@@ -78,14 +83,10 @@ run-requires : tie.Need-run-requires
 run-requires c κs = let p = tick-passed _ _ _ (none (c .before .before .before)) in (p .order, p .first, p .second)
 
 whole-requires : tie.Need-whole-requires
-whole-requires c κs =
-    let made = c .before .before .before in
-    omega (arith, small _ (order (past made)) firstPort _ (made .run .ensures .1 .1 .1 .0))
+whole-requires c κs = omega (arith, both (c .before .before .before))
 
 whole-requires-2 : tie.Need-whole-requires-2
-whole-requires-2 c κs =
-    let made = c .before .before .before .before in
-    omega (arith, small _ (order (past made)) secondPort _ (made .run .ensures .1 .1 .1 .1))
+whole-requires-2 c κs = omega (arith, both (c .before .before .before .before))
 
 same-length-4 : tie.Need-same-length-4
 same-length-4 c = search needs

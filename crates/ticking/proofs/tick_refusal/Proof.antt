@@ -1,13 +1,12 @@
 -- `ticking::tick_refusal` meets its contract: each cause in turn, the second for either list.
-use Prim.Native.Nat.{_*_}
+use Prim.Native.Nat.{_*_, _≤_}
 use mathlib.Core.Path.{_≡_, sym, ap, _∙_}
 use mathlib.Core.Bool.{true, not}
 use native.Mathlib.Omega.{arith}
 use borrow.Author.Needs.{needs}
 use borrow.Author.Tests.{not-false, lt-ltb, le-ltb}
 use lib.ListN.{length}
-use Rattle.numbers.proofs.Tests.{or-true-left, or-true-right}
-use Rattle.table.specs.Limits.{entryLength, firstPort, secondPort}
+use Rattle.table.specs.Limits.{nodes, mostWaiting, entryLength, firstPort, secondPort}
 use Rattle.table.specs.Order.{inOrder}
 use Rattle.table.specs.Tick.{portWaiting, listShort, tickRefusal}
 use Rattle.table.proofs.Facts.{facts}
@@ -32,11 +31,15 @@ returns c = (sym (first-here 1 _ _ (ap not (sym (c .before .in-order .ensures)) 
 waiting-by-port-requires : tie.Need-waiting-by-port-requires
 waiting-by-port-requires c κs = order c
 
+-- Both counts are small.
+small : (c : tie.After-waiting-by-port) → let r = c .waiting-by-port .result in (r .first ≤ nodes * mostWaiting) × (r .second ≤ nodes * mostWaiting)
+small c =
+    let f = facts _ (order (c .before)) in
+    let counted = c .waiting-by-port .ensures in
+    (omega (arith, few _ f firstPort, counted .0), omega (arith, few _ f secondPort, counted .1))
+
 mul-if2 : tie.Need-mul-if2
-mul-if2 c =
-    let counted = c .before in
-    let f = few _ (facts _ (order (counted .before))) firstPort in
-    omega (arith, f, counted .waiting-by-port .ensures .0)
+mul-if2 c = omega (arith, small (c .before))
 
 returns-2 : tie.Need-returns-2
 unfolding tickRefusal listShort
@@ -47,10 +50,7 @@ returns-2 c =
     (sym (first-past 1 _ _ (ap not (order (counted .before))) ∙ first-here 13 _ _ (rw short)), omega arith)
 
 mul-if3 : tie.Need-mul-if3
-mul-if3 c =
-    let counted = c .before .before .before in
-    let f = few _ (facts _ (order (counted .before))) secondPort in
-    omega (arith, f, counted .waiting-by-port .ensures .1)
+mul-if3 c = omega (arith, small (c .before .before .before))
 
 returns-3 : tie.Need-returns-3
 unfolding tickRefusal listShort
