@@ -3,11 +3,9 @@ ghost use mathlib.Core.Path.{_≡_};
 ghost use mathlib.Core.Bool.{true};
 ghost use mathlib.Core.List.{[]};
 ghost use Prim.Native.Nat.{_+_, _*_, _<_, _≤_};
-ghost use lib.Dec.{eqb};
 ghost use lib.ListN.{length};
-ghost use Rattle.table.specs.Limits.{tableLength, nodes, entryLength, firstPort, secondPort};
-ghost use Rattle.table.specs.Places.{port, waiting};
-ghost use Rattle.table.specs.Tree.{countIf};
+ghost use Rattle.table.specs.Limits.{nodes, entryLength, firstPort, secondPort};
+ghost use Rattle.table.specs.Places.{port};
 ghost use Rattle.table.specs.Order.{inOrder};
 ghost use Rattle.table.specs.Tick.{ready, servedAll, ticked, portEntries, listed, portWaiting};
 ghost use Rattle.balances.specs.Within.{Within};
@@ -16,30 +14,20 @@ use dispatch::Counts;
 use suppliers::Next;
 use table::Table;
 
-// The requests that wait at node k where it is on port p, else 0.
-fn waiting_on(table: &[i64], p: u64, k: usize) -> u64
-    requires { ⌜ (length (now table) ≡ tableLength) × (k < nodes) ⌝ }
-    ensures { λ r. ⌜ r ≡ countIf (eqb (port (now (table .entry)) k) p) (waiting (now (table .entry))) k ⌝ }
-{
-    if Table::natural(table, k, Table::PORT) == p {
-        return Table::natural(table, k, Table::WAITING);
-    }
-    0
-}
-
-// The waiting requests of each port's clients.
+// The waiting requests of each port's clients. A port is 0 or 1, so a node's requests times its port are those of the second.
 pub fn waiting_by_port(table: &[i64]) -> Counts
     requires { ⌜ inOrder (now table) ≡ true ⌝ }
     ensures { λ r. ⌜ (r .first ≡ portWaiting (now (table .entry)) firstPort) × (r .second ≡ portWaiting (now (table .entry)) secondPort) ⌝ }
 {
-    let mut first: u64 = 0;
+    let mut all: u64 = 0;
     let mut second: u64 = 0;
     for k in 0..Table::NODES {
-        first += waiting_on(table, Table::FIRST_PORT, k);
-        second += waiting_on(table, Table::SECOND_PORT, k);
+        let waiting = Table::unsigned(table, k, Table::WAITING);
+        all += waiting;
+        second += waiting * Table::unsigned(table, k, Table::PORT);
     }
     Counts {
-        first: first as usize,
+        first: (all - second) as usize,
         second: second as usize,
     }
 }

@@ -10,9 +10,9 @@ use borrow.Author.Tests.{eqb-true, eqb-false, eq-eqb, ne-eqb}
 use lib.Dec.{eqb}
 use lib.ListN.{length, length-append, List·getD-eq-default}
 use lib.IntN.{ℤ, pos}
-use Rattle.numbers.specs.Whole.{plus}
+use Rattle.numbers.specs.Whole.{plus, minus}
 use Rattle.numbers.proofs.Tests.{by-test, cond-true, cond-false}
-use Rattle.numbers.proofs.Parts.{zarith, plus-pos}
+use Rattle.numbers.proofs.Parts.{zarith, plus-pos, minus-pos}
 use Rattle.table.specs.Limits.{tableLength, headerLength, recordLength, nodes, sortAt, portAt, client, firstPort, secondPort, portLimit, entryLength}
 use Rattle.table.specs.Places.{place, port}
 use Rattle.table.specs.Tree.{treeOf, there}
@@ -41,6 +41,13 @@ ports-small t f k =
           (λ e. omega (arith, ap plus (f .empty k hk e portAt (omega arith)), plus-pos 0))
       | no high ↦ omega (arith, port-beyond t k (f .long) high)
     ]
+
+-- None is below 0.
+pub port-whole-number : (t : List ℤ) → InOrder t → (k : ℕ) → k < nodes → minus (place t k portAt) ≡ 0
+port-whole-number t f k hk =
+    by-test (there (treeOf t) k)
+    (λ e. omega (arith, zarith, f .limits k hk e .port))
+    (λ e. ap minus (f .empty k hk e portAt (omega arith)) ∙ minus-pos 0)
 
 -- A list of whole entries. What holds of none, and of one more in front, holds of it.
 unfoldable pub whole : List ℤ → Type 0

@@ -5,20 +5,20 @@ use mathlib.Core.Path.{_≡_, sym, ap, _∙_}
 use mathlib.Core.Bool.{true, false, cond}
 use mathlib.Core.List.{List, [], _∷_, _++_}
 use native.Mathlib.Omega.{arith}
-use borrow.Author.Tests.{eqb-true, eqb-false, ne-eqb}
+use borrow.Author.Tests.{eqb-true, eqb-false, eq-eqb, ne-eqb}
 use lib.Dec.{eqb}
 use lib.ListN.{length, length-append}
 use lib.IntN.{ℤ, pos}
 use Rattle.numbers.specs.Whole.{plus}
 use Rattle.numbers.specs.Below.{sumBelow}
 use Rattle.numbers.proofs.Tests.{by-test, cond-true, cond-false}
-use Rattle.numbers.proofs.Sums.{sum-zero, sum-cong, sum-mono, sum-changed}
+use Rattle.numbers.proofs.Sums.{sum-zero, sum-cong, sum-mono, sum-add, sum-changed}
 use Rattle.table.specs.Limits.{nodes, entryLength, firstPort, secondPort}
 use Rattle.table.specs.Places.{port, waiting, tag, size}
 use Rattle.table.specs.Tree.{Tree, treeOf, countIf}
 use Rattle.table.specs.Tick.{State, grown, cut, allWaiting, dispatched, stepTwo, stepThree, ticked, ofPort, portEntries, portWaiting}
 use Rattle.table.proofs.Facts.{InOrder}
-use Rattle.table.proofs.Ports.{ports-small, whole, whole-of, port-none, port-gets, port-stays, ports-all}
+use Rattle.table.proofs.Ports.{ports-small, by-port, whole, whole-of, port-none, port-gets, port-stays, ports-all}
 use Rattle.treelaws.proofs.Children.{counted, uncounted}
 use Rattle.ticklaws.proofs.Frame.{OnlyBalances, only-frame, frame-port}
 use Rattle.ticklaws.proofs.Queues.{only-shifted}
@@ -55,6 +55,17 @@ port-most t p =
     by-test (eqb (port t k) p)
     (λ e. omega (arith, counted (eqb (port t k) p) (waiting t) k e))
     (λ e. omega (arith, uncounted (eqb (port t k) p) (waiting t) k e)))
+
+-- What waits at the two ports is all that waits, node by node and in sum.
+pub waits-both : (t : List ℤ) → InOrder t → (k : ℕ) → countIf (eqb (port t k) firstPort) (waiting t) k + countIf (eqb (port t k) secondPort) (waiting t) k ≡ waiting t k
+waits-both t f k =
+    by-port (port t) (ports-small t f) k
+    (λ here other. omega (arith, counted _ (waiting t) k (eq-eqb (port t k) firstPort here), uncounted _ (waiting t) k (ne-eqb (port t k) secondPort other)))
+    (λ other here. omega (arith, uncounted _ (waiting t) k (ne-eqb (port t k) firstPort other), counted _ (waiting t) k (eq-eqb (port t k) secondPort here)))
+
+pub port-both : (t : List ℤ) → InOrder t → portWaiting t firstPort + portWaiting t secondPort ≡ allWaiting t
+unfolding portWaiting allWaiting
+port-both t f = sym (sum-add nodes _ _) ∙ sum-cong nodes _ (waiting t) (λ k hk. waits-both t f k)
 
 -- Nothing waits at a port that no client is on.
 pub none-waiting : (t : List ℤ) (p : ℕ) → ((k : ℕ) → port t k ≡ p → ⊥) → portWaiting t p ≡ 0

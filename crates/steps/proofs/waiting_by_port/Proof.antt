@@ -1,74 +1,102 @@
--- `steps::waiting_by_port` meets its contract. The invariant: the sums are those of the nodes so far, at most 8 for each.
+-- `steps::waiting_by_port` meets its contract. The invariant: the sums are those of the nodes so far, of all requests and of those
+-- at the second port. What is left of all is at the first.
 use Prim.Native.Nat.{ℕ, _+_, _*_, _-_, _≤_, _<_}
 use mathlib.Core.Path.{_≡_, refl, _∙_}
 use mathlib.Core.List.{List}
 use native.Mathlib.Omega.{arith}
+use borrow.Author.Tests.{eq-eqb, ne-eqb}
 use lib.Dec.{eqb}
 use lib.IntN.{ℤ}
+use Rattle.numbers.specs.Whole.{minus}
 use Rattle.numbers.specs.Below.{sumBelow}
-use Rattle.numbers.proofs.Tests.{by-test}
+use Rattle.numbers.proofs.Parts.{zarith}
 use Rattle.numbers.proofs.Sums.{sum-next}
-use Rattle.table.specs.Limits.{nodes, mostWaiting, firstPort, secondPort}
-use Rattle.table.specs.Places.{port, waiting}
+use Rattle.table.specs.Limits.{nodes, waitingAt, mostWaiting, firstPort, secondPort}
+use Rattle.table.specs.Places.{place, port, waiting}
 use Rattle.table.specs.Tree.{countIf}
-use Rattle.table.specs.Tick.{portWaiting}
+use Rattle.table.specs.Tick.{allWaiting, portWaiting}
 use Rattle.table.proofs.Facts.{InOrder, facts}
+use Rattle.table.proofs.Ports.{ports-small, by-port, port-whole-number}
 use Rattle.treelaws.proofs.Children.{counted, uncounted}
+use Rattle.ticklaws.proofs.Queues.{queues-of}
+use Rattle.ticklaws.proofs.Ports.{waits-both, port-both}
 use Rattle.steps.proofs.Within.{waiting-few}
 use Rattle.steps.proofs.waiting_by_port.Statement.{statement}
 use Rattle.steps.proofs.waiting_by_port.Tie as tie
 
--- What node k adds at port p.
-adds : List ℤ → ℕ → ℕ → ℕ
-adds t p k = countIf (eqb (port t k) p) (waiting t) k
+-- What node k adds at the second port: its requests times its port.
+adds : List ℤ → ℕ → ℕ
+adds t k = countIf (eqb (port t k) secondPort) (waiting t) k
 
-few : (t : List ℤ) → InOrder t → (p k : ℕ) → k < nodes → adds t p k ≤ mostWaiting
-unfolding adds waiting
-few t f p k hk =
-    by-test (eqb (port t k) p)
-    (λ e. omega (arith, counted (eqb (port t k) p) (waiting t) k e, waiting-few t f k hk))
-    (λ e. omega (arith, uncounted (eqb (port t k) p) (waiting t) k e))
+times : (t : List ℤ) → InOrder t → (k w q : ℕ) → w ≡ waiting t k → q ≡ port t k → w * q ≡ adds t k
+unfolding adds
+times t f k w q hw hq =
+    by-port (port t) (ports-small t f) k
+    (λ here other. rw (hq ∙ here) (omega (arith, uncounted (eqb (port t k) secondPort) (waiting t) k (ne-eqb (port t k) secondPort other))))
+    (λ other here. rw (hq ∙ here) (omega (arith, hw, counted (eqb (port t k) secondPort) (waiting t) k (eq-eqb (port t k) secondPort here))))
+
+adds-most : (t : List ℤ) → InOrder t → (k : ℕ) → adds t k ≤ waiting t k
+unfolding adds
+adds-most t f k = omega (arith, waits-both t f k)
+
+not-below : (t : List ℤ) → InOrder t → (k : ℕ) → k < nodes → minus (place t k waitingAt) ≡ 0
+not-below t f k hk = omega (arith, zarith, queues-of t f .few k hk)
 
 abbrev Inv-loop : tie.InvT-loop
-Inv-loop table first₀ second₀ k₀ first second k =
+Inv-loop table all₀ second₀ k₀ all second k =
     (k ≤ nodes)
-    × (first ≤ mostWaiting * k)
-    × (first ≡ sumBelow k (adds table firstPort))
-    × (second ≤ mostWaiting * k)
-    × (second ≡ sumBelow k (adds table secondPort))
+    × (all ≤ mostWaiting * k)
+    × (all ≡ sumBelow k (waiting table))
+    × (second ≤ all)
+    × (second ≡ sumBelow k (adds table))
 
 abbrev μ-loop : tie.MeasureT-loop
-μ-loop table first₀ second₀ k₀ first second k = nodes - k
+μ-loop table all₀ second₀ k₀ all second k = nodes - k
 
 loop-holds : tie.Need-loop-holds Inv-loop μ-loop
 unfolding sumBelow
 loop-holds c = (omega arith, omega arith, refl, omega arith, refl)
 
-waiting-on-requires : tie.Need-waiting-on-requires Inv-loop μ-loop
-waiting-on-requires c κs = (facts _ (c .before .before .pre) .long, omega arith)
+unsigned-requires : tie.Need-unsigned-requires Inv-loop μ-loop
+unsigned-requires c κs =
+    let f = facts _ (c .before .before .pre) in
+    (f .long, omega arith, omega arith, not-below _ f _ (omega arith))
 
--- What one node adds to each sum.
-first-few : (c : tie.After-waiting-on Inv-loop μ-loop) → c .waiting-on .result ≤ mostWaiting
-unfolding adds
-first-few c =
+-- What a node adds to all.
+is-waiting : (c : tie.After-unsigned Inv-loop μ-loop) → c .unsigned .result ≡ waiting (c .before .before .before .args .table .now) (c .before .before .loop .k)
+unfolding waiting
+is-waiting c = c .unsigned .ensures
+
+few : (c : tie.After-unsigned Inv-loop μ-loop) → c .unsigned .result ≤ mostWaiting
+few c =
     let start = c .before .before .before in
-    omega (arith, few (start .args .table .now) (facts _ (start .pre)) firstPort (c .before .before .loop .k) (omega arith), c .waiting-on .ensures)
+    omega (arith, waiting-few (start .args .table .now) (facts _ (start .pre)) (c .before .before .loop .k) (omega arith))
 
-add-first : tie.Need-add-first Inv-loop μ-loop
-add-first c = omega (arith, first-few c)
+add-all : tie.Need-add-all Inv-loop μ-loop
+add-all c = omega (arith, few c)
 
-waiting-on-requires-2 : tie.Need-waiting-on-requires-2 Inv-loop μ-loop
-waiting-on-requires-2 c κs = (facts _ (c .before .before .before .pre) .long, omega arith)
+unsigned-requires-2 : tie.Need-unsigned-requires-2 Inv-loop μ-loop
+unsigned-requires-2 c κs =
+    let f = facts _ (c .before .before .before .pre) in
+    (f .long, omega arith, omega arith, port-whole-number _ f _ (omega arith))
 
-second-few : (c : tie.After-waiting-on2 Inv-loop μ-loop) → c .waiting-on2 .result ≤ mostWaiting
-unfolding adds
-second-few c =
-    let start = c .before .before .before .before in
-    let few : (p : ℕ) → adds (start .args .table .now) p (c .before .before .before .loop .k) ≤ mostWaiting = λ p. few _ (facts _ (start .pre)) p _ (omega arith) in
-    omega (arith, few firstPort, few secondPort, c .waiting-on2 .ensures)
+-- What it adds at the second port.
+product : (c : tie.After-unsigned2 Inv-loop μ-loop) → let at = c .before .before .before in c .before .unsigned .result * c .unsigned2 .result ≡ adds (at .before .args .table .now) (at .loop .k)
+unfolding port
+product c =
+    let at = c .before .before .before in
+    times _ (facts _ (at .before .pre)) (at .loop .k) _ _ (is-waiting (c .before)) (c .unsigned2 .ensures)
+
+small : (c : tie.After-unsigned2 Inv-loop μ-loop) → c .before .unsigned .result * c .unsigned2 .result ≤ c .before .unsigned .result
+small c =
+    let at = c .before .before .before in
+    omega (arith, product c, adds-most _ (facts _ (at .before .pre)) (at .loop .k), is-waiting (c .before))
+
+mul-second : tie.Need-mul-second Inv-loop μ-loop
+mul-second c = omega (arith, small c, few (c .before))
 
 add-second : tie.Need-add-second Inv-loop μ-loop
-add-second c = omega (arith, second-few c)
+add-second c = omega (arith, small c, few (c .before))
 
 add-k : tie.Need-add-k Inv-loop μ-loop
 add-k c = omega arith
@@ -77,24 +105,28 @@ loop-less : tie.Need-loop-less Inv-loop μ-loop
 loop-less c = omega arith
 
 loop-again : tie.Need-loop-again Inv-loop μ-loop
-unfolding adds
 loop-again c =
     let at = c .before .before .before in
-    let t = at .before .args .table .now in
-    let next : (p : ℕ) → sumBelow (at .loop .k + 1) (adds t p) ≡ sumBelow (at .loop .k) (adds t p) + adds t p (at .loop .k) = λ p. sum-next (at .loop .k) (adds t p) in (
+    let t = at .before .args .table .now in (
       omega arith,
-      omega (arith, first-few (c .before)),
-      omega (arith, next firstPort, c .before .waiting-on .ensures),
-      omega (arith, second-few c),
-      omega (arith, next secondPort, c .waiting-on2 .ensures),
+      omega (arith, few (c .before)),
+      omega (arith, sum-next (at .loop .k) (waiting t), is-waiting (c .before)),
+      omega (arith, small c),
+      omega (arith, sum-next (at .loop .k) (adds t), product c),
     )
 
+sub-t9 : tie.Need-sub-t9 Inv-loop μ-loop
+sub-t9 c = omega arith
+
 returns : tie.Need-returns Inv-loop μ-loop
-unfolding portWaiting adds
+unfolding allWaiting portWaiting adds
 returns c =
-    let end : c .before .loop .k ≡ nodes = omega arith in
+    let t = c .before .before .args .table .now in
     let inv = c .before .loop .inv in
-    (rw end at (inv .2), rw end at (inv .4))
+    let end : c .before .loop .k ≡ nodes = omega arith in
+    let all : c .before .loop .all ≡ allWaiting t = rw end at (inv .2) in
+    let second : c .before .loop .second ≡ portWaiting t secondPort = rw end at (inv .4) in
+    (omega (arith, all, second, port-both t (facts _ (c .before .before .pre))), second)
 
 pub waiting-by-port-spec : {M : Type 1} → statement M
 waiting-by-port-spec =
@@ -103,11 +135,13 @@ waiting-by-port-spec =
     Inv-loop
     μ-loop
     loop-holds
-    waiting-on-requires
-    add-first
-    waiting-on-requires-2
+    unsigned-requires
+    add-all
+    unsigned-requires-2
+    mul-second
     add-second
     add-k
     loop-less
     loop-again
+    sub-t9
     returns)
