@@ -59,8 +59,10 @@ loop-holds c = (omega arith, omega arith, refl, omega arith, refl)
 
 unsigned-requires : tie.Need-unsigned-requires Inv-loop μ-loop
 unsigned-requires c κs =
+    let t = c .before .before .args .table .now in
+    let k = c .before .loop .k in
     let f = facts _ (c .before .before .pre) in
-    (f .long, omega arith, omega arith, not-below _ f _ (omega arith))
+    (f .long, omega arith, omega arith, omega (arith, not-below t f k (omega arith), port-whole-number t f k (omega arith)))
 
 -- What a node adds to all.
 is-waiting : (c : tie.After-unsigned Inv-loop μ-loop) → c .unsigned .result ≡ waiting (c .before .before .before .args .table .now) (c .before .before .loop .k)
