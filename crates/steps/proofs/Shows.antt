@@ -2,8 +2,7 @@
 -- loop of dispatches, which makes the whole of a step.
 use Prim.Native.Nat.{ℕ, _+_, _*_, _-_, _≤_}
 use mathlib.Core.Path.{_≡_, refl, sym, ap, _∙_}
-use mathlib.Core.Bool.{true, false}
-use mathlib.Core.List.{List, [], _∷_}
+use mathlib.Core.List.{List, []}
 use native.Mathlib.Omega.{arith}
 use borrow.Author.Tests.{eqb-true, eqb-false}
 use lib.Dec.{eqb}
@@ -87,10 +86,18 @@ unfolding Room
 entry-room On step t k s turn p l n room = omega (arith, room, turn .fewer p)
 
 -- The list m of port p, with n' entries written, after that dispatch of the list l with n.
-pub record Listed (p : ℕ) (t : List ℤ) (k s : ℕ) (l : List ℤ) (n : ℕ) (m : List ℤ) (n' : ℕ) : Type 0 where
-  pub list : m ≡ listAfter p l n t k s
-  pub count : n' ≡ n + gets p (port t k)
-  pub long : length m ≡ length l
+record Listed (p : ℕ) (t : List ℤ) (k s : ℕ) (l : List ℤ) (n : ℕ) (m : List ℤ) (n' : ℕ) : Type 0 where
+  list : m ≡ listAfter p l n t k s
+  count : n' ≡ n + gets p (port t k)
+  long : length m ≡ length l
+
+-- What `dispatch::dispatch` promises, in its own order.
+abbrev pub Made : List ℤ → ℕ → ℕ → List ℤ → List ℤ → Counts → List ℤ → List ℤ → List ℤ → Counts → Type 0
+Made t k s a b n u a' b' n' =
+    (u ≡ tableAfter t k s)
+    × ((a' ≡ listAfter firstPort a (n .first) t k s)
+    × ((b' ≡ listAfter secondPort b (n .second) t k s)
+    × ((n' .first ≡ n .first + gets firstPort (port t k)) × (n' .second ≡ n .second + gets secondPort (port t k)))))
 
 -- The list of a port has room again.
 room-next : (On : List ℤ → Type 0) (step : State → State) (t : List ℤ) (k s : ℕ) → Turn On step t k s → (p : ℕ) (l m : List ℤ) (n n' : ℕ) → Room p t l n → Listed p t k s l n m n' → (u : List ℤ) → u ≡ tableAfter t k s → Room p u m n'
@@ -132,8 +139,11 @@ module _ (On : List ℤ → Type 0) (step : State → State) (t₀ a₀ b₀ : L
   pub going-first : On t₀ → Room firstPort t₀ a₀ (n₀ .first) → Room secondPort t₀ b₀ (n₀ .second) → Going On step t₀ a₀ b₀ n₀ t₀ a₀ b₀ n₀
   going-first on first second = record { on = on; first = first; second = second; left = λ t' a' b' n' f. f }
 
-  pub going-next : (t a b : List ℤ) (n : Counts) (k s : ℕ) → Going On step t₀ a₀ b₀ n₀ t a b n → Turn On step t k s → (u a' b' : List ℤ) (n' : Counts) → u ≡ tableAfter t k s → Listed firstPort t k s a (n .first) a' (n' .first) → Listed secondPort t k s b (n .second) b' (n' .second) → Going On step t₀ a₀ b₀ n₀ u a' b' n'
-  going-next t a b n k s g turn u a' b' n' e first second =
+  pub going-next : (t a b : List ℤ) (n : Counts) (k s : ℕ) → Going On step t₀ a₀ b₀ n₀ t a b n → Turn On step t k s → (u a' b' : List ℤ) (n' : Counts) → Made t k s a b n u a' b' n' → length a' ≡ length a → length b' ≡ length b → Going On step t₀ a₀ b₀ n₀ u a' b' n'
+  going-next t a b n k s g turn u a' b' n' made long₀ long₁ =
+      let e = made .0 in
+      let first : Listed firstPort t k s a (n .first) a' (n' .first) = record { list = made .1 .0; count = made .1 .1 .1 .0; long = long₀ } in
+      let second : Listed secondPort t k s b (n .second) b' (n' .second) = record { list = made .1 .1 .0; count = made .1 .1 .1 .1; long = long₁ } in
       record {
         on = rw e (turn .on);
         first = room-next On step t k s turn firstPort a a' (n .first) (n' .first) (g .first) first u e;

@@ -2,13 +2,13 @@
 -- and together all of them.
 use Prim.Native.Nat.{ℕ, zero, suc, _+_, _*_, _/_, _≤_, _<_}
 use mathlib.Core.Path.{_≡_, refl, sym, ap, _∙_}
-use mathlib.Core.Bool.{Bool, true, false, cond}
+use mathlib.Core.Bool.{cond}
 use mathlib.Core.List.{List, [], _∷_, _++_, append-nil, append-assoc}
 use native.Mathlib.Omega.{arith}
 use native.Mathlib.Decide.{decLt}
 use borrow.Author.Tests.{eqb-true, eqb-false, eq-eqb, ne-eqb}
 use lib.Dec.{eqb}
-use lib.ListN.{length, length-append, List·getD-eq-default}
+use lib.ListN.{length, List·getD-eq-default}
 use lib.IntN.{ℤ, pos}
 use Rattle.numbers.specs.Whole.{plus, minus}
 use Rattle.numbers.proofs.Tests.{by-test, cond-true, cond-false}

@@ -77,17 +77,11 @@ loop-less c =
 loop-again : tie.Need-loop-again Inv-loop μ-loop
 loop-again c =
     let at = at (then (made c)) .loop in
-    let done = made c .dispatch in
-    let first = done .ensures .1 .0 in
-    let second = done .ensures .1 .1 .0 in
-    let counts = done .ensures .1 .1 .1 in (
+    let done = made c .dispatch in (
       done .kept .0 ∙ at .inv .0,
       done .kept .1 .0 ∙ at .inv .1,
       done .kept .1 .1 .0 ∙ at .inv .2,
-      going-next Serving _ _ _ _ _ (at .table) (at .first) (at .second) (at .written) _ _ (at .inv .3) (turn (then (made c))) _ _ _ _
-          (done .ensures .0)
-          (record { list = first; count = counts .0; long = done .kept .1 .0 })
-          (record { list = second; count = counts .1; long = done .kept .1 .1 .0 }),
+      going-next Serving _ _ _ _ _ (at .table) (at .first) (at .second) (at .written) _ _ (at .inv .3) (turn (then (made c))) _ _ _ _ (done .ensures) (done .kept .1 .0) (done .kept .1 .1 .0),
     )
 
 same-length : tie.Need-same-length Inv-loop μ-loop

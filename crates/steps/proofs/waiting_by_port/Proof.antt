@@ -1,6 +1,6 @@
 -- `steps::waiting_by_port` meets its contract. The invariant: the sums are those of the nodes so far, of all requests and of those
 -- at the second port. What is left of all is at the first.
-use Prim.Native.Nat.{ℕ, _+_, _*_, _-_, _≤_, _<_}
+use Prim.Native.Nat.{ℕ, _*_, _-_, _≤_, _<_}
 use mathlib.Core.Path.{_≡_, refl, _∙_}
 use mathlib.Core.List.{List}
 use native.Mathlib.Omega.{arith}
@@ -11,7 +11,7 @@ use Rattle.numbers.specs.Whole.{minus}
 use Rattle.numbers.specs.Below.{sumBelow}
 use Rattle.numbers.proofs.Parts.{zarith}
 use Rattle.numbers.proofs.Sums.{sum-next}
-use Rattle.table.specs.Limits.{nodes, waitingAt, mostWaiting, firstPort, secondPort}
+use Rattle.table.specs.Limits.{nodes, waitingAt, mostWaiting, secondPort}
 use Rattle.table.specs.Places.{place, port, waiting}
 use Rattle.table.specs.Tree.{countIf}
 use Rattle.table.specs.Tick.{allWaiting, portWaiting}
