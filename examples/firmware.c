@@ -36,18 +36,21 @@ static void look(int64_t node)
                seen[HDS_SEEN_RATE], seen[HDS_SEEN_BALANCE], seen[HDS_SEEN_WAITING], seen[HDS_SEEN_LOST]);
 }
 
-/* Hands a host what goes to its port. */
+/* Hands the host at a port its list. */
 static void host(int port, const int64_t *list, int64_t count)
 {
     for (int64_t i = 0; i < count; i++) {
         const int64_t *entry = list + HDS_ENTRY_LENGTH * i;
 
-        printf("  host %d: client %" PRId64 ", tag %" PRId64 ", size %" PRId64 ", supplier %" PRId64 "\n", port,
+        printf("  port %d: client %" PRId64 ", tag %" PRId64 ", size %" PRId64 ", supplier %" PRId64 "\n", port,
                entry[HDS_ENTRY_CLIENT], entry[HDS_ENTRY_TAG], entry[HDS_ENTRY_SIZE], entry[HDS_ENTRY_SUPPLIER]);
     }
 }
 
-/* A tick with so many numbers on each list. */
+/*
+ * A tick with so many numbers on each list. After a refused one lists and counts are as they came: with counts that
+ * are kept from tick to tick, test the answer before anything is sent. Here they begin with 0.
+ */
 static void tick(size_t first, size_t second)
 {
     int64_t counts[HDS_PORTS] = {0, 0};

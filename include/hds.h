@@ -30,15 +30,16 @@
  *   In memory    an array of int64_t, aligned to 8 bytes.
  *   On disk      its HDS_TABLE_BYTES bytes as they are, each number low byte first. There is no checksum: the calls
  *                test that a table is in order, not that it is the one that was stored, nor by which version. Keep a
- *                checksum and HDS_VERSION_MAJOR beside it; HDS_OLDEST_TABLE_VERSION says which versions fit.
+ *                checksum and HDS_VERSION_MAJOR beside it; HDS_OLDEST_TABLE_VERSION says which versions fit. A copied
+ *                or stored table keeps its ports.
  *   One writer   While a call that may write a table runs, no other call on that table may. Calls that only read it
  *                (look, same, plan write) may run side by side, and so may calls on different buffers. An interrupt
  *                or signal handler counts as another thread.
  *   A stop       A call judges before it writes, so a refused one has written nothing. A program that is stopped in
- *                an accepted call leaves the table with a part of what the call writes: after a tick, some balances
- *                raised and others not, requests gone that stand only in a list, and no counts. Every call is safe on
- *                such a table, and most such tables pass as in order. Where a table must outlive a stop, make the call
- *                on a copy and then point to the copy; the manual has the steps.
+ *                an accepted call leaves the table with a part of what the call writes: a stop in a tick leaves some
+ *                balances raised and others not, requests gone that stand only in a list, and the counts written or
+ *                not. Every call is safe on such a table, and most such tables pass as in order. Where a table must
+ *                outlive a stop, make the call on a copy and then point to the copy; the manual has the steps.
  *
  * LINKING. libcabinet.a has all calls but hds_plan_check, which is in libplan.a; `rt staticlib cabinet` and
  * `rt staticlib plan` write them to target/staticlib/. They need memcpy and memset, libplan.a memset alone, and nothing
@@ -75,12 +76,14 @@ extern "C" {
  * for the first edition. Compile everything that includes this header again. Plans of version 4 and tables of versions
  * 2 to 4 can be used; a plan of the second edition, or a table with a stated node, cannot be used by version 4.
  * From 5 to 6: hds_join takes the port last. hds_tick takes a list for each port and a buffer for the two counts, and
- * answers 0 where it answered how many were dispatched. A program that was compiled with version 5 and is linked with
- * these archives hands both wrong arguments: compile everything that calls them again. hds_join_client joins on the
- * first port and hds_tick_first ticks a cabinet with one host: with hds_tick_first for hds_tick, and hds_join_class and
- * hds_join_client for hds_join, a program does what it did. HDS_SPARE_AT is 10 and was 9, HDS_SPARE_LENGTH 6 and was 7;
- * the text of HDS_BUFFER_SHORT is another. Plans of version 5 and tables of versions 2 to 5 can be used, with all
- * clients on the first port; a table with a client on the second cannot be used by version 5.
+ * answers 0 where it answered how many were dispatched. Compile everything that includes this header again: object
+ * files of version 5 link and give wrong arguments, also where they call hds_join_class and hds_join_client; their
+ * joins answer -2 or get any port, their ticks write where they should not or stop the program. Declarations in other
+ * languages are to be changed by hand. For a cabinet with one host put hds_tick_first for hds_tick, and give hds_join
+ * HDS_FIRST_PORT; hds_join_class and hds_join_client are called as before, and a program does what it did.
+ * HDS_SPARE_AT is 10 and was 9, HDS_SPARE_LENGTH 6 and was 7; the text of HDS_BUFFER_SHORT is another. Plans of
+ * version 5 and tables of versions 2 to 5 can be used, with all clients on the first port; a table with a client on
+ * the second cannot be used by version 5.
  *
  * A stored table is one of this version where it was stored by version HDS_OLDEST_TABLE_VERSION to HDS_VERSION_MAJOR.
  */
@@ -366,10 +369,11 @@ int64_t hds_request(int64_t *table, size_t table_length, int64_t client, int64_t
  * Balances are cut to the depths. Then the oldest requests borrow, one at a time: the supplier of a request is the
  * first node with enough from the client upwards; the request whose supplier is the fewest levels up goes, of several
  * the one that arrived first; then all are looked at again. So the requests go in one order, whatever their ports.
- * The first list gets those of clients on HDS_FIRST_PORT, the second those of clients on HDS_SECOND_PORT: each
- * HDS_ENTRY_LENGTH numbers for each request, in the order in which they go, and stays untouched beyond them.
- * counts[HDS_FIRST_PORT] and counts[HDS_SECOND_PORT] say how many there are on each. Answers 0. A list may be empty
- * where nothing waits at its port. A refused tick leaves the counts as they came, too. Refused:
+ * The first list gets those of clients on HDS_FIRST_PORT, the second those of clients on HDS_SECOND_PORT. Each gets
+ * HDS_ENTRY_LENGTH numbers for each of its requests, in the order in which they go, and stays untouched beyond them.
+ * counts[HDS_FIRST_PORT] and counts[HDS_SECOND_PORT] say how many there are on each. Answers 0. A list may be of length
+ * 0 where nothing waits at its port; its pointer is not null all the same. A refused tick writes neither lists nor
+ * counts: test the answer first, or the requests of the tick before are sent again. Refused:
  *   HDS_NOT_IN_ORDER      the table
  *   HDS_BUFFER_SHORT      a list is shorter than HDS_ENTRY_LENGTH numbers for each waiting request of the clients on its
  *                         port, however long the other is
@@ -487,9 +491,12 @@ static inline int64_t hds_join_class(int64_t *table, size_t table_length, int64_
     return hds_join(table, table_length, node, parent, HDS_CLASS, share.kind, share.share, depth, HDS_FIRST_PORT);
 }
 
-/* A client on a port; hds_join_client, below, joins it on the first. */
+/*
+ * A client on a port, HDS_FIRST_PORT or HDS_SECOND_PORT; any other number is refused. hds_join_client, below, joins it
+ * on the first.
+ */
 static inline int64_t hds_join_client_on(int64_t *table, size_t table_length, int64_t node, int64_t parent,
-                                         struct hds_share share, int64_t depth, enum hds_port port)
+                                         struct hds_share share, int64_t depth, int64_t port)
 {
     return hds_join(table, table_length, node, parent, HDS_CLIENT, share.kind, share.share, depth, port);
 }
@@ -507,7 +514,8 @@ static inline int64_t hds_set_share(int64_t *table, size_t table_length, int64_t
 
 /*
  * A tick of a cabinet with one host, on the first port. Answers how many were dispatched to the list. Refused as
- * hds_tick with an empty second list: HDS_BUFFER_SHORT also where a request waits at a client on the second port.
+ * hds_tick with a second list of length 0: HDS_BUFFER_SHORT also as soon as a request waits at a client on the second
+ * port.
  */
 static inline int64_t hds_tick_first(int64_t *table, size_t table_length, int64_t *list, size_t list_length)
 {

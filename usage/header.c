@@ -51,18 +51,18 @@ static void refusals(void)
 static void typed_calls(void)
 {
     alike(hds_open(TABLE, 1000, 40), hds_open(PLAIN, 1000, 40), 0, "open");
-    alike(hds_join_class(TABLE, 1, 0, hds_fixed(5000), 20), hds_join(PLAIN, 1, 0, HDS_CLASS, HDS_FIXED, 5000, 20, 0), 0,
+    alike(hds_join_class(TABLE, 1, 0, hds_fixed(5000), 20), hds_join(PLAIN, 1, 0, HDS_CLASS, HDS_FIXED, 5000, 20, HDS_FIRST_PORT), 0,
           "hds_join_class, fixed");
-    alike(hds_join_class(TABLE, 2, 1, hds_weighted(2), 10), hds_join(PLAIN, 2, 1, HDS_CLASS, HDS_WEIGHTED, 2, 10, 0), 0,
+    alike(hds_join_class(TABLE, 2, 1, hds_weighted(2), 10), hds_join(PLAIN, 2, 1, HDS_CLASS, HDS_WEIGHTED, 2, 10, HDS_FIRST_PORT), 0,
           "hds_join_class, weighted");
-    alike(hds_join_client(TABLE, 3, 2, hds_fixed(7), 4), hds_join(PLAIN, 3, 2, HDS_CLIENT, HDS_FIXED, 7, 4, 0), 0,
+    alike(hds_join_client(TABLE, 3, 2, hds_fixed(7), 4), hds_join(PLAIN, 3, 2, HDS_CLIENT, HDS_FIXED, 7, 4, HDS_FIRST_PORT), 0,
           "hds_join_client, fixed");
-    alike(hds_join_client(TABLE, 4, 2, hds_weighted(9), 5), hds_join(PLAIN, 4, 2, HDS_CLIENT, HDS_WEIGHTED, 9, 5, 0), 0,
+    alike(hds_join_client(TABLE, 4, 2, hds_weighted(9), 5), hds_join(PLAIN, 4, 2, HDS_CLIENT, HDS_WEIGHTED, 9, 5, HDS_FIRST_PORT), 0,
           "hds_join_client, weighted");
     alike(hds_set_share(TABLE, 3, hds_weighted(8)), hds_change_share(PLAIN, 3, HDS_WEIGHTED, 8), 0, "hds_set_share");
-    alike(hds_join_class(TABLE, 5, 0, hds_stated(300), 6), hds_join(PLAIN, 5, 0, HDS_CLASS, HDS_STATED, 300, 6, 0), 0,
+    alike(hds_join_class(TABLE, 5, 0, hds_stated(300), 6), hds_join(PLAIN, 5, 0, HDS_CLASS, HDS_STATED, 300, 6, HDS_FIRST_PORT), 0,
           "hds_join_class, stated");
-    alike(hds_join_client(TABLE, 6, 0, hds_stated(700), 7), hds_join(PLAIN, 6, 0, HDS_CLIENT, HDS_STATED, 700, 7, 0), 0,
+    alike(hds_join_client(TABLE, 6, 0, hds_stated(700), 7), hds_join(PLAIN, 6, 0, HDS_CLIENT, HDS_STATED, 700, 7, HDS_FIRST_PORT), 0,
           "hds_join_client, stated");
     alike(hds_set_share(TABLE, 6, hds_stated(701)), hds_change_share(PLAIN, 6, HDS_STATED, 701), -HDS_STATED_WRONG,
           "hds_set_share, stated");
@@ -154,6 +154,7 @@ static void ports(void)
         second[i] = -9;
     hds_open(TABLE, 24000, 40);
     check(hds_join_client_on(TABLE, 1, HDS_ROOT, hds_weighted(2), 16, HDS_SECOND_PORT) == 0, "hds_join_client_on");
+    check(hds_join_client_on(TABLE, 2, HDS_ROOT, hds_weighted(1), 16, INT64_C(1) << 32) == -HDS_OUTSIDE_LIMITS, "no such port");
     check(hds_join_client(TABLE, 2, HDS_ROOT, hds_weighted(1), 16) == 0, "hds_join_client");
     check(table[HDS_PLACE(1, HDS_PORT_AT)] == HDS_SECOND_PORT && table[HDS_PLACE(2, HDS_PORT_AT)] == HDS_FIRST_PORT,
           "HDS_PORT_AT");

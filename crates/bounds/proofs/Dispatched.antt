@@ -10,9 +10,9 @@ use Rattle.numbers.proofs.Tests.{same-truth}
 use Rattle.table.specs.Tree.{Tree, atOrAbove}
 use Rattle.table.specs.Places.{size}
 use Rattle.table.specs.Tick.{State, grains, dispatched}
+use Rattle.table.proofs.Ports.{whole}
 use Rattle.bounds.specs.Observer.{Entry, entriesFor}
 use Rattle.bounds.specs.Counts.{entryGrains, grainsForClient, grainsToNode, sumOver}
-use Rattle.table.proofs.Ports.{whole}
 use Rattle.bounds.proofs.Decoded.{sum-last, entriesFor-last, told, entryOf, told-dispatched}
 
 pub eqb-swap : (a b : ℕ) → eqb a b ≡ eqb b a

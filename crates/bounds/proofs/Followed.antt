@@ -1,4 +1,4 @@
--- The dispatches of a tick, followed by what its list tells: at each client the requests that wait fall by the entries for
+-- The dispatches of a tick, followed by what its entries tell: at each client the requests that wait fall by the entries for
 -- it, at each node the balance falls by the grains charged to it, and a client is charged for its own requests only, since
 -- strictly above any node stand only classes.
 use Prim.Native.Nat.{ℕ, _+_, _≤_}

@@ -1,4 +1,4 @@
--- The whole tick, followed by what its list tells. Balances: step 1 adds each node's rate, steps 2 and 4 take what is
+-- The whole tick, followed by what its entries tell. Balances: step 1 adds each node's rate, steps 2 and 4 take what is
 -- charged, step 3 only lowers, and leaves a balance that is at most its depth.
 use Prim.Native.Nat.{ℕ, _+_, _≤_, _<_}
 use mathlib.Core.Path.{_≡_, sym, ap, _∙_}

@@ -2,10 +2,10 @@
 use Prim.Native.Nat.{suc, _+_, _-_}
 use mathlib.Core.List.{[], _∷_}
 use lib.IntN.{pos, negℤ}
-use Rattle.table.specs.Limits.{root, class, client, fixed, weighted, stated, secondPort, wholeShare, greatestRate, greatestCount, sortAt, parentAt, levelAt, kindAt, shareAt, depthAt, rateAt, balanceAt, waitingAt, portAt, spareAt, spareLength, tagAt, sizeAt, arrivalAt}
+use Rattle.table.specs.Limits.{root, class, client, fixed, weighted, stated, firstPort, secondPort, wholeShare, greatestRate, greatestCount, sortAt, parentAt, levelAt, kindAt, shareAt, depthAt, rateAt, balanceAt, waitingAt, portAt, spareAt, spareLength, tagAt, sizeAt, arrivalAt}
 use Rattle.table.specs.Places.{queuePlace}
 use Rattle.table.specs.Refusals.{refused}
-use Rattle.scenarios.specs.Scenario.{Scenario, disk, joinOn, join, leave, changeShare, changeRate, request, look, tickBoth, tick, dispatch, atPlace, atHeader, _gives_, _answers_leaving_and_, _lists_, fits, spoils, setBalance, number, counts, seen, greatestNumber}
+use Rattle.scenarios.specs.Scenario.{Scenario, disk, joinOn, join, leave, changeShare, changeRate, request, look, tickBoth, tick, dispatch, atPlace, atHeader, _gives_, _answers_leaving_and_, _lists_, _lists_and_, fits, spoils, setBalance, number, counts, seen, greatestNumber}
 
 -- The cases by name.
 pub data Case : Type 0 where
@@ -244,13 +244,17 @@ scenario portPlaces =
     ∷ spoils (atPlace 3 portAt (pos greatestNumber))
     ∷ fits (atPlace 3 portAt (pos secondPort))
     ∷ fits (atPlace 2 portAt (pos secondPort))
-    ∷ fits (atPlace 2 portAt (pos 0))
+    ∷ fits (atPlace 2 portAt (pos firstPort))
     ∷ spoils (atPlace 1 portAt (pos secondPort))
     ∷ fits (atPlace 1 portAt (pos 0))
     ∷ spoils (atPlace root portAt (pos secondPort))
     ∷ fits (atPlace root portAt (pos 0))
     ∷ spoils (atPlace 4 portAt (pos secondPort))
     ∷ fits (atPlace 4 portAt (pos 0))
+    ∷ request 3 31 1 gives number 1
+    ∷ tickBoth 0 4 lists [] and (dispatch 3 31 1 1 ∷ [])
+    ∷ request 3 32 1 gives number 2
+    ∷ tickBoth 0 4 lists [] and (dispatch 3 32 1 3 ∷ [])
     ∷ leave 3 gives number 0
-    ∷ fits (atPlace 3 portAt (pos 0))
+    ∷ fits (atPlace 2 portAt (pos firstPort))
     ∷ []

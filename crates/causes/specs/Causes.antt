@@ -3,7 +3,7 @@
 use Prim.Native.Nat.{suc, _-_}
 use mathlib.Core.List.{[], _∷_}
 use lib.IntN.{pos, negℤ}
-use Rattle.table.specs.Limits.{nodes, lastNode, root, unused, class, client, fixed, weighted, stated, wholeShare, greatestDepth, greatestRate, greatestCount, portAt, secondPort}
+use Rattle.table.specs.Limits.{nodes, lastNode, root, unused, class, client, fixed, weighted, stated, wholeShare, greatestDepth, greatestRate, greatestCount, portAt, firstPort, secondPort}
 use Rattle.table.specs.Refusals.{refused}
 use Rattle.scenarios.specs.Scenario.{Scenario, openℤ, joinℤ, leaveℤ, changeShareℤ, changeRateℤ, requestℤ, lookℤ, same, disk, joinOn, join, leave, changeShare, changeRate, request, look, tickBoth, tick, atPlace, atHeader, oneLess, oneMore, _gives_, _lists_, _refuses_, keep, fits, spoils, setBalance, number, seen, greatestNumber}
 
@@ -61,13 +61,13 @@ scenario opens =
 scenario joinLimits =
     disk 1000 40 gives number 0
     ∷ join 0 root client weighted 1 1 gives refused 2
-    ∷ joinℤ (negℤ (pos 1)) (pos root) (pos client) (pos weighted) (pos 1) (pos 1) (pos 0) gives refused 2
+    ∷ joinℤ (negℤ (pos 1)) (pos root) (pos client) (pos weighted) (pos 1) (pos 1) (pos firstPort) gives refused 2
     ∷ join nodes root client weighted 1 1 gives refused 2
-    ∷ joinℤ (pos 1) (negℤ (pos 1)) (pos client) (pos weighted) (pos 1) (pos 1) (pos 0) gives refused 2
+    ∷ joinℤ (pos 1) (negℤ (pos 1)) (pos client) (pos weighted) (pos 1) (pos 1) (pos firstPort) gives refused 2
     ∷ join 1 nodes client weighted 1 1 gives refused 2
     ∷ join 1 root unused weighted 1 1 gives refused 2
     ∷ join 1 root 3 weighted 1 1 gives refused 2
-    ∷ joinℤ (pos 1) (pos root) (pos client) (negℤ (pos 1)) (pos 1) (pos 1) (pos 0) gives refused 2
+    ∷ joinℤ (pos 1) (pos root) (pos client) (negℤ (pos 1)) (pos 1) (pos 1) (pos firstPort) gives refused 2
     ∷ join 1 root client (suc stated) 1 1 gives refused 2
     ∷ join 1 root client weighted 0 1 gives refused 2
     ∷ join 1 root client weighted (suc wholeShare) 1 gives refused 2

@@ -5,7 +5,7 @@ ghost use lib.ListN.{length};
 ghost use lib.IntN.{pos};
 ghost use Rattle.table.specs.Limits.{nodes, entryLength, firstPort, secondPort};
 ghost use Rattle.dispatch.specs.Entries.{entered, gets, enteredOn};
-use crate::Counts;
+use crate::PortCounts;
 use table::Table;
 
 // Writes an entry behind the n that the list has.
@@ -24,13 +24,13 @@ fn write_entry(list: &mut [i64], n: usize, client: usize, tag: i64, size: u64, s
 pub fn list_entry(
     first: &mut [i64],
     second: &mut [i64],
-    n: Counts,
+    n: PortCounts,
     port: u64,
     client: usize,
     tag: i64,
     size: u64,
     supplier: usize,
-) -> Counts
+) -> PortCounts
     requires { ⌜ (port ≤ secondPort) × (entryLength * (n .first + gets firstPort port) ≤ length (now first)) × (entryLength * (n .second + gets secondPort port) ≤ length (now second)) × (client < nodes) × (size < 2 ^ 63) × (supplier < nodes) ⌝ }
     ensures first { λ _. ⌜ now (first .exit) ≡ enteredOn firstPort port (now (first .entry)) (n .first) (pos client) tag (pos size) (pos supplier) ⌝ }
     ensures second { λ _. ⌜ now (second .exit) ≡ enteredOn secondPort port (now (second .entry)) (n .second) (pos client) tag (pos size) (pos supplier) ⌝ }
@@ -38,13 +38,13 @@ pub fn list_entry(
 {
     if port == Table::FIRST_PORT {
         write_entry(first, n.first, client, tag, size, supplier);
-        return Counts {
+        return PortCounts {
             first: n.first + 1,
             second: n.second,
         };
     }
     write_entry(second, n.second, client, tag, size, supplier);
-    Counts {
+    PortCounts {
         first: n.first,
         second: n.second + 1,
     }

@@ -13,7 +13,7 @@ mod queue;
 use table::Table;
 
 // How many there are at the first port and at the second.
-pub struct Counts {
+pub struct PortCounts {
     pub first: usize,
     pub second: usize,
 }
@@ -24,10 +24,10 @@ pub fn dispatch(
     table: &mut [i64],
     first: &mut [i64],
     second: &mut [i64],
-    n: Counts,
+    n: PortCounts,
     k: usize,
     s: usize,
-) -> Counts
+) -> PortCounts
     requires { ⌜ Within (now table) × (k < nodes) × (s < nodes) × (0 < waiting (now table) k) × (entryLength * (n .first + gets firstPort (port (now table) k)) ≤ length (now first)) × (entryLength * (n .second + gets secondPort (port (now table) k)) ≤ length (now second)) ⌝ }
     ensures table { λ _. ⌜ now (table .exit) ≡ tableAfter (now (table .entry)) k s ⌝ }
     ensures first { λ _. ⌜ now (first .exit) ≡ listAfter firstPort (now (first .entry)) (n .first) (now (table .entry)) k s ⌝ }

@@ -47,7 +47,7 @@ module _ (t list : List ℤ) (loaded : Loaded t) (room : entryLength * mostDispa
   pub no-room : entryLength * portWaiting t secondPort ≤ 0
   no-room = omega (arith, nothing-second)
 
-  -- The call tick, which tests the table first, would be accepted, and give the same table, list and counts.
+  -- The call tick, which tests the table first, would be accepted, and give the same table, first list and counts.
   no-refusal : tickRefusal t list [] ≡ 0
   unfolding tickRefusal listShort
   no-refusal =

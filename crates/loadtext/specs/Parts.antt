@@ -58,7 +58,7 @@ pub record Begins (s b : List ℕ) (load : Load) (made ticks length : ℕ) (b' :
   pub loaded : 0 < ticks → Loaded (load .table)
 
 -- A load of which so many ticks were made goes on for n ticks: the buffer b becomes b', which begins with their lines, and the load
--- is the one after them.
+-- is the one after them, with a table of a load.
 pub record GoesOn (b : List ℕ) (load : Load) (made ticks : ℕ) (b' : List ℕ) (load' : Load) (made' length : ℕ) : Type 0 where
   pub n : ℕ
   pub further : made' ≡ made + n

@@ -6,7 +6,7 @@ use mathlib.Core.List.{List, [], _∷_}
 use lib.IntN.{pos}
 use Rattle.numbers.specs.Tests.{every}
 use Rattle.numbers.specs.Below.{allBelow}
-use Rattle.table.specs.Limits.{class, client, fixed, weighted}
+use Rattle.table.specs.Limits.{class, client, fixed, weighted, firstPort}
 use Rattle.table.specs.Tree.{Tree, there}
 use Rattle.table.specs.Refusals.{first}
 use Rattle.table.specs.Calls.{blank}
@@ -44,11 +44,11 @@ empty-refused = refl
 
 -- What reading asks for the nodes of `mixed`: class 1 with weight 2 and depth 20, and in it client 2 with the fixed half and
 -- depth 10.
-mixed-class : joinOf (planIn mixed .entry 0) ≡ record { node = pos 1; parent = pos 0; sort = pos class; kind = pos weighted; share = pos 2; depth = pos 20; port = pos 0 }
+mixed-class : joinOf (planIn mixed .entry 0) ≡ record { node = pos 1; parent = pos 0; sort = pos class; kind = pos weighted; share = pos 2; depth = pos 20; port = pos firstPort }
 unfolding joinOf sortOf shareKindOf planIn entryIn countIn le4 le2 byteAt startOf shareFrom shareLength editionIn allBelow
 mixed-class = refl
 
-mixed-client : joinOf (planIn mixed .entry 1) ≡ record { node = pos 2; parent = pos 1; sort = pos client; kind = pos fixed; share = pos 5000; depth = pos 10; port = pos 0 }
+mixed-client : joinOf (planIn mixed .entry 1) ≡ record { node = pos 2; parent = pos 1; sort = pos client; kind = pos fixed; share = pos 5000; depth = pos 10; port = pos firstPort }
 unfolding joinOf sortOf shareKindOf planIn entryIn countIn le4 le2 byteAt startOf shareFrom shareLength editionIn allBelow
 mixed-client = refl
 

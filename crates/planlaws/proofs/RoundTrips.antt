@@ -18,13 +18,14 @@ use Rattle.numbers.proofs.Tests.{cond-true}
 use Rattle.numbers.proofs.Every.{head-holds, rest-hold, none-left, holds-with}
 use Rattle.numbers.proofs.Parts.{eq-same, same-eq, plus-pos, minus-pos, pos-of-within, zarith}
 use Rattle.numbers.proofs.All.{all-at, all-intro}
-use Rattle.table.specs.Limits.{tableLength, nodes, rateAt, root}
-use Rattle.table.specs.Places.{place, rate}
+use Rattle.table.specs.Limits.{tableLength, nodes, rateAt, portAt, root}
+use Rattle.table.specs.Places.{place, put, rate}
 use Rattle.table.specs.Tree.{treeOf}
 use Rattle.table.specs.Order.{inOrder}
 use Rattle.table.specs.Refusals.{accepted}
 use Rattle.table.specs.Calls.{sameTree, sameRefusal, sameAnswer}
 use Rattle.table.proofs.Facts.{facts}
+use Rattle.table.proofs.Places.{place-put-place}
 use Rattle.table.proofs.Refusals.{none-first, first-none, first-end, outcome-accepted}
 use Rattle.treelaws.proofs.Renewed.{same-tree-below}
 use Rattle.layout.specs.Bytes.{byteValues, byteAt}
@@ -79,6 +80,16 @@ same-written e a b ha hb h =
     let s = same-facts a b h in
     let trees = same-tree-below a b (facts a ha .long) (facts b hb .long) (s .places) in
     rw (trees, s .disk)
+
+-- So a client's port is not written: whatever it is, the bytes are the same.
+pub port-unwritten : (e : Edition) (t : List ℤ) (k : ℕ) (v : ℤ) → inOrder t ≡ true → inOrder (put t k portAt v) ≡ true → planBytes e (put t k portAt v) ≡ planBytes e t
+port-unwritten e t k v h h' =
+    same-written e (put t k portAt v) t h' h
+    (facts-same (put t k portAt v) t
+    (record {
+      places = λ j p hj hp. place-put-place t k portAt v j p (omega arith) (omega (arith, hp)) (λ e. omega (arith, hp, e));
+      disk = place-put-place t k portAt v root rateAt (omega arith) (omega arith) (λ e. omega (arith, e));
+    }))
 
 pub same-plans : (e : Edition) (a b : List ℤ) → inOrder a ≡ true → inOrder b ≡ true → unwritable e (treeOf a) ≡ false → unwritable e (treeOf b) ≡ false → (sameTree a b ≡ true) ↔ (planBytes e a ≡ planBytes e b)
 same-plans e a b ha hb ka kb = (same-written e a b ha hb, back)

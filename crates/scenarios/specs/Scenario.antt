@@ -100,7 +100,7 @@ firstLent (tickBoth n m) = replicate n (pos 7)
 unfoldable pub secondLent : Tick → List ℤ
 secondLent (tickBoth n m) = replicate m (pos 8)
 
--- The numbers of dispatches in the list.
+-- The numbers of dispatches in a list.
 unfoldable pub entries : List Dispatch → List ℤ
 entries [] = []
 entries (dispatch client tag size supplier ∷ dispatches) = pos client ∷ pos tag ∷ pos size ∷ pos supplier ∷ entries dispatches

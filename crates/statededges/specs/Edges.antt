@@ -4,7 +4,7 @@ use mathlib.Core.List.{[], _∷_}
 use lib.IntN.{pos}
 use Rattle.table.specs.Limits.{root, class, client, fixed, weighted, stated, wholeShare, greatestRate}
 use Rattle.table.specs.Refusals.{refused}
-use Rattle.scenarios.specs.Scenario.{Scenario, disk, join, changeShare, changeRate, request, look, _gives_, number, seen}
+use Rattle.scenarios.specs.Scenario.{Scenario, disk, join, changeShare, changeRate, look, _gives_, number, seen}
 
 -- The edges by name.
 pub data StatedEdge : Type 0 where

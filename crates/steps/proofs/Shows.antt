@@ -15,7 +15,7 @@ use Rattle.table.specs.Tick.{State, dispatched, ofPort, portWaiting, listed, al
 use Rattle.table.proofs.Ports.{whole, whole-of, port-none}
 use Rattle.ticklaws.proofs.Ports.{entry-here, entry-other, entry-length}
 use Rattle.ticklaws.proofs.Dispatch.{dispatch-entry}
-use Rattle.dispatch.specs.declared.Counts.{Counts}
+use Rattle.dispatch.specs.declared.PortCounts.{PortCounts}
 use Rattle.dispatch.specs.Entries.{entered, tableAfter, gets, enteredOn, listAfter}
 use Rattle.dispatch.proofs.Listed.{listed-entry, next-table}
 use Rattle.steps.specs.Steps.{Room, Lists, Shows, Follows}
@@ -56,7 +56,7 @@ module _ (portOf : ℕ → ℕ) (p : ℕ) (from : List ℤ) (st : State) (l : Li
   count-next = omega (arith, h .count, entry-length portOf p st k s w, ap (λ (q : ℕ). gets p q) same)
 
 -- At first the lists have no entry.
-pub shows-first : (t a b : List ℤ) (n : Counts) → n .first ≡ 0 → n .second ≡ 0 → Room firstPort t a 0 → Room secondPort t b 0 → Shows (port t) a b (record { table = t; entries = [] }) t a b n
+pub shows-first : (t a b : List ℤ) (n : PortCounts) → n .first ≡ 0 → n .second ≡ 0 → Room firstPort t a 0 → Room secondPort t b 0 → Shows (port t) a b (record { table = t; entries = [] }) t a b n
 unfolding listed
 shows-first t a b n zero₀ zero₁ room₀ room₁ =
     record {
@@ -92,7 +92,7 @@ record Listed (p : ℕ) (t : List ℤ) (k s : ℕ) (l : List ℤ) (n : ℕ) (m :
   long : length m ≡ length l
 
 -- What `dispatch::dispatch` promises, in its own order.
-abbrev pub Made : List ℤ → ℕ → ℕ → List ℤ → List ℤ → Counts → List ℤ → List ℤ → List ℤ → Counts → Type 0
+abbrev pub Made : List ℤ → ℕ → ℕ → List ℤ → List ℤ → PortCounts → List ℤ → List ℤ → List ℤ → PortCounts → Type 0
 Made t k s a b n u a' b' n' =
     (u ≡ tableAfter t k s)
     × ((a' ≡ listAfter firstPort a (n .first) t k s)
@@ -116,7 +116,7 @@ lists-next On step t k s turn portOf p from st l m n n' e w same h made =
       room = room-next On step t k s turn p l m n n' (rw e (h .room)) made _ (sym (ap (λ (v : List ℤ). tableAfter v k s) e ∙ next-table st k s));
     }
 
-shows-next : (On : List ℤ → Type 0) (step : State → State) (t : List ℤ) (k s : ℕ) → Turn On step t k s → (portOf : ℕ → ℕ) (from₀ from₁ : List ℤ) (st : State) (a b a' b' : List ℤ) (n n' : Counts) → Shows portOf from₀ from₁ st t a b n → Listed firstPort t k s a (n .first) a' (n' .first) → Listed secondPort t k s b (n .second) b' (n' .second) → Shows portOf from₀ from₁ (dispatched st k s) (tableAfter t k s) a' b' n'
+shows-next : (On : List ℤ → Type 0) (step : State → State) (t : List ℤ) (k s : ℕ) → Turn On step t k s → (portOf : ℕ → ℕ) (from₀ from₁ : List ℤ) (st : State) (a b a' b' : List ℤ) (n n' : PortCounts) → Shows portOf from₀ from₁ st t a b n → Listed firstPort t k s a (n .first) a' (n' .first) → Listed secondPort t k s b (n .second) b' (n' .second) → Shows portOf from₀ from₁ (dispatched st k s) (tableAfter t k s) a' b' n'
 shows-next On step t k s turn portOf from₀ from₁ st a b a' b' n n' h first second =
     let w = whole-of (n .first + n .second) (st .entries) (sym (h .all)) in
     record {
@@ -129,17 +129,17 @@ shows-next On step t k s turn portOf from₀ from₁ st a b a' b' n n' h first s
 
 -- A loop of dispatches that makes a step, on its way: the table is one that the step passes through, the lists have room for all that
 -- wait, and what is left of the step from here amounts to the whole of it from the start.
-pub record Going (On : List ℤ → Type 0) (step : State → State) (t₀ a₀ b₀ : List ℤ) (n₀ : Counts) (t a b : List ℤ) (n : Counts) : Type 0 where
+pub record Going (On : List ℤ → Type 0) (step : State → State) (t₀ a₀ b₀ : List ℤ) (n₀ : PortCounts) (t a b : List ℤ) (n : PortCounts) : Type 0 where
   pub on : On t
   pub first : Room firstPort t a (n .first)
   pub second : Room secondPort t b (n .second)
-  pub left : (t' a' b' : List ℤ) (n' : Counts) → Follows step t a b n t' a' b' n' → Follows step t₀ a₀ b₀ n₀ t' a' b' n'
+  pub left : (t' a' b' : List ℤ) (n' : PortCounts) → Follows step t a b n t' a' b' n' → Follows step t₀ a₀ b₀ n₀ t' a' b' n'
 
-module _ (On : List ℤ → Type 0) (step : State → State) (t₀ a₀ b₀ : List ℤ) (n₀ : Counts) where
+module _ (On : List ℤ → Type 0) (step : State → State) (t₀ a₀ b₀ : List ℤ) (n₀ : PortCounts) where
   pub going-first : On t₀ → Room firstPort t₀ a₀ (n₀ .first) → Room secondPort t₀ b₀ (n₀ .second) → Going On step t₀ a₀ b₀ n₀ t₀ a₀ b₀ n₀
   going-first on first second = record { on = on; first = first; second = second; left = λ t' a' b' n' f. f }
 
-  pub going-next : (t a b : List ℤ) (n : Counts) (k s : ℕ) → Going On step t₀ a₀ b₀ n₀ t a b n → Turn On step t k s → (u a' b' : List ℤ) (n' : Counts) → Made t k s a b n u a' b' n' → length a' ≡ length a → length b' ≡ length b → Going On step t₀ a₀ b₀ n₀ u a' b' n'
+  pub going-next : (t a b : List ℤ) (n : PortCounts) (k s : ℕ) → Going On step t₀ a₀ b₀ n₀ t a b n → Turn On step t k s → (u a' b' : List ℤ) (n' : PortCounts) → Made t k s a b n u a' b' n' → length a' ≡ length a → length b' ≡ length b → Going On step t₀ a₀ b₀ n₀ u a' b' n'
   going-next t a b n k s g turn u a' b' n' made long₀ long₁ =
       let e = made .0 in
       let first : Listed firstPort t k s a (n .first) a' (n' .first) = record { list = made .1 .0; count = made .1 .1 .1 .0; long = long₀ } in
@@ -157,5 +157,5 @@ module _ (On : List ℤ → Type 0) (step : State → State) (t₀ a₀ b₀ : L
             });
       }
 
-  pub going-done : (t a b : List ℤ) (n : Counts) → Going On step t₀ a₀ b₀ n₀ t a b n → ((st : State) → t ≡ st .table → step st ≡ st) → Follows step t₀ a₀ b₀ n₀ t a b n
+  pub going-done : (t a b : List ℤ) (n : PortCounts) → Going On step t₀ a₀ b₀ n₀ t a b n → ((st : State) → t ≡ st .table → step st ≡ st) → Follows step t₀ a₀ b₀ n₀ t a b n
   going-done t a b n g done = g .left t a b n (record { shows = λ portOf from₀ from₁ st h. rw (done st (h .table)) h })

@@ -14,7 +14,7 @@ use Rattle.ticklaws.proofs.Frame.{OnlyBalances}
 use Rattle.ticklaws.proofs.Grown.{grown-swept}
 use Rattle.ticklaws.proofs.Cut.{cut-swept}
 use Rattle.ticklaws.proofs.Ports.{only-ports, only-port-waiting}
-use Rattle.dispatch.specs.declared.Counts.{Counts}
+use Rattle.dispatch.specs.declared.PortCounts.{PortCounts}
 use Rattle.steps.specs.Steps.{Serving, grew, Lending, was-cut, Room, Lists, Shows, Follows, serving, lending}
 use Rattle.steps.proofs.Serving.{passed, serving-within}
 
@@ -34,15 +34,15 @@ one t u h e =
     }
 
 -- After steps 2 and 3 of table t with the lists a and b: table u and lists v and w, with n entries.
-pub record Two (t a b u v w : List ℤ) (n : Counts) : Type 0 where
+pub record Two (t a b u v w : List ℤ) (n : PortCounts) : Type 0 where
   pub on : Serving u
   pub shows : Shows (port t) a b (stepTwo t) u v w n
 
-pub record Three (t a b u v w : List ℤ) (n : Counts) : Type 0 where
+pub record Three (t a b u v w : List ℤ) (n : PortCounts) : Type 0 where
   pub on : Lending u
   pub shows : Shows (port t) a b (stepThree t) u v w n
 
-pub two : (t a b g u v w : List ℤ) (n : Counts) → One t g → g ≡ grown t → Shows (port g) a b (servedAll (record { table = g; entries = [] })) u v w n → Two t a b u v w n
+pub two : (t a b g u v w : List ℤ) (n : PortCounts) → One t g → g ≡ grown t → Shows (port g) a b (servedAll (record { table = g; entries = [] })) u v w n → Two t a b u v w n
 unfolding stepTwo servedAll serving
 two t a b g u v w n o e h =
     record {
@@ -50,7 +50,7 @@ two t a b g u v w n o e h =
       shows = subst (λ (f : ℕ → ℕ). Shows f a b (stepTwo t) u v w n) (fun-ext (o .ports)) (rw (← e) h);
     }
 
-pub three : (t a b u v w x : List ℤ) (n : Counts) → Two t a b u v w n → x ≡ cut u → Three t a b x v w n
+pub three : (t a b u v w x : List ℤ) (n : PortCounts) → Two t a b u v w n → x ≡ cut u → Three t a b x v w n
 unfolding stepThree Room
 three t a b u v w x n h e =
     record {
@@ -77,6 +77,6 @@ three t a b u v w x n h e =
           room = omega (arith, s .room, only-port-waiting u (cut u) p only, ap (λ (y : List ℤ). portWaiting y p) (h .shows .table), ap (λ (y : List ℤ). portWaiting (cut y) p) (h .shows .table));
         }
 
-pub four : (t a b u v w : List ℤ) (n : Counts) (x y z : List ℤ) (r : Counts) → Three t a b u v w n → Follows lending u v w n x y z r → Shows (port t) a b (ticked t) x y z r
+pub four : (t a b u v w : List ℤ) (n : PortCounts) (x y z : List ℤ) (r : PortCounts) → Three t a b u v w n → Follows lending u v w n x y z r → Shows (port t) a b (ticked t) x y z r
 unfolding ticked lending
 four t a b u v w n x y z r h f = f .shows (port t) a b (stepThree t) (h .shows)

@@ -9,7 +9,7 @@ use Rattle.table.specs.Limits.{nodes, entryLength, firstPort, secondPort}
 use Rattle.table.specs.Places.{port, waiting}
 use Rattle.table.specs.Order.{inOrder}
 use Rattle.table.specs.Tick.{State, grown, ready, served, cut, supplier, supplied, lent, allWaiting, ofPort, portWaiting, listed}
-use Rattle.dispatch.specs.declared.Counts.{Counts}
+use Rattle.dispatch.specs.declared.PortCounts.{PortCounts}
 use Rattle.dispatch.specs.Entries.{tableAfter}
 
 -- A table in step 2: the balances of a table in order have grown, and requests of ready clients were dispatched.
@@ -34,7 +34,7 @@ pub record Lists (portOf : ℕ → ℕ) (p : ℕ) (from : List ℤ) (st : State)
   pub room : Room p (st .table) l n
 
 -- The table and the two lists, with n entries written, show a state.
-pub record Shows (portOf : ℕ → ℕ) (from₀ from₁ : List ℤ) (st : State) (t list₀ list₁ : List ℤ) (n : Counts) : Type 0 where
+pub record Shows (portOf : ℕ → ℕ) (from₀ from₁ : List ℤ) (st : State) (t list₀ list₁ : List ℤ) (n : PortCounts) : Type 0 where
   pub table : t ≡ st .table
   pub ports : (k : ℕ) → port t k ≡ portOf k
   pub all : entryLength * (n .first + n .second) ≡ length (st .entries)
@@ -42,7 +42,7 @@ pub record Shows (portOf : ℕ → ℕ) (from₀ from₁ : List ℤ) (st : State
   pub second : Lists portOf secondPort from₁ st list₁ (n .second)
 
 -- Whatever state the table and the lists show, those after show what a step makes of it.
-pub record Follows (step : State → State) (t list₀ list₁ : List ℤ) (n : Counts) (t' list₀' list₁' : List ℤ) (n' : Counts) : Type 0 where
+pub record Follows (step : State → State) (t list₀ list₁ : List ℤ) (n : PortCounts) (t' list₀' list₁' : List ℤ) (n' : PortCounts) : Type 0 where
   pub shows : (portOf : ℕ → ℕ) (from₀ from₁ : List ℤ) (st : State) → Shows portOf from₀ from₁ st t list₀ list₁ n → Shows portOf from₀ from₁ (step st) t' list₀' list₁' n'
 
 -- Step 2 for client k, and step 4, of a state.

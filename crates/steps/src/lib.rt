@@ -10,12 +10,12 @@ ghost use Rattle.table.specs.Order.{inOrder};
 ghost use Rattle.table.specs.Tick.{ready, servedAll, ticked, portEntries, listed, portWaiting};
 ghost use Rattle.balances.specs.Within.{Within};
 ghost use Rattle.steps.specs.Steps.{Serving, Lending, Room, Shows, Follows, serving, lending};
-use dispatch::Counts;
+use dispatch::PortCounts;
 use suppliers::Next;
 use table::Table;
 
 // The waiting requests of each port's clients. A port is 0 or 1, so a node's requests times its port are those of the second.
-pub fn waiting_by_port(table: &[i64]) -> Counts
+pub fn waiting_by_port(table: &[i64]) -> PortCounts
     requires { ⌜ inOrder (now table) ≡ true ⌝ }
     ensures { λ r. ⌜ (r .first ≡ portWaiting (now (table .entry)) firstPort) × (r .second ≡ portWaiting (now (table .entry)) secondPort) ⌝ }
 {
@@ -26,7 +26,7 @@ pub fn waiting_by_port(table: &[i64]) -> Counts
         all += waiting;
         second += waiting * Table::unsigned(table, k, Table::PORT);
     }
-    Counts {
+    PortCounts {
         first: (all - second) as usize,
         second: second as usize,
     }
@@ -46,7 +46,13 @@ fn ready(table: &[i64], k: usize) -> bool
 
 // Step 2 for client k: while its oldest request is ready, it is dispatched with the client as supplier, as an entry behind the n
 // that the lists have. Returns how many the lists have then.
-fn serve(table: &mut [i64], first: &mut [i64], second: &mut [i64], n: Counts, k: usize) -> Counts
+fn serve(
+    table: &mut [i64],
+    first: &mut [i64],
+    second: &mut [i64],
+    n: PortCounts,
+    k: usize,
+) -> PortCounts
     requires { ⌜ Serving (now table) × (k < nodes) × Room firstPort (now table) (now first) (n .first) × Room secondPort (now table) (now second) (n .second) ⌝ }
     ensures { λ r. ⌜ Follows (serving k) (now (table .entry)) (now (first .entry)) (now (second .entry)) n (now (table .exit)) (now (first .exit)) (now (second .exit)) r ⌝ }
 {
@@ -58,11 +64,11 @@ fn serve(table: &mut [i64], first: &mut [i64], second: &mut [i64], n: Counts, k:
 }
 
 // Step 2: clients in rising number, into lists that have no entries. Returns how many they have then.
-fn serve_all(table: &mut [i64], first: &mut [i64], second: &mut [i64]) -> Counts
+fn serve_all(table: &mut [i64], first: &mut [i64], second: &mut [i64]) -> PortCounts
     requires { ⌜ Serving (now table) × Room firstPort (now table) (now first) 0 × Room secondPort (now table) (now second) 0 ⌝ }
     ensures { λ r. ⌜ Shows (port (now (table .entry))) (now (first .entry)) (now (second .entry)) (servedAll (record { table = now (table .entry); entries = [] })) (now (table .exit)) (now (first .exit)) (now (second .exit)) r ⌝ }
 {
-    let mut written = Counts {
+    let mut written = PortCounts {
         first: 0,
         second: 0,
     };
@@ -74,7 +80,7 @@ fn serve_all(table: &mut [i64], first: &mut [i64], second: &mut [i64]) -> Counts
 
 // Step 4: again and again the request that goes next is dispatched from its supplier, as an entry behind the n that the lists have,
 // until no request has one. Returns how many the lists have then.
-fn lend(table: &mut [i64], first: &mut [i64], second: &mut [i64], n: Counts) -> Counts
+fn lend(table: &mut [i64], first: &mut [i64], second: &mut [i64], n: PortCounts) -> PortCounts
     requires { ⌜ Lending (now table) × Room firstPort (now table) (now first) (n .first) × Room secondPort (now table) (now second) (n .second) ⌝ }
     ensures { λ r. ⌜ Follows lending (now (table .entry)) (now (first .entry)) (now (second .entry)) n (now (table .exit)) (now (first .exit)) (now (second .exit)) r ⌝ }
 {
@@ -90,7 +96,7 @@ fn lend(table: &mut [i64], first: &mut [i64], second: &mut [i64], n: Counts) -> 
 
 // The four steps, on a table in order and lists that have room for all that wait at their ports. Returns how many requests were
 // dispatched to each port.
-pub fn run(table: &mut [i64], first: &mut [i64], second: &mut [i64]) -> Counts
+pub fn run(table: &mut [i64], first: &mut [i64], second: &mut [i64]) -> PortCounts
     requires { ⌜ (inOrder (now table) ≡ true) × (entryLength * portWaiting (now table) firstPort ≤ length (now first)) × (entryLength * portWaiting (now table) secondPort ≤ length (now second)) ⌝ }
     ensures table { λ _. ⌜ now (table .exit) ≡ ticked (now (table .entry)) .table ⌝ }
     ensures first { λ _. ⌜ now (first .exit) ≡ listed (portEntries (now (table .entry)) firstPort) (now (first .entry)) ⌝ }

@@ -1,5 +1,5 @@
 -- One dispatch: the client's oldest request is taken out, and its grains are charged to the supplier and to every node
--- above it. Nothing else changes but the list's end, and where the supplier stands the grains above its floor, every
+-- above it. Nothing else changes but the entries, and where the supplier stands the grains above its floor, every
 -- floor is kept.
 use Prim.Native.Nat.{ℕ, _+_, _<_}
 use mathlib.Core.Path.{_≡_, sym, _∙_, subst, fun-ext}
@@ -121,7 +121,7 @@ module _ (t : List ℤ) (f : InOrder t) (st : State) (r : Reached t (st .table))
           (λ on. absurd (true-false (above-there (treeOf t) (ways-of t f) s j at on .there) h))
           (λ off. off)
 
--- The list grows by one entry.
+-- There is one entry more.
 pub dispatch-entry : (st : State) (k s : ℕ) → length (dispatched st k s .entries) ≡ length (st .entries) + entryLength
 unfolding dispatched
 dispatch-entry st k s = length-append (st .entries) _

@@ -17,8 +17,7 @@ use Rattle.ticklaws.specs.Laws.{TickLaws}
 use Rattle.ticklaws.proofs.Frame.{frame-tree}
 use Rattle.ticklaws.proofs.Supplier.{not-supplied}
 use Rattle.ticklaws.proofs.Keeps.{tick-keeps, ticked-settled, none-supplied}
-use Rattle.ticklaws.proofs.Entries.{ticked-entries}
-use Rattle.ticklaws.proofs.Ports.{ticked-port, ticked-ports}
+use Rattle.ticklaws.proofs.Ports.{port-entries, both-entries, ticked-entries}
 
 -- A balance that is not enough is below the amount.
 too-little : (t : List ℤ) (amount j : ℕ) → enough t amount j ≡ false → plus (balance t j) < minus (balance t j) + amount
@@ -37,7 +36,7 @@ tick-laws t h =
     record {
       order = tick-keeps t h;
       ends = λ k hk waits j on. omega (arith, too-little (ticked t .table) _ j (none-enough t f k hk waits j on));
-      entries = omega (arith, ticked-entries t f);
-      ports = λ p. omega (arith, ticked-port t f p);
-      both = omega (arith, ticked-ports t f);
+      entries = omega (arith, ticked-entries t f (facts (ticked t .table) (tick-keeps t h)));
+      ports = λ p. omega (arith, port-entries t f p);
+      both = omega (arith, both-entries t f);
     }

@@ -11,7 +11,6 @@ pub mod Dispatch
 pub mod Served
 pub mod Lent
 pub mod Keeps
-pub mod Entries
 pub mod Ports
 pub mod Laws
 pub mod StepFour

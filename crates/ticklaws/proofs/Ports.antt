@@ -172,14 +172,26 @@ module _ (t : List ℤ) (f : InOrder t) (p : ℕ) where
       (λ st r k hk s d. one-counted (port t) p (entryLength * portWaiting t p) t st k _ hk d)
       (allWaiting (stepThree t .table)) (stepThree t) (three-settled t f) three-counted
 
-  pub ticked-port : length (portEntries t p) + entryLength * portWaiting (ticked t .table) p ≡ entryLength * portWaiting t p
+  pub port-entries : length (portEntries t p) + entryLength * portWaiting (ticked t .table) p ≡ entryLength * portWaiting t p
   unfolding portEntries
-  ticked-port = four-counted .sum
+  port-entries = four-counted .sum
 
   pub ticked-whole : whole (ticked t .entries)
   ticked-whole = four-counted .whole
 
 -- The two ports' entries together are all.
-pub ticked-ports : (t : List ℤ) → InOrder t → length (portEntries t firstPort) + length (portEntries t secondPort) ≡ length (ticked t .entries)
+pub both-entries : (t : List ℤ) → InOrder t → length (portEntries t firstPort) + length (portEntries t secondPort) ≡ length (ticked t .entries)
 unfolding portEntries
-ticked-ports t f = ports-all (port t) (ports-small t f) (ticked t .entries) (ticked-whole t f firstPort)
+both-entries t f = ports-all (port t) (ports-small t f) (ticked t .entries) (ticked-whole t f firstPort)
+
+-- So a tick writes four numbers for each request that no longer waits.
+pub ticked-entries : (t : List ℤ) → InOrder t → InOrder (ticked t .table) → length (ticked t .entries) + entryLength * allWaiting (ticked t .table) ≡ entryLength * allWaiting t
+ticked-entries t f g =
+    omega (
+      arith,
+      both-entries t f,
+      port-entries t f firstPort,
+      port-entries t f secondPort,
+      port-both t f,
+      port-both (ticked t .table) g,
+    )

@@ -1,4 +1,4 @@
--- `steps::run` meets its contract: the table and the list show the state after each of the four steps.
+-- `steps::run` meets its contract: the table and the lists show the state after each of the four steps.
 use native.Mathlib.Omega.{arith}
 use borrow.Author.Needs.{needs}
 use Rattle.table.specs.Limits.{firstPort, secondPort}

@@ -1,4 +1,4 @@
--- `steps::serve_all` meets its contract. The invariant: the table and the list show the state in which the clients so far are
+-- `steps::serve_all` meets its contract. The invariant: the table and the lists show the state in which the clients so far are
 -- served.
 use Prim.Native.Nat.{_-_, _≤_}
 use mathlib.Core.Path.{_≡_, refl, _∙_}

@@ -14,7 +14,7 @@ use Rattle.table.specs.Refusals.{accepted, refused}
 use Rattle.table.specs.Tick.{portEntries, portCount, tickRefusal, tickTable, tickFirst, tickSecond, tickAnswer}
 use Rattle.table.proofs.Facts.{InOrder, facts}
 use Rattle.table.proofs.Refusals.{kept-new, kept-old, outcome-accepted, outcome-refused}
-use Rattle.ticklaws.proofs.Ports.{ticked-port}
+use Rattle.ticklaws.proofs.Ports.{port-entries}
 use Rattle.ticking.proofs.Waiting.{few, tick-passed}
 use Rattle.ticking.proofs.tick.Statement.{statement}
 use Rattle.ticking.proofs.tick.Tie as tie
@@ -42,7 +42,7 @@ unfolding portCount
 counted t p n e = omega (arith, e)
 
 small : (t : List ℤ) → InOrder t → (p n : ℕ) → entryLength * n ≡ length (portEntries t p) → n ≤ nodes * mostWaiting
-small t f p n e = omega (arith, e, few t f p, ticked-port t f p)
+small t f p n e = omega (arith, e, few t f p, port-entries t f p)
 
 both : (c : tie.After-run) → (c .run .result .first ≤ nodes * mostWaiting) × (c .run .result .second ≤ nodes * mostWaiting)
 both c =
