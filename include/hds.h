@@ -122,7 +122,7 @@ extern "C" {
 
 /* The cost of the smallest request, and the size of the largest, which costs HDS_GREATEST_DEPTH; in tokens. */
 #define HDS_LEAST_COST 8
-#define HDS_GREATEST_SIZE 999984
+#define HDS_GREATEST_SIZE (HDS_GREATEST_DEPTH - 16)
 
 /*
  * What a request of a size of 1 to HDS_GREATEST_SIZE costs, in tokens: a constant where the size is one. Sizes up to 7

@@ -12,13 +12,12 @@ use Rattle.numbers.specs.Whole.{plus, minus}
 use Rattle.numbers.proofs.Parts.{zarith}
 use Rattle.numbers.proofs.Every.{holds-with, none-left}
 use Rattle.numbers.proofs.Tests.{cond-true, cond-false}
-use Rattle.table.specs.Limits.{nodes, depthAt, greatestDepth, unused, client}
-use Rattle.table.specs.Places.{place}
-use Rattle.table.specs.Tree.{treeOf, there, isClient}
-use Rattle.table.specs.Order.{inOrder}
-use Rattle.table.specs.Calls.{requestTable}
-use Rattle.table.proofs.Facts.{facts}
-use Rattle.requesting.specs.Limits.{requestLimits}
+use Rattle.definitions.specs.Limits.{nodes, depthAt, greatestDepth, unused, client}
+use Rattle.definitions.specs.Places.{place}
+use Rattle.definitions.specs.Tree.{treeOf, there, isClient}
+use Rattle.definitions.specs.Order.{inOrder}
+use Rattle.definitions.specs.Calls.{requestLimits, requestTable}
+use Rattle.definitions.proofs.Facts.{facts}
 use Rattle.draws.specs.Draws.{nextState, stateAfter, upper, draw}
 use Rattle.asking.specs.Asking.{clients, clientDrawn, sizeDrawn, tagDrawn, Load, loadOf, afterRequest, asked}
 use Rattle.asking.proofs.Listing.{Picked}

@@ -10,16 +10,16 @@ use lib.Dec.{eqb}
 use lib.IntN.{ℤ}
 use Rattle.numbers.specs.Whole.{plus}
 use Rattle.numbers.proofs.Tests.{by-test}
-use Rattle.table.specs.Limits.{nodes, mostWaiting}
-use Rattle.table.specs.Places.{waiting, port}
-use Rattle.table.specs.Tree.{Tree, treeOf}
-use Rattle.table.specs.Order.{inOrder}
-use Rattle.table.specs.Calls.{requested, requestRefusal, requestTable}
-use Rattle.table.specs.Tick.{ticked}
-use Rattle.table.proofs.Facts.{facts}
-use Rattle.table.proofs.Refusals.{kept-new, kept-old}
-use Rattle.table.proofs.Passed.{request-passed}
-use Rattle.table.proofs.Edits.{Requested, requested-edit}
+use Rattle.definitions.specs.Limits.{nodes, mostWaiting}
+use Rattle.definitions.specs.Places.{waiting, port}
+use Rattle.definitions.specs.Tree.{Tree, treeOf}
+use Rattle.definitions.specs.Order.{inOrder}
+use Rattle.definitions.specs.Calls.{requested, requestRefusal, requestTable}
+use Rattle.definitions.specs.Tick.{ticked}
+use Rattle.definitions.proofs.Facts.{facts}
+use Rattle.definitions.proofs.Refusals.{kept-new, kept-old}
+use Rattle.definitions.proofs.Passed.{request-passed}
+use Rattle.definitions.proofs.Edits.{Requested, requested-edit}
 use Rattle.calllaws.proofs.Nodes.{ready, most-waiting}
 use Rattle.calllaws.proofs.Request.{requested-tree, requested-port, request-keeps-order}
 use Rattle.ticklaws.proofs.Frame.{frame-tree, frame-port}

@@ -12,8 +12,8 @@ use lib.IntN.{ℤ}
 use Rattle.io.specs.Counts.{Counts}
 use Rattle.numbers.proofs.Tests.{by-test, cond-true, cond-false}
 use Rattle.numbers.proofs.All.{below-cases}
-use Rattle.table.specs.Limits.{nodes}
-use Rattle.table.specs.Tree.{Tree, treeOf, isClient}
+use Rattle.definitions.specs.Limits.{nodes}
+use Rattle.definitions.specs.Tree.{Tree, treeOf, isClient}
 use Rattle.asking.specs.Asking.{clientsBelow, clients}
 
 module _ (tree : Tree) where

@@ -5,9 +5,9 @@ use mathlib.Core.List.{List, [], _∷_, _++_}
 use lib.ListN.{length, getD}
 use lib.Dec.{eqb}
 use lib.IntN.{ℤ, pos}
-use Rattle.table.specs.Limits.{nodes}
-use Rattle.table.specs.Tree.{Tree, treeOf, isClient}
-use Rattle.table.specs.Calls.{requestTable}
+use Rattle.definitions.specs.Limits.{nodes}
+use Rattle.definitions.specs.Tree.{Tree, treeOf, isClient}
+use Rattle.definitions.specs.Calls.{requestTable}
 use Rattle.draws.specs.Draws.{stateAfter, draw}
 
 -- The clients whose numbers are below n, by rising number, and all clients.

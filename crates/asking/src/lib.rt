@@ -4,11 +4,11 @@ ghost use mathlib.Core.Bool.{true};
 ghost use Prim.Native.Nat.{_≤_};
 ghost use lib.ListN.{length, take};
 ghost use Rattle.io.specs.Counts.{Counts};
-ghost use Rattle.table.specs.Limits.{tableLength, nodes};
-ghost use Rattle.table.specs.Order.{inOrder};
+ghost use Rattle.definitions.specs.Limits.{tableLength, nodes};
+ghost use Rattle.definitions.specs.Order.{inOrder};
 ghost use Rattle.asking.specs.Asking.{clients, loadOf, asked};
-use rating::tree;
 use table::Table;
+use table::tree;
 
 // Puts the clients of a table by rising number at the start of a list, and answers how many there are.
 pub fn list_clients(table: &[i64], list: &mut [u64]) -> usize

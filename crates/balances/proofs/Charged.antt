@@ -10,11 +10,11 @@ use lib.ListN.{length}
 use lib.IntN.{ℤ, pos, _-ℤ_}
 use Rattle.numbers.specs.Whole.{minus}
 use Rattle.numbers.proofs.Parts.{one-is-zero, sub-parts, plus-pos, minus-pos}
-use Rattle.table.specs.Limits.{tableLength, recordLength, nodes, balanceAt, lastLevel}
-use Rattle.table.specs.Places.{place, balance}
-use Rattle.table.specs.Tree.{Tree, treeOf}
-use Rattle.table.specs.Tick.{lower, charge}
-use Rattle.table.proofs.Places.{length-put, place-put-same, place-put-node, place-put-place}
+use Rattle.definitions.specs.Limits.{tableLength, recordLength, nodes, balanceAt, lastLevel}
+use Rattle.definitions.specs.Places.{place, balance}
+use Rattle.definitions.specs.Tree.{Tree, treeOf}
+use Rattle.definitions.specs.Tick.{lower, charge}
+use Rattle.definitions.proofs.Places.{length-put, place-put-same, place-put-node, place-put-place}
 use Rattle.treelaws.proofs.Renewed.{same-tree}
 use Rattle.balances.specs.Within.{Within}
 

@@ -4,11 +4,11 @@ use mathlib.Core.List.{List}
 use native.Mathlib.Omega.{arith}
 use lib.IntN.{ℤ}
 use Rattle.numbers.specs.Whole.{plus}
-use Rattle.table.specs.Limits.{nodes, parentAt, depthAt, rateAt, queueAt, sizeAt, greatestDepth, greatestRate}
-use Rattle.table.specs.Places.{place, rate, depthGrains, size}
-use Rattle.table.specs.Tree.{treeOf}
-use Rattle.table.specs.Tick.{grains}
-use Rattle.table.proofs.Cost.{cost-bounds}
+use Rattle.definitions.specs.Limits.{nodes, parentAt, depthAt, rateAt, queueAt, sizeAt, greatestDepth, greatestRate}
+use Rattle.definitions.specs.Places.{place, rate, depthGrains, size}
+use Rattle.definitions.specs.Tree.{treeOf}
+use Rattle.definitions.specs.Tick.{grains}
+use Rattle.definitions.proofs.Cost.{cost-bounds}
 use Rattle.balances.specs.Within.{Within}
 
 -- The grains of a size and of a depth are small.

@@ -10,10 +10,10 @@ use lib.Signed.{leZ}
 use Rattle.numbers.specs.Whole.{plus}
 use Rattle.numbers.specs.Below.{forBelow}
 use Rattle.numbers.proofs.Tests.{by-test, cond-true, cond-false}
-use Rattle.table.specs.Limits.{recordLength, nodes, depthAt, rateAt, balanceAt, greatestDepth}
-use Rattle.table.specs.Places.{place, put, rate, balance, depthGrains}
-use Rattle.table.specs.Tree.{treeOf}
-use Rattle.table.proofs.Places.{place-put-node}
+use Rattle.definitions.specs.Limits.{recordLength, nodes, depthAt, rateAt, balanceAt, greatestDepth}
+use Rattle.definitions.specs.Places.{place, put, rate, balance, depthGrains}
+use Rattle.definitions.specs.Tree.{treeOf}
+use Rattle.definitions.proofs.Places.{place-put-node}
 use Rattle.balances.specs.Within.{Within}
 use Rattle.balances.proofs.Limits.{depth-at, rate-at}
 

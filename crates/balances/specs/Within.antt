@@ -5,9 +5,9 @@ use mathlib.Core.List.{List}
 use lib.ListN.{length}
 use lib.IntN.{ℤ}
 use Rattle.numbers.specs.Whole.{plus, minus}
-use Rattle.table.specs.Limits.{tableLength, nodes, lastLevel, greatestDepth, greatestRate, mostWaiting, secondPort}
-use Rattle.table.specs.Places.{rate, balance, waiting, port, size}
-use Rattle.table.specs.Tree.{treeOf}
+use Rattle.definitions.specs.Limits.{tableLength, nodes, lastLevel, greatestDepth, greatestRate, mostWaiting, secondPort}
+use Rattle.definitions.specs.Places.{rate, balance, waiting, port, size}
+use Rattle.definitions.specs.Tree.{treeOf}
 
 pub record Within (t : List ℤ) : Type 0 where
   pub long : length t ≡ tableLength

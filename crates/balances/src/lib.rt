@@ -7,10 +7,10 @@ ghost use lib.ListN.{length};
 ghost use lib.IntN.{pos, _+ℤ_};
 ghost use lib.Signed.{leZ};
 ghost use Rattle.numbers.specs.Whole.{minus, plus};
-ghost use Rattle.table.specs.Limits.{tableLength, nodes, balanceAt, greatestDepth};
-ghost use Rattle.table.specs.Places.{balance, put, rate, depthGrains};
-ghost use Rattle.table.specs.Tree.{treeOf};
-ghost use Rattle.table.specs.Tick.{lower, charge, grown, cut};
+ghost use Rattle.definitions.specs.Limits.{tableLength, nodes, balanceAt, greatestDepth};
+ghost use Rattle.definitions.specs.Places.{balance, put, rate, depthGrains};
+ghost use Rattle.definitions.specs.Tree.{treeOf};
+ghost use Rattle.definitions.specs.Tick.{lower, charge, grown, cut};
 ghost use Rattle.balances.specs.Within.{Within};
 use table::Table;
 

@@ -11,9 +11,9 @@ use Rattle.numbers.specs.Whole.{plus, minus}
 use Rattle.numbers.specs.Tests.{every}
 use Rattle.numbers.proofs.Tests.{true-false, cond-false}
 use Rattle.numbers.proofs.Every.{head-fails}
-use Rattle.table.specs.Limits.{root}
-use Rattle.table.specs.Tree.{isClass, isClient}
-use Rattle.table.specs.Calls.{joinTable, joinAnswer, leaveTable, leaveAnswer, changeShareTable, changeShareAnswer, changeRateTable, changeRateAnswer, requestTable, requestAnswer}
+use Rattle.definitions.specs.Limits.{root}
+use Rattle.definitions.specs.Tree.{isClass, isClient}
+use Rattle.definitions.specs.Calls.{joinTable, joinAnswer, leaveTable, leaveAnswer, changeShareTable, changeShareAnswer, changeRateTable, changeRateAnswer, requestTable, requestAnswer}
 use Rattle.calllaws.proofs.Nodes.{class-same, client-same}
 use Rattle.bounds.specs.Events.{Call, join, leave, changeShare, changeRate, request, tick, tableAfter, answerOf, eventOf}
 use Rattle.bounds.specs.Observer.{Observer, entriesOf, entries, observed}

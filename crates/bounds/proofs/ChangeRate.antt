@@ -6,13 +6,13 @@ use mathlib.Core.List.{List, []}
 use native.Mathlib.Omega.{arith}
 use lib.IntN.{ℤ}
 use Rattle.numbers.specs.Whole.{plus}
-use Rattle.table.specs.Limits.{recordLength, rateAt, balanceAt, waitingAt, root}
-use Rattle.table.specs.Places.{place, put, rate as rateOf, balance, waiting}
-use Rattle.table.specs.Rates.{renewed}
-use Rattle.table.specs.Order.{inOrder}
-use Rattle.table.specs.Calls.{changeRateRefusal, changeRateTable}
-use Rattle.table.proofs.Facts.{facts}
-use Rattle.table.proofs.Places.{place-put-same, place-put-place}
+use Rattle.definitions.specs.Limits.{recordLength, rateAt, balanceAt, waitingAt, root}
+use Rattle.definitions.specs.Places.{place, put, rate as rateOf, balance, waiting}
+use Rattle.definitions.specs.Rates.{renewed}
+use Rattle.definitions.specs.Order.{inOrder}
+use Rattle.definitions.specs.Calls.{changeRateRefusal, changeRateTable}
+use Rattle.definitions.proofs.Facts.{facts}
+use Rattle.definitions.proofs.Places.{place-put-same, place-put-place}
 use Rattle.calllaws.proofs.ChangeRate.{change-rate-keeps, rerated-tree}
 use Rattle.bounds.specs.Events.{changeRate}
 use Rattle.bounds.specs.Observer.{Observer, afterAccepted}

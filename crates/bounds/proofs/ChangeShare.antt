@@ -6,15 +6,15 @@ use mathlib.Core.List.{List, []}
 use native.Mathlib.Omega.{arith}
 use lib.IntN.{ℤ}
 use Rattle.numbers.specs.Whole.{plus}
-use Rattle.table.specs.Limits.{recordLength, kindAt, shareAt, rateAt, balanceAt, waitingAt, root}
-use Rattle.table.specs.Places.{place, rate as rateOf, balance, waiting}
-use Rattle.table.specs.Tree.{Tree, treeOf, isClient}
-use Rattle.table.specs.Rates.{renewed}
-use Rattle.table.specs.Order.{inOrder}
-use Rattle.table.specs.Calls.{reshared, changeShareRefusal, changeShareTable}
-use Rattle.table.proofs.Facts.{InOrder, facts}
-use Rattle.table.proofs.Edits.{reshared-node, reshared-others, reshared-rest}
-use Rattle.table.proofs.Passed.{ChangeSharePassed, change-share-passed}
+use Rattle.definitions.specs.Limits.{recordLength, kindAt, shareAt, rateAt, balanceAt, waitingAt, root}
+use Rattle.definitions.specs.Places.{place, rate as rateOf, balance, waiting}
+use Rattle.definitions.specs.Tree.{Tree, treeOf, isClient}
+use Rattle.definitions.specs.Rates.{renewed}
+use Rattle.definitions.specs.Order.{inOrder}
+use Rattle.definitions.specs.Calls.{reshared, changeShareRefusal, changeShareTable}
+use Rattle.definitions.proofs.Facts.{InOrder, facts}
+use Rattle.definitions.proofs.Edits.{reshared-node, reshared-others, reshared-rest}
+use Rattle.definitions.proofs.Passed.{ChangeSharePassed, change-share-passed}
 use Rattle.calllaws.proofs.ChangeShare.{change-share-keeps}
 use Rattle.bounds.specs.Events.{changeShare}
 use Rattle.bounds.specs.Observer.{Observer, withShare, afterAccepted}

@@ -11,11 +11,11 @@ use Rattle.numbers.specs.Whole.{plus}
 use Rattle.numbers.specs.Tests.{every}
 use Rattle.numbers.proofs.Tests.{by-test, true-false}
 use Rattle.numbers.proofs.Every.{none-left, holds-with}
-use Rattle.table.specs.Limits.{recordLength, balanceAt, waitingAt}
-use Rattle.table.specs.Places.{place, balance, waiting}
-use Rattle.table.specs.Tree.{isClass, isClient}
-use Rattle.table.specs.Refusals.{outcome, kept}
-use Rattle.table.proofs.Refusals.{kept-new, kept-old, outcome-accepted, outcome-refused}
+use Rattle.definitions.specs.Limits.{recordLength, balanceAt, waitingAt}
+use Rattle.definitions.specs.Places.{place, balance, waiting}
+use Rattle.definitions.specs.Tree.{isClass, isClient}
+use Rattle.definitions.specs.Refusals.{outcome, kept}
+use Rattle.definitions.proofs.Refusals.{kept-new, kept-old, outcome-accepted, outcome-refused}
 use Rattle.calllaws.proofs.Nodes.{client-same}
 use Rattle.bounds.specs.Events.{Call}
 use Rattle.bounds.specs.Observer.{Observer, afterAccepted, afterAnswer}

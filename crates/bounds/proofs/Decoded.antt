@@ -10,10 +10,10 @@ use lib.Dec.{eqb}
 use lib.ListN.{length}
 use lib.IntN.{ℤ, pos}
 use Rattle.numbers.specs.Whole.{plus}
-use Rattle.table.specs.Limits.{entryLength, firstPort, secondPort}
-use Rattle.table.specs.Places.{size, tag}
-use Rattle.table.specs.Tick.{State, dispatched, ofPort}
-use Rattle.table.proofs.Ports.{whole, whole-of, by-entries, by-port, port-none, port-here, port-other}
+use Rattle.definitions.specs.Limits.{entryLength, firstPort, secondPort}
+use Rattle.definitions.specs.Places.{size, tag}
+use Rattle.definitions.specs.Tick.{State, dispatched, ofPort}
+use Rattle.definitions.proofs.Ports.{whole, whole-of, by-entries, by-port, port-none, port-here, port-other}
 use Rattle.ticklaws.proofs.Dispatch.{dispatch-entry}
 use Rattle.bounds.specs.Observer.{Entry, entriesIn, entriesFor}
 use Rattle.bounds.specs.Counts.{sumOver}

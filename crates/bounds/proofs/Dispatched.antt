@@ -7,10 +7,10 @@ use mathlib.Core.List.{List, [], _∷_, _++_}
 use borrow.Author.Tests.{eqb-true, eq-eqb}
 use lib.Dec.{eqb}
 use Rattle.numbers.proofs.Tests.{same-truth}
-use Rattle.table.specs.Tree.{Tree, atOrAbove}
-use Rattle.table.specs.Places.{size}
-use Rattle.table.specs.Tick.{State, grains, dispatched}
-use Rattle.table.proofs.Ports.{whole}
+use Rattle.definitions.specs.Tree.{Tree, atOrAbove}
+use Rattle.definitions.specs.Places.{size}
+use Rattle.definitions.specs.Tick.{State, grains, dispatched}
+use Rattle.definitions.proofs.Ports.{whole}
 use Rattle.bounds.specs.Observer.{Entry, entriesFor}
 use Rattle.bounds.specs.Counts.{entryGrains, grainsForClient, grainsToNode, sumOver}
 use Rattle.bounds.proofs.Decoded.{sum-last, entriesFor-last, told, entryOf, told-dispatched}

@@ -6,11 +6,11 @@ use native.Mathlib.Omega.{arith}
 use Rattle.numbers.specs.Whole.{plus}
 use Rattle.numbers.specs.Tests.{every}
 use Rattle.numbers.specs.Below.{sumBelow}
-use Rattle.table.specs.Limits.{firstPort, secondPort}
-use Rattle.table.specs.Tree.{there, isClient, isFixed, isStated, childOf, countIf, sumUnder}
-use Rattle.table.specs.Rates.{kindShare, kindSum, fixedRate, leftRate, weightedRate, dividedRate, unstatedRate, childRate, rateAtLevel, rateIn}
-use Rattle.table.specs.Cost.{cost}
-use Rattle.table.specs.Tick.{grains}
+use Rattle.definitions.specs.Limits.{firstPort, secondPort}
+use Rattle.definitions.specs.Tree.{there, isClient, isFixed, isStated, childOf, countIf, sumUnder}
+use Rattle.definitions.specs.Rates.{kindShare, kindSum, fixedRate, leftRate, weightedRate, dividedRate, unstatedRate, childRate, rateAtLevel, rateIn}
+use Rattle.definitions.specs.Cost.{cost}
+use Rattle.definitions.specs.Tick.{grains}
 use Rattle.bounds.specs.Observer.{setAt, entriesIn, dispatchedBy, entriesOf, entries, entriesFor, start, withNode, afterAccepted, afterAnswer, observed, observedAll}
 use Rattle.bounds.specs.Counts.{accepts, isTick, rateAt, ratesOver, entryGrains, grainsForClient, sumOver, grainsOver, dispatchedOver, waits, waitsThroughout}
 use Rattle.bounds.specs.Demand.{Bounds}

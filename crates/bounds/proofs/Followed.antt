@@ -13,16 +13,16 @@ use lib.IntN.{ℤ, pos}
 use Rattle.numbers.specs.Whole.{plus, minus}
 use Rattle.numbers.proofs.Tests.{by-test, true-false, cond-true, cond-false}
 use Rattle.numbers.proofs.Parts.{zarith, sub-parts}
-use Rattle.table.specs.Limits.{root}
-use Rattle.table.specs.Tree.{Tree, isClient, atOrAbove}
-use Rattle.table.specs.Places.{balance, waiting, size}
-use Rattle.table.specs.Tick.{State, grains, dispatched}
+use Rattle.definitions.specs.Limits.{root}
+use Rattle.definitions.specs.Tree.{Tree, isClient, atOrAbove}
+use Rattle.definitions.specs.Places.{balance, waiting, size}
+use Rattle.definitions.specs.Tick.{State, grains, dispatched}
 use Rattle.treelaws.proofs.Sorts.{client-class}
 use Rattle.treelaws.proofs.Way.{Ways, At, way-class, above-there, above-root}
 use Rattle.ticklaws.proofs.Dispatch.{Dispatch, takes, dispatch-shifted}
 use Rattle.bounds.specs.Observer.{entriesFor}
 use Rattle.bounds.specs.Counts.{entryGrains, grainsForClient, grainsToNode, sumOver}
-use Rattle.table.proofs.Ports.{whole}
+use Rattle.definitions.proofs.Ports.{whole}
 use Rattle.ticklaws.proofs.Ports.{entry-whole}
 use Rattle.bounds.proofs.Decoded.{told}
 use Rattle.bounds.proofs.Dispatched.{eqb-swap, sent-more, all-more, grains-more, charged-more}

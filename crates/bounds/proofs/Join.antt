@@ -8,16 +8,16 @@ use lib.IntN.{ℤ}
 use Rattle.numbers.specs.Whole.{plus}
 use Rattle.numbers.proofs.Tests.{true-false}
 use Rattle.numbers.proofs.Parts.{plus-pos}
-use Rattle.table.specs.Limits.{recordLength, rateAt, waitingAt, portAt, root}
-use Rattle.table.specs.Places.{place, rate as rateOf, waiting}
-use Rattle.table.specs.Tree.{Tree, treeOf}
-use Rattle.table.specs.Rates.{renewed}
-use Rattle.table.specs.Order.{inOrder}
-use Rattle.table.specs.Calls.{joined, joinRefusal, joinTable}
-use Rattle.table.proofs.Facts.{InOrder, facts}
+use Rattle.definitions.specs.Limits.{recordLength, rateAt, waitingAt, portAt, root}
+use Rattle.definitions.specs.Places.{place, rate as rateOf, waiting}
+use Rattle.definitions.specs.Tree.{Tree, treeOf}
+use Rattle.definitions.specs.Rates.{renewed}
+use Rattle.definitions.specs.Order.{inOrder}
+use Rattle.definitions.specs.Calls.{joined, joinRefusal, joinTable}
+use Rattle.definitions.proofs.Facts.{InOrder, facts}
 use Rattle.treelaws.proofs.Children.{class-there}
-use Rattle.table.proofs.Edits.{joined-edit, joined-node, joined-others, joined-rest}
-use Rattle.table.proofs.Passed.{JoinPassed, join-passed}
+use Rattle.definitions.proofs.Edits.{joined-edit, joined-node, joined-others, joined-rest}
+use Rattle.definitions.proofs.Passed.{JoinPassed, join-passed}
 use Rattle.calllaws.proofs.Join.{join-keeps}
 use Rattle.bounds.specs.Events.{join}
 use Rattle.bounds.specs.Observer.{Observer, setAt, withNode, afterAccepted}

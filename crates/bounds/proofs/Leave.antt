@@ -7,15 +7,15 @@ use native.Mathlib.Omega.{arith}
 use borrow.Author.Tests.{eqb-true, eqb-false}
 use lib.IntN.{ℤ}
 use Rattle.numbers.specs.Whole.{plus}
-use Rattle.table.specs.Limits.{rateAt, client, root}
-use Rattle.table.specs.Places.{rate as rateOf}
-use Rattle.table.specs.Tree.{Tree, treeOf, isClient}
-use Rattle.table.specs.Rates.{renewed}
-use Rattle.table.specs.Order.{inOrder}
-use Rattle.table.specs.Calls.{cleared, leaveRefusal, leaveTable}
-use Rattle.table.proofs.Facts.{InOrder, facts}
-use Rattle.table.proofs.Edits.{cleared-edit, cleared-node, cleared-others}
-use Rattle.table.proofs.Passed.{LeavePassed, leave-passed}
+use Rattle.definitions.specs.Limits.{rateAt, client, root}
+use Rattle.definitions.specs.Places.{rate as rateOf}
+use Rattle.definitions.specs.Tree.{Tree, treeOf, isClient}
+use Rattle.definitions.specs.Rates.{renewed}
+use Rattle.definitions.specs.Order.{inOrder}
+use Rattle.definitions.specs.Calls.{cleared, leaveRefusal, leaveTable}
+use Rattle.definitions.proofs.Facts.{InOrder, facts}
+use Rattle.definitions.proofs.Edits.{cleared-edit, cleared-node, cleared-others}
+use Rattle.definitions.proofs.Passed.{LeavePassed, leave-passed}
 use Rattle.calllaws.proofs.Leave.{leave-keeps}
 use Rattle.bounds.specs.Events.{leave}
 use Rattle.bounds.specs.Observer.{Observer, withNode, afterAccepted}

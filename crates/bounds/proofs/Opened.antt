@@ -8,13 +8,13 @@ use lib.ListN.{length, length-replicate, List·getD-eq-default}
 use lib.IntN.{ℤ, pos}
 use Rattle.numbers.specs.Whole.{plus}
 use Rattle.numbers.proofs.Parts.{plus-pos}
-use Rattle.table.specs.Limits.{tableLength, headerLength, recordLength, nodes, sortAt, parentAt, levelAt, kindAt, shareAt, depthAt, rateAt, waitingAt, wholeShare}
-use Rattle.table.specs.Places.{place, rate as rateOf, waiting}
-use Rattle.table.specs.Tree.{treeOf}
-use Rattle.table.specs.Calls.{blank, opened, openRefusal, openTable}
-use Rattle.table.proofs.Refusals.{kept-new}
-use Rattle.table.proofs.Edits.{opened-edit, opened-node, opened-place, blank-place}
-use Rattle.table.proofs.Passed.{open-passed}
+use Rattle.definitions.specs.Limits.{tableLength, headerLength, recordLength, nodes, sortAt, parentAt, levelAt, kindAt, shareAt, depthAt, rateAt, waitingAt, wholeShare}
+use Rattle.definitions.specs.Places.{place, rate as rateOf, waiting}
+use Rattle.definitions.specs.Tree.{treeOf}
+use Rattle.definitions.specs.Calls.{blank, opened, openRefusal, openTable}
+use Rattle.definitions.proofs.Refusals.{kept-new}
+use Rattle.definitions.proofs.Edits.{opened-edit, opened-node, opened-place, blank-place}
+use Rattle.definitions.proofs.Passed.{open-passed}
 use Rattle.calllaws.proofs.Open.{opened-in-order}
 use Rattle.bounds.specs.Observer.{start}
 use Rattle.bounds.proofs.Simulation.{Agrees}

@@ -7,14 +7,14 @@ use mathlib.Core.List.{List}
 use native.Mathlib.Omega.{arith}
 use lib.IntN.{ℤ}
 use Rattle.numbers.specs.Whole.{plus}
-use Rattle.table.specs.Limits.{balanceAt, waitingAt}
-use Rattle.table.specs.Places.{rate as rateOf, balance, waiting}
-use Rattle.table.specs.Tree.{treeOf, isClient}
-use Rattle.table.specs.Rates.{renewed}
-use Rattle.table.specs.Order.{inOrder}
-use Rattle.table.specs.Refusals.{kept}
-use Rattle.table.proofs.Facts.{facts}
-use Rattle.table.proofs.Refusals.{kept-new}
+use Rattle.definitions.specs.Limits.{balanceAt, waitingAt}
+use Rattle.definitions.specs.Places.{rate as rateOf, balance, waiting}
+use Rattle.definitions.specs.Tree.{treeOf, isClient}
+use Rattle.definitions.specs.Rates.{renewed}
+use Rattle.definitions.specs.Order.{inOrder}
+use Rattle.definitions.specs.Refusals.{kept}
+use Rattle.definitions.proofs.Facts.{facts}
+use Rattle.definitions.proofs.Refusals.{kept-new}
 use Rattle.treelaws.proofs.Renewed.{renewed-length, renewed-place, renewed-tree, renewed-disk}
 use Rattle.calllaws.proofs.Ready.{root-there, root-level}
 use Rattle.bounds.specs.Observer.{Observer}

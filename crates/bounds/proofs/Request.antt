@@ -5,13 +5,13 @@ use mathlib.Core.List.{List, []}
 use native.Mathlib.Omega.{arith}
 use lib.IntN.{ℤ}
 use Rattle.numbers.specs.Whole.{plus}
-use Rattle.table.specs.Limits.{rateAt, balanceAt, waitingAt, root, mostWaiting}
-use Rattle.table.specs.Places.{place, rate as rateOf, balance, waiting}
-use Rattle.table.specs.Calls.{requested, requestRefusal, requestTable}
-use Rattle.table.proofs.Facts.{InOrder, facts}
-use Rattle.table.proofs.Edits.{Requested, requested-edit}
+use Rattle.definitions.specs.Limits.{rateAt, balanceAt, waitingAt, root, mostWaiting}
+use Rattle.definitions.specs.Places.{place, rate as rateOf, balance, waiting}
+use Rattle.definitions.specs.Calls.{requested, requestRefusal, requestTable}
+use Rattle.definitions.proofs.Facts.{InOrder, facts}
+use Rattle.definitions.proofs.Edits.{Requested, requested-edit}
 use Rattle.calllaws.proofs.Nodes.{ready, most-waiting}
-use Rattle.table.proofs.Passed.{RequestPassed, request-passed}
+use Rattle.definitions.proofs.Passed.{RequestPassed, request-passed}
 use Rattle.calllaws.proofs.Request.{request-keeps, before, next-waiting, requested-tree}
 use Rattle.bounds.specs.Events.{request}
 use Rattle.bounds.specs.Observer.{Observer, afterAccepted}

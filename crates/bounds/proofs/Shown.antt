@@ -10,14 +10,14 @@ use lib.ListN.{length, drop}
 use lib.IntN.{ℤ, pos}
 use Rattle.numbers.specs.Whole.{plus}
 use Rattle.numbers.specs.Tests.{every}
-use Rattle.table.specs.Limits.{firstPort, secondPort}
-use Rattle.table.specs.Places.{port}
-use Rattle.table.specs.Rates.{rateIn}
-use Rattle.table.specs.Refusals.{Outcome, accepted, refused}
-use Rattle.table.specs.Tick.{ticked, listed, portEntries, portCount, tickRefusal, tickTable, tickFirst, tickSecond, tickAnswer}
-use Rattle.table.proofs.Facts.{InOrder}
-use Rattle.table.proofs.Refusals.{kept-new, kept-old, outcome-accepted, outcome-refused}
-use Rattle.table.proofs.Ports.{whole, ports-small, port-whole}
+use Rattle.definitions.specs.Limits.{firstPort, secondPort}
+use Rattle.definitions.specs.Places.{port}
+use Rattle.definitions.specs.Rates.{rateIn}
+use Rattle.definitions.specs.Refusals.{Outcome, accepted, refused}
+use Rattle.definitions.specs.Tick.{ticked, listed, portEntries, portCount, tickRefusal, tickTable, tickFirst, tickSecond, tickAnswer}
+use Rattle.definitions.proofs.Facts.{InOrder}
+use Rattle.definitions.proofs.Refusals.{kept-new, kept-old, outcome-accepted, outcome-refused}
+use Rattle.definitions.proofs.Ports.{whole, ports-small, port-whole}
 use Rattle.ticklaws.proofs.Ports.{ticked-whole}
 use Rattle.bounds.specs.Events.{tick, tableAfter, answerOf, firstAfter, secondAfter, eventOf}
 use Rattle.bounds.specs.Observer.{Observer, Entry, dispatchedBy, entriesOf, entries, entriesFor, afterAccepted, afterAnswer, observed}

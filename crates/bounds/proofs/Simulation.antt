@@ -10,10 +10,10 @@ use borrow.Author.Tests.{ltb-true}
 use lib.IntN.{ℤ}
 use Rattle.numbers.specs.Whole.{plus, minus}
 use Rattle.numbers.specs.Tests.{every}
-use Rattle.table.specs.Limits.{root, grainScale}
-use Rattle.table.specs.Places.{rate, balance, waiting}
-use Rattle.table.specs.Tree.{treeOf, isClass, isClient}
-use Rattle.table.specs.Order.{inOrder}
+use Rattle.definitions.specs.Limits.{root, grainScale}
+use Rattle.definitions.specs.Places.{rate, balance, waiting}
+use Rattle.definitions.specs.Tree.{treeOf, isClass, isClient}
+use Rattle.definitions.specs.Order.{inOrder}
 use Rattle.bounds.specs.Events.{Call, tableAfter, answerOf, eventOf}
 use Rattle.bounds.specs.Observer.{Observer, entries, observed}
 use Rattle.bounds.specs.Counts.{accepts, leaves, rateAt, entryGrains, grainsForClient, grainsToNode, sumOver, waits}

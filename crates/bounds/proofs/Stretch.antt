@@ -14,13 +14,13 @@ use Rattle.numbers.specs.Tests.{every}
 use Rattle.numbers.proofs.Tests.{by-test, true-false}
 use Rattle.numbers.proofs.Every.{none-left, holds-with, head-fails, rest-fail}
 use Rattle.numbers.proofs.Parts.{zarith, plus-pos, minus-pos, within-parts}
-use Rattle.table.specs.Limits.{tableLength, headerLength, recordLength, nodes, depthAt, client, root, lastLevel, greatestDepth, grainScale}
-use Rattle.table.specs.Places.{place, balance, depthGrains}
-use Rattle.table.specs.Tree.{Tree, treeOf, there, isClass, isClient}
-use Rattle.table.specs.Refusals.{refused}
-use Rattle.table.specs.Calls.{leaveRefusal, leaveAnswer}
-use Rattle.table.proofs.Facts.{InOrder, facts}
-use Rattle.table.proofs.Refusals.{none-first, outcome-refused}
+use Rattle.definitions.specs.Limits.{tableLength, headerLength, recordLength, nodes, depthAt, client, root, lastLevel, greatestDepth, grainScale}
+use Rattle.definitions.specs.Places.{place, balance, depthGrains}
+use Rattle.definitions.specs.Tree.{Tree, treeOf, there, isClass, isClient}
+use Rattle.definitions.specs.Refusals.{refused}
+use Rattle.definitions.specs.Calls.{leaveRefusal, leaveAnswer}
+use Rattle.definitions.proofs.Facts.{InOrder, facts}
+use Rattle.definitions.proofs.Refusals.{none-first, outcome-refused}
 use Rattle.treelaws.proofs.Children.{class-there}
 use Rattle.treelaws.proofs.Floors.{grounds, node-floor}
 use Rattle.bounds.specs.Events.{Call, join, leave, changeShare, changeRate, request, tick, tableAfter, answerOf, eventOf, events, tableAfterAll}

@@ -11,9 +11,9 @@ use borrow.Author.Tests.{not-true}
 use lib.IntN.{ℤ}
 use Rattle.numbers.specs.Whole.{plus, minus}
 use Rattle.numbers.proofs.Every.{head-holds, rest-hold}
-use Rattle.table.specs.Limits.{grainScale}
-use Rattle.table.specs.Places.{balance}
-use Rattle.table.specs.Tree.{isClass, isClient}
+use Rattle.definitions.specs.Limits.{grainScale}
+use Rattle.definitions.specs.Places.{balance}
+use Rattle.definitions.specs.Tree.{isClass, isClient}
 use Rattle.bounds.specs.Events.{Call, tableAfter, eventOf, events, tableAfterAll}
 use Rattle.bounds.specs.Observer.{Observer, observed, observedAll}
 use Rattle.bounds.specs.Counts.{ratesOver, dispatchedOver, chargedOver, waitsThroughout, staysThroughout}

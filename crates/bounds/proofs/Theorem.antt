@@ -4,9 +4,9 @@ use mathlib.Core.Path.{_≡_}
 use mathlib.Core.Bool.{true, false}
 use mathlib.Core.List.{[], _∷_}
 use Rattle.numbers.specs.Tests.{every}
-use Rattle.table.specs.Limits.{root}
-use Rattle.table.specs.Tree.{isClient}
-use Rattle.table.specs.Calls.{openTable}
+use Rattle.definitions.specs.Limits.{root}
+use Rattle.definitions.specs.Tree.{isClient}
+use Rattle.definitions.specs.Calls.{openTable}
 use Rattle.bounds.specs.Events.{tableAfter, answerOf, eventOf, events, tableAfterAll}
 use Rattle.bounds.specs.Observer.{entries, observed, start, observedAll}
 use Rattle.bounds.specs.Counts.{accepts, entryGrains, grainsToNode, sumOver, leaves, waits}

@@ -9,13 +9,13 @@ use native.Mathlib.Omega.{arith}
 use native.Mathlib.Decide.{ℕ-discrete}
 use lib.IntN.{ℤ}
 use Rattle.numbers.specs.Whole.{plus, minus}
-use Rattle.table.specs.Limits.{nodes, root, grainScale}
-use Rattle.table.specs.Tree.{Tree, treeOf, there, isClass, isClient}
-use Rattle.table.specs.Places.{rate, balance, waiting}
-use Rattle.table.specs.Rates.{rateIn}
-use Rattle.table.specs.Order.{inOrder}
-use Rattle.table.specs.Tick.{ticked, tickRefusal}
-use Rattle.table.proofs.Facts.{InOrder, facts}
+use Rattle.definitions.specs.Limits.{nodes, root, grainScale}
+use Rattle.definitions.specs.Tree.{Tree, treeOf, there, isClass, isClient}
+use Rattle.definitions.specs.Places.{rate, balance, waiting}
+use Rattle.definitions.specs.Rates.{rateIn}
+use Rattle.definitions.specs.Order.{inOrder}
+use Rattle.definitions.specs.Tick.{ticked, tickRefusal}
+use Rattle.definitions.proofs.Facts.{InOrder, facts}
 use Rattle.treelaws.proofs.Children.{class-there}
 use Rattle.treelaws.proofs.Sorts.{client-there}
 use Rattle.ticklaws.proofs.Frame.{frame-tree, frame-rate}

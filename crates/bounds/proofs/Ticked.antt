@@ -9,11 +9,11 @@ use lib.IntN.{ℤ, pos}
 use lib.Signed.{leZ}
 use Rattle.numbers.specs.Whole.{plus, minus}
 use Rattle.numbers.proofs.Parts.{zarith, add-parts}
-use Rattle.table.specs.Limits.{nodes, root}
-use Rattle.table.specs.Tree.{Tree, treeOf, atOrAbove}
-use Rattle.table.specs.Places.{rate, balance, waiting, depthGrains}
-use Rattle.table.specs.Tick.{State, grown, cut, supplier, allWaiting, stepTwo, stepThree, ticked}
-use Rattle.table.proofs.Facts.{InOrder}
+use Rattle.definitions.specs.Limits.{nodes, root}
+use Rattle.definitions.specs.Tree.{Tree, treeOf, atOrAbove}
+use Rattle.definitions.specs.Places.{rate, balance, waiting, depthGrains}
+use Rattle.definitions.specs.Tick.{State, grown, cut, supplier, allWaiting, stepTwo, stepThree, ticked}
+use Rattle.definitions.proofs.Facts.{InOrder}
 use Rattle.treelaws.proofs.Way.{ways-of, way-first}
 use Rattle.ticklaws.proofs.Frame.{frame-tree}
 use Rattle.ticklaws.proofs.Queues.{only-shifted}

@@ -6,8 +6,8 @@ use native.Mathlib.Decide.{ℕ-discrete}
 use borrow.Author.Tests.{eq-eqb, ne-eqb}
 use lib.Dec.{eqb}
 use Rattle.numbers.proofs.Tests.{cond-true, cond-false}
-use Rattle.table.specs.Tree.{Tree}
-use Rattle.table.proofs.Edits.{SameNode, NodeIs}
+use Rattle.definitions.specs.Tree.{Tree}
+use Rattle.definitions.proofs.Edits.{SameNode, NodeIs}
 use Rattle.bounds.specs.Observer.{setAt, withNode, withShare}
 
 pub set-here : (k v : ℕ) (f : ℕ → ℕ) (j : ℕ) → j ≡ k → setAt k v f j ≡ v

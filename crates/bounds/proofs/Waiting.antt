@@ -11,12 +11,12 @@ use lib.Signed.{leZ}
 use Rattle.numbers.specs.Whole.{plus, minus}
 use Rattle.numbers.proofs.Tests.{by-test, true-false}
 use Rattle.numbers.proofs.Parts.{zarith, one-is-zero}
-use Rattle.table.specs.Limits.{nodes, grainScale}
-use Rattle.table.specs.Tree.{treeOf, isClient, atOrAbove}
-use Rattle.table.specs.Places.{rate, balance, waiting, depthGrains, size}
-use Rattle.table.specs.Tick.{grains, enough, stepTwo, ticked}
-use Rattle.table.proofs.Facts.{InOrder}
-use Rattle.table.proofs.Cost.{cost-bounds, most-cost}
+use Rattle.definitions.specs.Limits.{nodes, grainScale}
+use Rattle.definitions.specs.Tree.{treeOf, isClient, atOrAbove}
+use Rattle.definitions.specs.Places.{rate, balance, waiting, depthGrains, size}
+use Rattle.definitions.specs.Tick.{grains, enough, stepTwo, ticked}
+use Rattle.definitions.proofs.Facts.{InOrder}
+use Rattle.definitions.proofs.Cost.{cost-bounds, most-cost}
 use Rattle.treelaws.proofs.Sorts.{client-there, client-class}
 use Rattle.treelaws.proofs.Way.{way-first}
 use Rattle.ticklaws.proofs.Frame.{frame-grains}

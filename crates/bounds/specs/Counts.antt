@@ -6,10 +6,10 @@ use mathlib.Core.List.{List, [], _∷_}
 use lib.Dec.{eqb, ltb}
 use Rattle.numbers.specs.Whole.{plus}
 use Rattle.numbers.specs.Tests.{every}
-use Rattle.table.specs.Tree.{Tree, atOrAbove}
-use Rattle.table.specs.Rates.{rateIn}
-use Rattle.table.specs.Refusals.{Outcome, accepted, refused}
-use Rattle.table.specs.Tick.{grains}
+use Rattle.definitions.specs.Tree.{Tree, atOrAbove}
+use Rattle.definitions.specs.Rates.{rateIn}
+use Rattle.definitions.specs.Refusals.{Outcome, accepted, refused}
+use Rattle.definitions.specs.Tick.{grains}
 use Rattle.bounds.specs.Events.{Call, join, leave, changeShare, changeRate, request, tick, Event}
 use Rattle.bounds.specs.Observer.{Entry, entries, Observer, observed}
 

@@ -5,9 +5,9 @@ use mathlib.Core.Path.{_≡_}
 use mathlib.Core.Bool.{true}
 use mathlib.Core.List.{List}
 use lib.IntN.{ℤ}
-use Rattle.table.specs.Limits.{root, grainScale}
-use Rattle.table.specs.Tree.{isClass, isClient}
-use Rattle.table.specs.Calls.{openRefusal, openTable}
+use Rattle.definitions.specs.Limits.{root, grainScale}
+use Rattle.definitions.specs.Tree.{isClass, isClient}
+use Rattle.definitions.specs.Calls.{openRefusal, openTable}
 use Rattle.bounds.specs.Events.{Call, Event, events, tableAfterAll}
 use Rattle.bounds.specs.Observer.{Observer, start, observedAll}
 use Rattle.bounds.specs.Counts.{ratesOver, grainsOver, dispatchedOver, chargedOver, waitsThroughout, staysThroughout}

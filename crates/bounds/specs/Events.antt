@@ -2,9 +2,9 @@
 -- Answers, tables and lists are those of the definitions that the calls' contracts cite.
 use mathlib.Core.List.{List, [], _∷_}
 use lib.IntN.{ℤ}
-use Rattle.table.specs.Refusals.{Outcome}
-use Rattle.table.specs.Calls.{joinTable, joinAnswer, leaveTable, leaveAnswer, changeShareTable, changeShareAnswer, changeRateTable, changeRateAnswer, requestTable, requestAnswer}
-use Rattle.table.specs.Tick.{tickTable, tickAnswer, tickFirst, tickSecond}
+use Rattle.definitions.specs.Refusals.{Outcome}
+use Rattle.definitions.specs.Calls.{joinTable, joinAnswer, leaveTable, leaveAnswer, changeShareTable, changeShareAnswer, changeRateTable, changeRateAnswer, requestTable, requestAnswer}
+use Rattle.definitions.specs.Tick.{tickTable, tickAnswer, tickFirst, tickSecond}
 
 -- A call with any arguments and, for a tick, any dispatch lists.
 pub data Call : Type 0 where

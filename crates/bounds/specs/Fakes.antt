@@ -3,8 +3,8 @@
 use Prim.Native.Nat.{ℕ, zero, suc, _-_}
 use mathlib.Core.List.{List, [], _∷_}
 use lib.IntN.{ℤ, pos}
-use Rattle.table.specs.Limits.{root, client, weighted, mostWaiting}
-use Rattle.table.specs.Refusals.{accepted}
+use Rattle.definitions.specs.Limits.{root, client, weighted, mostWaiting}
+use Rattle.definitions.specs.Refusals.{accepted}
 use Rattle.bounds.specs.Events.{join, request, tick, Event}
 use Rattle.bounds.specs.Observer.{Observer, start, observedAll}
 

@@ -8,9 +8,9 @@ use lib.ListN.{getD, drop}
 use lib.Dec.{eqb}
 use lib.IntN.{ℤ, pos}
 use Rattle.numbers.specs.Whole.{plus}
-use Rattle.table.specs.Limits.{root, class, wholeShare, entryLength}
-use Rattle.table.specs.Tree.{Tree}
-use Rattle.table.specs.Refusals.{Outcome, accepted, refused}
+use Rattle.definitions.specs.Limits.{root, class, wholeShare, entryLength}
+use Rattle.definitions.specs.Tree.{Tree}
+use Rattle.definitions.specs.Refusals.{Outcome, accepted, refused}
 use Rattle.bounds.specs.Events.{Call, join, leave, changeShare, changeRate, request, tick, Event}
 
 -- f, with v at k.

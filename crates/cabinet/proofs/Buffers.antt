@@ -3,7 +3,7 @@ use Prim.Native.Nat.{ℕ}
 use mathlib.Core.Path.{_≡_, sym, ap}
 use mathlib.Core.List.{List}
 use lib.IntN.{ℤ, pos, _-ℤ_}
-use Rattle.table.specs.Refusals.{Outcome, accepted, refused}
+use Rattle.definitions.specs.Refusals.{Outcome, accepted, refused}
 use Rattle.cabinet.specs.Exported.{exportedBare, shown}
 
 module _ {o : Outcome} (values : List ℤ) (e : o ≡ accepted values) where

@@ -1,7 +1,7 @@
 -- What the exported functions answer: one number for every outcome of a call.
 use mathlib.Core.List.{List, [], _∷_}
 use lib.IntN.{ℤ, pos, _-ℤ_}
-use Rattle.table.specs.Refusals.{Outcome, accepted, refused}
+use Rattle.definitions.specs.Refusals.{Outcome, accepted, refused}
 
 -- The value of an accepted call, 0 where it has none; the negated number of a refusal.
 unfoldable pub exported : Outcome → ℤ

@@ -3,8 +3,8 @@
 ghost use mathlib.Core.Path.{_≡_};
 ghost use lib.IntN.{pos, _-ℤ_};
 ghost use Rattle.table.specs.Answers.{numberOf, told, toldCompared};
-ghost use Rattle.table.specs.Calls.{openAnswer, openTable, joinAnswer, joinTable, leaveAnswer, leaveTable, changeShareAnswer, changeShareTable, changeRateAnswer, changeRateTable, requestAnswer, requestTable, lookAnswer, sameAnswer};
-ghost use Rattle.table.specs.Tick.{tickAnswer, tickTable, tickFirst, tickSecond};
+ghost use Rattle.definitions.specs.Calls.{openAnswer, openTable, joinAnswer, joinTable, leaveAnswer, leaveTable, changeShareAnswer, changeShareTable, changeRateAnswer, changeRateTable, requestAnswer, requestTable, lookAnswer, sameAnswer};
+ghost use Rattle.definitions.specs.Tick.{tickAnswer, tickTable, tickFirst, tickSecond};
 ghost use Rattle.planlaws.specs.Reading.{planAnswer, planTable};
 ghost use Rattle.planlaws.specs.Writing.{writeAnswer, writeBuffer};
 ghost use Rattle.cabinet.specs.Exported.{exported, exportedBare, shown};

@@ -10,18 +10,18 @@ use lib.IntN.{ℤ}
 use Rattle.numbers.specs.Whole.{plus, withinℤ}
 use Rattle.numbers.proofs.Tests.{by-test, same-truth, true-false}
 use Rattle.numbers.proofs.Parts.{zarith, pos-of-within}
-use Rattle.table.specs.Limits.{rateAt, root, greatestRate}
-use Rattle.table.specs.Places.{put, rate as rateOf}
-use Rattle.table.specs.Tree.{Tree, treeOf, there}
-use Rattle.table.specs.Rates.{statedSum, renewed}
-use Rattle.table.specs.Order.{statedInOrder, inOrder}
-use Rattle.table.specs.Calls.{statedWrong, changeRateRefusal, changeRateTable}
-use Rattle.table.proofs.Facts.{InOrder, Stated, facts, of-stated, stated-of}
-use Rattle.table.proofs.Places.{length-put, header-put, place-put-same, place-put-node, place-put-place}
+use Rattle.definitions.specs.Limits.{rateAt, root, greatestRate}
+use Rattle.definitions.specs.Places.{put, rate as rateOf}
+use Rattle.definitions.specs.Tree.{Tree, treeOf, there}
+use Rattle.definitions.specs.Rates.{statedSum, renewed}
+use Rattle.definitions.specs.Order.{statedInOrder, inOrder}
+use Rattle.definitions.specs.Calls.{statedWrong, changeRateRefusal, changeRateTable}
+use Rattle.definitions.proofs.Facts.{InOrder, Stated, facts, of-stated, stated-of}
+use Rattle.definitions.proofs.Places.{length-put, header-put, place-put-same, place-put-node, place-put-place}
 use Rattle.treelaws.proofs.Renewed.{same-tree}
 use Rattle.treelaws.specs.Renewal.{RenewsAll}
 use Rattle.treelaws.proofs.Below.{renewed-by-root}
-use Rattle.table.proofs.Passed.{change-rate-passed}
+use Rattle.definitions.proofs.Passed.{change-rate-passed}
 use Rattle.calllaws.proofs.Nodes.{Ready, ready, root-kept}
 use Rattle.calllaws.proofs.Ready.{ready-but-rates, ready-renewed, root-there, kept-in-order}
 use Rattle.calllaws.proofs.OneChild.{ways-before}

@@ -10,15 +10,15 @@ use native.Mathlib.Decide.{ℕ-discrete}
 use lib.IntN.{ℤ}
 use Rattle.numbers.specs.Whole.{plus, minus, withinℤ}
 use Rattle.numbers.proofs.Tests.{true-false}
-use Rattle.table.specs.Limits.{recordLength, nodes, sortAt, parentAt, levelAt, kindAt, shareAt, depthAt, balanceAt, waitingAt, portAt, arrivalAt, fixed, stated, wholeShare, shareLimit}
-use Rattle.table.specs.Places.{queuePlace, place, count, balance, waiting, arrival}
-use Rattle.table.specs.Tree.{treeOf, there, childOf, countIf}
-use Rattle.table.specs.Rates.{fixedSum, renewed}
-use Rattle.table.specs.Order.{inOrder}
-use Rattle.table.specs.Calls.{reshared, changeShareRefusal, changeShareTable}
-use Rattle.table.proofs.Facts.{Child, Class, Stated, facts}
-use Rattle.table.proofs.Edits.{Edited, reshared-edit, reshared-node, reshared-rest}
-use Rattle.table.proofs.Passed.{change-share-passed}
+use Rattle.definitions.specs.Limits.{recordLength, nodes, sortAt, parentAt, levelAt, kindAt, shareAt, depthAt, balanceAt, waitingAt, portAt, arrivalAt, fixed, stated, wholeShare, shareLimit}
+use Rattle.definitions.specs.Places.{queuePlace, place, count, balance, waiting, arrival}
+use Rattle.definitions.specs.Tree.{treeOf, there, childOf, countIf}
+use Rattle.definitions.specs.Rates.{fixedSum, renewed}
+use Rattle.definitions.specs.Order.{inOrder}
+use Rattle.definitions.specs.Calls.{reshared, changeShareRefusal, changeShareTable}
+use Rattle.definitions.proofs.Facts.{Child, Class, Stated, facts}
+use Rattle.definitions.proofs.Edits.{Edited, reshared-edit, reshared-node, reshared-rest}
+use Rattle.definitions.proofs.Passed.{change-share-passed}
 use Rattle.treelaws.specs.Renewal.{RenewsAll}
 use Rattle.calllaws.proofs.Nodes.{Ready, ready, Sums, node-limited, child-kept, most-waiting}
 use Rattle.calllaws.proofs.OneNode.{child-same, no-child, count-same, kinds-fall, depths-changed, balances-changed, edited-ready}

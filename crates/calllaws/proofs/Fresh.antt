@@ -9,11 +9,11 @@ use lib.IntN.{ℤ, pos}
 use Rattle.numbers.specs.Whole.{plus, minus}
 use Rattle.numbers.proofs.Tests.{true-false}
 use Rattle.numbers.proofs.Parts.{zarith, plus-pos, minus-pos, add-parts}
-use Rattle.table.specs.Limits.{recordLength, nodes, sortAt, balanceAt, waitingAt, portAt, spareAt, queueAt, fixed, lastClassLevel}
-use Rattle.table.specs.Places.{place, balance, waiting, depthGrains}
-use Rattle.table.specs.Tree.{treeOf, there, isClass, isClient, sumUnder}
-use Rattle.table.specs.Rates.{kindShare, kindSum}
-use Rattle.table.proofs.Facts.{Limits, Child, Class, Balance}
+use Rattle.definitions.specs.Limits.{recordLength, nodes, sortAt, balanceAt, waitingAt, portAt, spareAt, queueAt, fixed, lastClassLevel}
+use Rattle.definitions.specs.Places.{place, balance, waiting, depthGrains}
+use Rattle.definitions.specs.Tree.{treeOf, there, isClass, isClient, sumUnder}
+use Rattle.definitions.specs.Rates.{kindShare, kindSum}
+use Rattle.definitions.proofs.Facts.{Limits, Child, Class, Balance}
 use Rattle.treelaws.proofs.Children.{ChildOf, balances-parts, under-zero}
 use Rattle.calllaws.proofs.Nodes.{Node}
 

@@ -11,16 +11,16 @@ use lib.IntN.{ℤ, pos}
 use Rattle.numbers.specs.Whole.{plus, minus}
 use Rattle.numbers.proofs.Tests.{true-false}
 use Rattle.numbers.proofs.Parts.{zarith, plus-pos, minus-pos}
-use Rattle.table.specs.Limits.{recordLength, nodes, sortAt, parentAt, levelAt, kindAt, shareAt, depthAt, rateAt, balanceAt, waitingAt, portAt, arrivalAt, class, lastClassLevel}
-use Rattle.table.specs.Places.{queuePlace, place, balance, waiting, arrival}
-use Rattle.table.specs.Tree.{treeOf, there, isClass, childOf}
-use Rattle.table.specs.Rates.{renewed}
-use Rattle.table.specs.Order.{inOrder}
-use Rattle.table.specs.Calls.{joined, joinRefusal, joinTable}
-use Rattle.table.proofs.Facts.{Limits, Child, Class, facts}
-use Rattle.table.proofs.Passed.{JoinPassed, join-passed}
+use Rattle.definitions.specs.Limits.{recordLength, nodes, sortAt, parentAt, levelAt, kindAt, shareAt, depthAt, rateAt, balanceAt, waitingAt, portAt, arrivalAt, class, lastClassLevel}
+use Rattle.definitions.specs.Places.{queuePlace, place, balance, waiting, arrival}
+use Rattle.definitions.specs.Tree.{treeOf, there, isClass, childOf}
+use Rattle.definitions.specs.Rates.{renewed}
+use Rattle.definitions.specs.Order.{inOrder}
+use Rattle.definitions.specs.Calls.{joined, joinRefusal, joinTable}
+use Rattle.definitions.proofs.Facts.{Limits, Child, Class, facts}
+use Rattle.definitions.proofs.Passed.{JoinPassed, join-passed}
 use Rattle.treelaws.proofs.Children.{ChildOf, class-there, uncounted}
-use Rattle.table.proofs.Edits.{Edited, SameNode, NodeIs, joinedPlace, joined-edit, joined-node, joined-others, joined-rest}
+use Rattle.definitions.proofs.Edits.{Edited, SameNode, NodeIs, joinedPlace, joined-edit, joined-node, joined-others, joined-rest}
 use Rattle.treelaws.specs.Renewal.{RenewsAll}
 use Rattle.calllaws.proofs.Nodes.{Ready, ready, Sums, there-same, class-same, child-kept, most-waiting, client-or-class}
 use Rattle.calllaws.proofs.OneNode.{no-child, count-zero, balances-changed, sums-fall, edited-ready}

@@ -7,15 +7,15 @@ use native.Mathlib.Omega.{arith}
 use native.Mathlib.Decide.{ℕ-discrete}
 use lib.IntN.{ℤ, pos}
 use Rattle.numbers.specs.Whole.{plus, minus}
-use Rattle.table.specs.Limits.{nodes, root, rateAt, balanceAt, mostWaiting}
-use Rattle.table.specs.Places.{place, put, balance, waiting}
-use Rattle.table.specs.Rates.{renewed}
-use Rattle.table.specs.Calls.{joined, joinRefusal, joinTable, cleared, leaveRefusal, leaveTable, reshared, changeShareRefusal, changeShareTable, changeRateRefusal, changeRateTable, requested, requestRefusal, requestTable}
-use Rattle.table.proofs.Facts.{facts}
-use Rattle.table.proofs.Places.{place-put-place}
-use Rattle.table.proofs.Refusals.{kept-new}
-use Rattle.table.proofs.Passed.{LeavePassed, join-passed, leave-passed, change-share-passed, request-passed}
-use Rattle.table.proofs.Edits.{joined-rest, reshared-rest, cleared-edit, requested-edit}
+use Rattle.definitions.specs.Limits.{nodes, root, rateAt, balanceAt, mostWaiting}
+use Rattle.definitions.specs.Places.{place, put, balance, waiting}
+use Rattle.definitions.specs.Rates.{renewed}
+use Rattle.definitions.specs.Calls.{joined, joinRefusal, joinTable, cleared, leaveRefusal, leaveTable, reshared, changeShareRefusal, changeShareTable, changeRateRefusal, changeRateTable, requested, requestRefusal, requestTable}
+use Rattle.definitions.proofs.Facts.{facts}
+use Rattle.definitions.proofs.Places.{place-put-place}
+use Rattle.definitions.proofs.Refusals.{kept-new}
+use Rattle.definitions.proofs.Passed.{LeavePassed, join-passed, leave-passed, change-share-passed, request-passed}
+use Rattle.definitions.proofs.Edits.{joined-rest, reshared-rest, cleared-edit, requested-edit}
 use Rattle.treelaws.proofs.Renewed.{renewed-place}
 use Rattle.calllaws.specs.Laws.{NoBalanceRises, CallLaws}
 use Rattle.calllaws.proofs.Nodes.{ready, most-waiting}

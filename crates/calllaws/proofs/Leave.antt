@@ -9,16 +9,16 @@ use lib.IntN.{ℤ, pos}
 use Rattle.numbers.specs.Whole.{plus, minus}
 use Rattle.numbers.proofs.Tests.{by-test, true-false}
 use Rattle.numbers.proofs.Parts.{zarith, one-is-zero, plus-pos, minus-pos}
-use Rattle.table.specs.Limits.{sortAt, rateAt, waitingAt, stated, root}
-use Rattle.table.specs.Places.{rate, balance, waiting}
-use Rattle.table.specs.Tree.{treeOf, there, isClass, isStated, childOf, childless}
-use Rattle.table.specs.Rates.{renewed}
-use Rattle.table.specs.Order.{inOrder}
-use Rattle.table.specs.Calls.{cleared, leaveRefusal, leaveTable}
-use Rattle.table.proofs.Facts.{Stated, facts}
-use Rattle.table.proofs.Passed.{LeavePassed, leave-passed}
+use Rattle.definitions.specs.Limits.{sortAt, rateAt, waitingAt, stated, root}
+use Rattle.definitions.specs.Places.{rate, balance, waiting}
+use Rattle.definitions.specs.Tree.{treeOf, there, isClass, isStated, childOf, childless}
+use Rattle.definitions.specs.Rates.{renewed}
+use Rattle.definitions.specs.Order.{inOrder}
+use Rattle.definitions.specs.Calls.{cleared, leaveRefusal, leaveTable}
+use Rattle.definitions.proofs.Facts.{Stated, facts}
+use Rattle.definitions.proofs.Passed.{LeavePassed, leave-passed}
 use Rattle.treelaws.proofs.Children.{no-children}
-use Rattle.table.proofs.Edits.{Edited, SameNode, cleared-edit, cleared-others}
+use Rattle.definitions.proofs.Edits.{Edited, SameNode, cleared-edit, cleared-others}
 use Rattle.treelaws.specs.Renewal.{RenewsAll}
 use Rattle.calllaws.proofs.Nodes.{Ready, ready, there-same, child-kept}
 use Rattle.calllaws.proofs.OneNode.{no-child, kinds-fall, sums-fall, edited-ready}

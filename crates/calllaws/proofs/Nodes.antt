@@ -14,12 +14,12 @@ use lib.Signed.{leZ}
 use Rattle.numbers.specs.Whole.{plus, withinℤ}
 use Rattle.numbers.proofs.Tests.{by-test, true-false}
 use Rattle.numbers.proofs.Parts.{zarith, plus-pos}
-use Rattle.table.specs.Limits.{tableLength, headerLength, recordLength, nodes, sortAt, parentAt, levelAt, kindAt, shareAt, depthAt, rateAt, balanceAt, waitingAt, portAt, spareAt, queueAt, requestLength, sizeAt, arrivalAt, class, client, root, wholeShare, greatestRate, greatestCount, mostWaiting}
-use Rattle.table.specs.Places.{queuePlace, place, header, count, rate, balance, waiting, depthGrains, arrival}
-use Rattle.table.specs.Tree.{Tree, treeOf, there, isClass, isClient, sumUnder}
-use Rattle.table.specs.Rates.{fixedSum, rateIn}
-use Rattle.table.specs.Order.{childBalances}
-use Rattle.table.proofs.Facts.{InOrder, Limits, Spare, Root, Child, Class, Balance, Request, Stated}
+use Rattle.definitions.specs.Limits.{tableLength, headerLength, recordLength, nodes, sortAt, parentAt, levelAt, kindAt, shareAt, depthAt, rateAt, balanceAt, waitingAt, portAt, spareAt, queueAt, requestLength, sizeAt, arrivalAt, class, client, root, wholeShare, greatestRate, greatestCount, mostWaiting}
+use Rattle.definitions.specs.Places.{queuePlace, place, header, count, rate, balance, waiting, depthGrains, arrival}
+use Rattle.definitions.specs.Tree.{Tree, treeOf, there, isClass, isClient, sumUnder}
+use Rattle.definitions.specs.Rates.{fixedSum, rateIn}
+use Rattle.definitions.specs.Order.{childBalances}
+use Rattle.definitions.proofs.Facts.{InOrder, Limits, Spare, Root, Child, Class, Balance, Request, Stated}
 
 pub record Node (t : List ℤ) (k : ℕ) : Type 0 where
   pub empty : there (treeOf t) k ≡ false → (p : ℕ) → p < recordLength → place t k p ≡ pos 0

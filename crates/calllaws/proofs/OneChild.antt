@@ -10,14 +10,14 @@ use lib.Dec.{eqb}
 use lib.IntN.{ℤ, pos}
 use Rattle.numbers.specs.Whole.{plus}
 use Rattle.numbers.proofs.Tests.{true-false, or-true-left, or-false-left, or-false-right}
-use Rattle.table.specs.Limits.{nodes, rateAt, fixed, weighted, stated, root}
-use Rattle.table.specs.Places.{place, rate}
-use Rattle.table.specs.Tree.{Tree, treeOf, there, isFixed, isStated, childOf}
-use Rattle.table.specs.Rates.{kindShare, kindSum, dividedRate, childRate, rateIn, renewed}
-use Rattle.table.specs.Renewal.{below}
-use Rattle.table.specs.Order.{inOrder}
-use Rattle.table.proofs.Facts.{InOrder, facts}
-use Rattle.table.proofs.Edits.{Edited, SameNode, edited-others}
+use Rattle.definitions.specs.Limits.{nodes, rateAt, fixed, weighted, stated, root}
+use Rattle.definitions.specs.Places.{place, rate}
+use Rattle.definitions.specs.Tree.{Tree, treeOf, there, isFixed, isStated, childOf}
+use Rattle.definitions.specs.Rates.{kindShare, kindSum, dividedRate, childRate, rateIn, renewed}
+use Rattle.definitions.specs.Renewal.{below}
+use Rattle.definitions.specs.Order.{inOrder}
+use Rattle.definitions.proofs.Facts.{InOrder, facts}
+use Rattle.definitions.proofs.Edits.{Edited, SameNode, edited-others}
 use Rattle.treelaws.proofs.Renewed.{rate-at-root, renewed-tree}
 use Rattle.treelaws.proofs.Children.{class-there, uncounted}
 use Rattle.treelaws.proofs.Rounding.{rate-of-child, rate-small}

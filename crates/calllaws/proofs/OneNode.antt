@@ -13,15 +13,15 @@ use Rattle.numbers.specs.Whole.{plus, minus}
 use Rattle.numbers.proofs.Tests.{by-test}
 use Rattle.numbers.proofs.Parts.{zarith}
 use Rattle.numbers.proofs.Sums.{sum-changed}
-use Rattle.table.specs.Limits.{nodes, rateAt, balanceAt, waitingAt, arrivalAt, fixed, root}
-use Rattle.table.specs.Places.{queuePlace, count, balance, waiting, arrival}
-use Rattle.table.specs.Tree.{Tree, treeOf, there, isClass, childOf, countIf, sumUnder}
-use Rattle.table.specs.Rates.{kindShare, kindSum}
-use Rattle.table.specs.Order.{childBalances}
-use Rattle.table.proofs.Facts.{Child, Class, Stated}
-use Rattle.table.proofs.ShareKinds.{same-share}
+use Rattle.definitions.specs.Limits.{nodes, rateAt, balanceAt, waitingAt, arrivalAt, fixed, root}
+use Rattle.definitions.specs.Places.{queuePlace, count, balance, waiting, arrival}
+use Rattle.definitions.specs.Tree.{Tree, treeOf, there, isClass, childOf, countIf, sumUnder}
+use Rattle.definitions.specs.Rates.{kindShare, kindSum}
+use Rattle.definitions.specs.Order.{childBalances}
+use Rattle.definitions.proofs.Facts.{Child, Class, Stated}
+use Rattle.definitions.proofs.ShareKinds.{same-share}
 use Rattle.treelaws.proofs.Children.{ChildOf, child-facts, balances-parts, uncounted}
-use Rattle.table.proofs.Edits.{Edited, SameNode, edited-others}
+use Rattle.definitions.proofs.Edits.{Edited, SameNode, edited-others}
 use Rattle.calllaws.proofs.Nodes.{Node, Ready, Sums, there-same, node-kept, differ-kept, root-kept, most-waiting}
 
 pub child-same : (new old : Tree) (c j : ℕ) → new .sort j ≡ old .sort j → new .parent j ≡ old .parent j → childOf new c j ≡ childOf old c j

@@ -9,19 +9,19 @@ use lib.IntN.{ℤ, pos}
 use Rattle.numbers.specs.Whole.{plus}
 use Rattle.numbers.proofs.Tests.{true-false}
 use Rattle.numbers.proofs.Parts.{zarith, pos-of-within, plus-pos, minus-pos}
-use Rattle.table.specs.Limits.{recordLength, nodes, sortAt, parentAt, levelAt, kindAt, shareAt, depthAt, rateAt, balanceAt, waitingAt, portAt, fixed, stated, root, wholeShare, greatestRate}
-use Rattle.table.specs.Places.{place, rate as rateOf, waiting}
-use Rattle.table.specs.Tree.{treeOf, there}
-use Rattle.table.specs.Rates.{kindShare, kindSum, rateIn}
-use Rattle.table.specs.Order.{inOrder}
-use Rattle.table.specs.Calls.{opened, openRefusal, openTable}
-use Rattle.table.proofs.Facts.{Limits, Root, Stated, root-unstated, from-facts}
-use Rattle.table.proofs.ShareKinds.{limit-unstated}
-use Rattle.table.proofs.Refusals.{kept-new}
+use Rattle.definitions.specs.Limits.{recordLength, nodes, sortAt, parentAt, levelAt, kindAt, shareAt, depthAt, rateAt, balanceAt, waitingAt, portAt, fixed, stated, root, wholeShare, greatestRate}
+use Rattle.definitions.specs.Places.{place, rate as rateOf, waiting}
+use Rattle.definitions.specs.Tree.{treeOf, there}
+use Rattle.definitions.specs.Rates.{kindShare, kindSum, rateIn}
+use Rattle.definitions.specs.Order.{inOrder}
+use Rattle.definitions.specs.Calls.{opened, openRefusal, openTable}
+use Rattle.definitions.proofs.Facts.{Limits, Root, Stated, root-unstated, from-facts}
+use Rattle.definitions.proofs.ShareKinds.{limit-unstated}
+use Rattle.definitions.proofs.Refusals.{kept-new}
 use Rattle.treelaws.proofs.Renewed.{rate-at-root}
 use Rattle.treelaws.proofs.Children.{under-zero}
-use Rattle.table.proofs.Edits.{opened-edit, opened-place, opened-others, blank-header}
-use Rattle.table.proofs.Passed.{OpenPassed, open-passed}
+use Rattle.definitions.proofs.Edits.{opened-edit, opened-place, opened-others, blank-header}
+use Rattle.definitions.proofs.Passed.{OpenPassed, open-passed}
 use Rattle.calllaws.proofs.Nodes.{Node, Ready, ready-in-order}
 use Rattle.calllaws.proofs.Fresh.{zero-unused, unused-node, fresh-node}
 use Rattle.calllaws.proofs.Ready.{root-there, root-level, kept-in-order}

@@ -11,16 +11,16 @@ use lib.IntN.{ℤ, pos}
 use Rattle.numbers.specs.Whole.{plus, minus}
 use Rattle.numbers.proofs.Parts.{zarith, pos-of-within}
 use Rattle.numbers.proofs.Sums.{sumℤ-cong}
-use Rattle.table.specs.Limits.{tableLength, headerLength, nodes, rateAt, balanceAt, waitingAt, arrivalAt, root, greatestRate}
-use Rattle.table.specs.Places.{queuePlace, place, header, count, rate, balance, waiting, arrival}
-use Rattle.table.specs.Tree.{treeOf}
-use Rattle.table.specs.Rates.{renewed}
-use Rattle.table.specs.Order.{childBalance, childBalances, inOrder}
-use Rattle.table.specs.Refusals.{kept}
-use Rattle.table.proofs.Facts.{Root, Class, Stated, stated-kept, from-facts}
-use Rattle.table.proofs.Refusals.{kept-new, kept-old}
+use Rattle.definitions.specs.Limits.{tableLength, headerLength, nodes, rateAt, balanceAt, waitingAt, arrivalAt, root, greatestRate}
+use Rattle.definitions.specs.Places.{queuePlace, place, header, count, rate, balance, waiting, arrival}
+use Rattle.definitions.specs.Tree.{treeOf}
+use Rattle.definitions.specs.Rates.{renewed}
+use Rattle.definitions.specs.Order.{childBalance, childBalances, inOrder}
+use Rattle.definitions.specs.Refusals.{kept}
+use Rattle.definitions.proofs.Facts.{Root, Class, Stated, stated-kept, from-facts}
+use Rattle.definitions.proofs.Refusals.{kept-new, kept-old}
 use Rattle.treelaws.proofs.Renewed.{renewed-length, renewed-header, renewed-place, renewed-unused, renewed-tree, renewed-rate, renewed-disk, renewed-rates, rate-at-root}
-pub use Rattle.table.proofs.Facts.{root-there, root-level}
+pub use Rattle.definitions.proofs.Facts.{root-there, root-level}
 use Rattle.calllaws.proofs.Nodes.{Ready, ready-in-order, SameRecord, Sums, node-kept, differ-kept, most-waiting, root-kept}
 
 -- Tables with the same tree and the same balances have the same sums of balances.

@@ -14,17 +14,17 @@ use Rattle.numbers.specs.Tests.{every}
 use Rattle.numbers.proofs.Tests.{by-test, true-false}
 use Rattle.numbers.proofs.Parts.{zarith, plus-pos, minus-pos}
 use Rattle.numbers.proofs.All.{below-cases}
-use Rattle.table.specs.Limits.{recordLength, nodes, sortAt, parentAt, levelAt, kindAt, shareAt, depthAt, rateAt, balanceAt, waitingAt, portAt, spareAt, queueAt, requestLength, tagAt, sizeAt, arrivalAt, root, mostWaiting}
-use Rattle.table.specs.Places.{queuePlace, place, count, rate, balance, waiting, port, arrival}
-use Rattle.table.specs.Tree.{treeOf, there, isClass}
-use Rattle.table.specs.Cost.{cost}
-use Rattle.table.specs.Order.{inOrder}
-use Rattle.table.specs.Calls.{requested, requestRefusal, requestTable}
-use Rattle.table.proofs.Facts.{Limits, Spare, Request, stated-kept, facts, from-facts}
-use Rattle.table.proofs.Cost.{size-within}
+use Rattle.definitions.specs.Limits.{recordLength, nodes, sortAt, parentAt, levelAt, kindAt, shareAt, depthAt, rateAt, balanceAt, waitingAt, portAt, spareAt, queueAt, requestLength, tagAt, sizeAt, arrivalAt, root, mostWaiting}
+use Rattle.definitions.specs.Places.{queuePlace, place, count, rate, balance, waiting, port, arrival}
+use Rattle.definitions.specs.Tree.{treeOf, there, isClass}
+use Rattle.definitions.specs.Cost.{cost}
+use Rattle.definitions.specs.Order.{inOrder}
+use Rattle.definitions.specs.Calls.{requested, requestRefusal, requestTable}
+use Rattle.definitions.proofs.Facts.{Limits, Spare, Request, stated-kept, facts, from-facts}
+use Rattle.definitions.proofs.Cost.{size-within}
 use Rattle.treelaws.proofs.Renewed.{same-tree}
-use Rattle.table.proofs.Edits.{Requested, requested-edit}
-use Rattle.table.proofs.Passed.{RequestPassed, request-passed}
+use Rattle.definitions.proofs.Edits.{Requested, requested-edit}
+use Rattle.definitions.proofs.Passed.{RequestPassed, request-passed}
 use Rattle.calllaws.proofs.Nodes.{Node, Ready, ready, ready-in-order, balance-kept, request-kept, node-kept, root-kept, most-waiting, class-or-client}
 use Rattle.calllaws.proofs.Ready.{same-sums, kept-in-order}
 
@@ -47,16 +47,19 @@ arrival-counted t f k hk i hi =
 
 -- The table u is t with one more request waiting at node k.
 module _ (t u : List ℤ) (k : ℕ) (tag size : ℤ) (hk : k < nodes) (more : Requested t u k tag size) where
-  -- Places that the request does not take stay.
-  stays : (p : ℕ) → p < recordLength → (p ≡ waitingAt → ⊥) → (p ≡ queuePlace (waiting t k) + arrivalAt → ⊥) → (p ≡ queuePlace (waiting t k) + sizeAt → ⊥) → (p ≡ queuePlace (waiting t k) + tagAt → ⊥) → place u k p ≡ place t k p
-  stays p hp ne8 ne2 ne1 ne0 =
-      more .here p hp ∙ rw (ne-eqb p waitingAt ne8, ne-eqb p (queuePlace (waiting t k) + arrivalAt) ne2, ne-eqb p (queuePlace (waiting t k) + sizeAt) ne1, ne-eqb p (queuePlace (waiting t k) + tagAt) ne0)
+  -- Places that the request does not take stay: all but the waiting count and the new request's own.
+  stays : (p : ℕ) → p < recordLength → (p ≡ waitingAt → ⊥) → (queuePlace (waiting t k) ≤ p → p < queuePlace (waiting t k) + requestLength → ⊥) → place u k p ≡ place t k p
+  stays p hp other apart =
+      more .here p hp ∙ rw (ne-eqb p waitingAt other, ne-eqb p (queuePlace (waiting t k) + arrivalAt) (not-at arrivalAt (omega arith)), ne-eqb p (queuePlace (waiting t k) + sizeAt) (not-at sizeAt (omega arith)), ne-eqb p (queuePlace (waiting t k) + tagAt) (not-at tagAt (omega arith)))
+    where
+      not-at : (i : ℕ) → i < requestLength → p ≡ queuePlace (waiting t k) + i → ⊥
+      not-at i hi e = apart (omega arith) (omega arith)
 
   -- All places before the waiting places but the waiting count stay, at every node.
   early : (j p : ℕ) → p < queueAt → (p ≡ waitingAt → ⊥) → place u j p ≡ place t j p
   early j p hp other =
       elim (ℕ-discrete j k) [
-        | yes e ↦ rw e (stays p (omega arith) other (omega arith) (omega arith) (omega arith))
+        | yes e ↦ rw e (stays p (omega arith) other (λ low high. omega arith))
         | no ne ↦ more .others j p ne (omega arith)
       ]
 
@@ -100,7 +103,7 @@ module _ (t u : List ℤ) (k : ℕ) (tag size : ℤ) (hk : k < nodes) (more : Re
       at-node : j ≡ k → P
       at-node e =
           below-cases (waiting t k) i (omega (arith, next-waiting, ap (waiting u) e))
-          (λ l. old (omega (arith, ap (waiting t) e)) (ap plus (rw e (stays (queuePlace i + arrivalAt) (omega arith) (omega arith) (omega arith) (omega arith) (omega arith)))))
+          (λ l. old (omega (arith, ap (waiting t) e)) (ap plus (rw e (stays (queuePlace i + arrivalAt) (omega arith) (omega arith) (λ low high. omega arith)))))
           (λ last. new e (ap plus (rw (e, last) (new-number w)) ∙ plus-pos (suc (count t))))
 
       by : Dec (j ≡ k) → P
@@ -138,10 +141,10 @@ module _ (t u : List ℤ) (k : ℕ) (tag size : ℤ) (hk : k < nodes) (more : Re
   new-spare : Spare t k → Spare u k
   new-spare f =
       record {
-        places = λ p hp. stays (spareAt + p) (omega arith) (omega arith) (omega arith) (omega arith) (omega arith) ∙ f .places p hp;
+        places = λ p hp. stays (spareAt + p) (omega arith) (omega arith) (λ low high. omega arith) ∙ f .places p hp;
         queue = λ p hp low.
             let up : requestLength * suc (waiting t k) ≤ p = omega (arith, next-waiting) in
-            stays (queueAt + p) (omega arith) (omega arith) (omega arith) (omega arith) (omega arith) ∙ f .queue p hp (omega arith);
+            stays (queueAt + p) (omega arith) (omega arith) (λ low high. omega arith) ∙ f .queue p hp (omega arith);
       }
 
   -- The request behind the others.
@@ -153,7 +156,7 @@ module _ (t u : List ℤ) (k : ℕ) (tag size : ℤ) (hk : k < nodes) (more : Re
         number = rw (new-number w) (omega (arith, zarith, next-count, plus-pos (suc (count t)), minus-pos (suc (count t))));
         rising = λ ne.
             let l : waiting t k - 1 < waiting t k = omega arith in
-            rw (stays (queuePlace (waiting t k - 1) + arrivalAt) (omega arith) (omega arith) (omega arith) (omega arith) (omega arith), new-number w)
+            rw (stays (queuePlace (waiting t k - 1) + arrivalAt) (omega arith) (omega arith) (λ low high. omega arith), new-number w)
             (omega (arith, plus-pos (suc (count t)), arrival-counted t r k hk (waiting t k - 1) l));
       }
 
@@ -170,7 +173,7 @@ module _ (t u : List ℤ) (k : ℕ) (tag size : ℤ) (hk : k < nodes) (more : Re
             below-cases (waiting t k) i (omega (arith, next-waiting))
             (λ l.
             request-kept t u k i (before k depthAt (omega arith)) (omega (arith, next-count))
-            (λ p low hp. stays p (omega arith) (omega arith) (omega arith) (omega arith) (omega arith))
+            (λ p low hp. stays p (omega arith) (omega arith) (λ low high. omega arith))
             (old .requests (class-or-client t k old (passed .there) (passed .no-class)) i l))
             (λ last. rw last (new-request r w (passed .least) (passed .cost)));
       }

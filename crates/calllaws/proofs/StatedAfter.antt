@@ -13,15 +13,15 @@ use lib.IntN.{ℤ}
 use Rattle.numbers.specs.Whole.{plus}
 use Rattle.numbers.proofs.Tests.{by-test, same-truth, true-false, and-true, and-left, and-right, or-cases, or-true-left, or-true-right}
 use Rattle.numbers.proofs.Parts.{plus-pos}
-use Rattle.table.specs.Limits.{nodes, kindAt, rateAt, root, stated}
-use Rattle.table.specs.Places.{rate}
-use Rattle.table.specs.Tree.{treeOf, there, isStated, childOf, countIf}
-use Rattle.table.specs.Rates.{kindShare, statedSum}
-use Rattle.table.specs.Order.{statedInOrder}
-use Rattle.table.specs.Calls.{statedWrong}
-use Rattle.table.proofs.Facts.{InOrder, Stated, stated-of, of-stated}
-use Rattle.table.proofs.Edits.{Edited, SameNode, edited-others}
-use Rattle.table.proofs.ShareKinds.{stated-kind, own-share, other-share}
+use Rattle.definitions.specs.Limits.{nodes, kindAt, rateAt, root, stated}
+use Rattle.definitions.specs.Places.{rate}
+use Rattle.definitions.specs.Tree.{treeOf, there, isStated, childOf, countIf}
+use Rattle.definitions.specs.Rates.{kindShare, statedSum}
+use Rattle.definitions.specs.Order.{statedInOrder}
+use Rattle.definitions.specs.Calls.{statedWrong}
+use Rattle.definitions.proofs.Facts.{InOrder, Stated, stated-of, of-stated}
+use Rattle.definitions.proofs.Edits.{Edited, SameNode, edited-others}
+use Rattle.definitions.proofs.ShareKinds.{stated-kind, own-share, other-share}
 use Rattle.treelaws.specs.Stated.{statedWrongWith}
 use Rattle.treelaws.proofs.Children.{child-of, counted, uncounted}
 use Rattle.calllaws.proofs.Nodes.{there-same}

@@ -5,10 +5,10 @@ use mathlib.Core.Bool.{true}
 use mathlib.Core.List.{List}
 use lib.IntN.{ℤ}
 use Rattle.numbers.specs.Whole.{plus, minus}
-use Rattle.table.specs.Limits.{nodes}
-use Rattle.table.specs.Places.{balance}
-use Rattle.table.specs.Order.{inOrder}
-use Rattle.table.specs.Calls.{openRefusal, openTable, joinRefusal, joinTable, leaveRefusal, leaveTable, changeShareRefusal, changeShareTable, changeRateRefusal, changeRateTable, requestRefusal, requestTable}
+use Rattle.definitions.specs.Limits.{nodes}
+use Rattle.definitions.specs.Places.{balance}
+use Rattle.definitions.specs.Order.{inOrder}
+use Rattle.definitions.specs.Calls.{openRefusal, openTable, joinRefusal, joinTable, leaveRefusal, leaveTable, changeShareRefusal, changeShareTable, changeRateRefusal, changeRateTable, requestRefusal, requestTable}
 
 -- No balance rises from table t to table u: tokens come from ticks alone.
 unfoldable pub NoBalanceRises : List ℤ → List ℤ → Type 0

@@ -2,9 +2,9 @@
 use Prim.Native.Nat.{suc, _+_, _-_}
 use mathlib.Core.List.{[], _∷_}
 use lib.IntN.{pos, negℤ}
-use Rattle.table.specs.Limits.{root, class, client, fixed, weighted, stated, firstPort, secondPort, wholeShare, greatestRate, greatestCount, sortAt, parentAt, levelAt, kindAt, shareAt, depthAt, rateAt, balanceAt, waitingAt, portAt, spareAt, spareLength, tagAt, sizeAt, arrivalAt}
-use Rattle.table.specs.Places.{queuePlace}
-use Rattle.table.specs.Refusals.{refused}
+use Rattle.definitions.specs.Limits.{root, class, client, fixed, weighted, stated, firstPort, secondPort, wholeShare, greatestRate, greatestCount, sortAt, parentAt, levelAt, kindAt, shareAt, depthAt, rateAt, balanceAt, waitingAt, portAt, spareAt, spareLength, tagAt, sizeAt, arrivalAt}
+use Rattle.definitions.specs.Places.{queuePlace}
+use Rattle.definitions.specs.Refusals.{refused}
 use Rattle.scenarios.specs.Scenario.{Scenario, disk, joinOn, join, leave, changeShare, changeRate, request, look, tickBoth, tick, dispatch, atPlace, atHeader, _gives_, _answers_leaving_and_, _lists_, _lists_and_, fits, spoils, setBalance, number, counts, seen, greatestNumber}
 
 -- The cases by name.

@@ -3,13 +3,13 @@
 use Prim.Native.Nat.{suc, _-_}
 use mathlib.Core.List.{[], _∷_}
 use lib.IntN.{pos, negℤ}
-use Rattle.table.specs.Limits.{nodes, lastNode, root, unused, class, client, fixed, weighted, stated, wholeShare, greatestDepth, greatestRate, greatestCount, portAt, firstPort, secondPort}
-use Rattle.table.specs.Refusals.{refused}
+use Rattle.definitions.specs.Limits.{nodes, lastNode, root, unused, class, client, fixed, weighted, stated, wholeShare, greatestDepth, greatestRate, greatestCount, portAt, firstPort, secondPort}
+use Rattle.definitions.specs.Refusals.{refused}
 use Rattle.scenarios.specs.Scenario.{Scenario, openℤ, joinℤ, leaveℤ, changeShareℤ, changeRateℤ, requestℤ, lookℤ, same, disk, joinOn, join, leave, changeShare, changeRate, request, look, tickBoth, tick, atPlace, atHeader, oneLess, oneMore, _gives_, _lists_, _refuses_, keep, fits, spoils, setBalance, number, seen, greatestNumber}
 
 -- The scenarios by name: of the table at every call, then of each call.
 pub data TurnedBack : Type 0 where
-  notInOrder tableLengths opens joinLimits joins leaves changesShare changesRate requests looks compares ticks : TurnedBack
+  notInOrder tableLengths opens joinArguments joins leaves changesShare changesRate requests looks compares ticks : TurnedBack
 
 unfoldable pub scenario : TurnedBack → Scenario
 -- A table not in order is 1 at every call but open, also where an argument is outside its limits.
@@ -58,7 +58,7 @@ scenario opens =
     ∷ disk 1 1 gives number 0
     ∷ []
 -- Join: 2, for each argument.
-scenario joinLimits =
+scenario joinArguments =
     disk 1000 40 gives number 0
     ∷ join 0 root client weighted 1 1 gives refused 2
     ∷ joinℤ (negℤ (pos 1)) (pos root) (pos client) (pos weighted) (pos 1) (pos 1) (pos firstPort) gives refused 2

@@ -2,9 +2,9 @@
 ghost use mathlib.Core.Path.{_≡_};
 ghost use Prim.Native.Nat.{_≤_};
 ghost use lib.Dec.{ltb};
-ghost use Rattle.table.specs.Limits.{greatestDepth};
-ghost use Rattle.table.specs.Cost.{cost, sizeWithin};
-ghost use Rattle.table.specs.Tick.{grains};
+ghost use Rattle.definitions.specs.Limits.{greatestDepth};
+ghost use Rattle.definitions.specs.Cost.{cost, sizeWithin};
+ghost use Rattle.definitions.specs.Tick.{grains};
 use table::Table;
 
 // What a cost adds to a size at most, in tokens.

@@ -6,8 +6,9 @@ use borrow.Author.Tests.{eq-eqb, ne-eqb}
 use lib.Dec.{eqb}
 use lib.IntN.{ℤ}
 use Rattle.numbers.proofs.Tests.{cond-true, cond-false}
-use Rattle.table.specs.Limits.{entryLength}
-use Rattle.dispatch.specs.Entries.{entered, gets, enteredOn}
+use Rattle.definitions.specs.Limits.{entryLength}
+use Rattle.ticklaws.specs.Ports.{gets}
+use Rattle.dispatch.specs.Entries.{entered, enteredOn}
 
 module _ (p q : ℕ) where
   pub gets-here : q ≡ p → gets p q ≡ 1

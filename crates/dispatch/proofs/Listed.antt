@@ -5,8 +5,8 @@ use mathlib.Core.List.{List, [], _∷_, _++_, append-assoc}
 use native.Mathlib.Omega.{arith}
 use lib.ListN.{length, set, length-append}
 use lib.IntN.{ℤ}
-use Rattle.table.specs.Limits.{entryLength}
-use Rattle.table.specs.Tick.{State, dispatched, listed}
+use Rattle.definitions.specs.Limits.{entryLength}
+use Rattle.definitions.specs.Tick.{State, dispatched, listed}
 use Rattle.dispatch.specs.Entries.{entered, tableAfter}
 
 written : (out list : List ℤ) (v : ℤ) → length out < length list → set (listed out list) (length out) v ≡ listed (out ++ (v ∷ [])) list

@@ -5,9 +5,9 @@ use mathlib.Core.List.{List, []}
 use lib.ListN.{set}
 use lib.Dec.{eqb}
 use lib.IntN.{ℤ, pos}
-use Rattle.table.specs.Limits.{entryLength}
-use Rattle.table.specs.Places.{port, tag, size}
-use Rattle.table.specs.Tick.{dispatched}
+use Rattle.definitions.specs.Limits.{entryLength}
+use Rattle.definitions.specs.Places.{port, tag, size}
+use Rattle.definitions.specs.Tick.{dispatched}
 
 -- The list with an entry of four numbers from place i on.
 unfoldable pub entered : List ℤ → ℕ → ℤ → ℤ → ℤ → ℤ → List ℤ
@@ -17,11 +17,7 @@ entered list i client tag size supplier = set (set (set (set list i client) (i +
 unfoldable pub tableAfter : List ℤ → ℕ → ℕ → List ℤ
 tableAfter t k s = dispatched (record { table = t; entries = [] }) k s .table
 
--- How many entries the list of port p gets of a dispatch for a client on a port: one where it is that port.
-unfoldable pub gets : ℕ → ℕ → ℕ
-gets p port = cond (eqb port p) 1 0
-
--- That list, which has n entries, with the dispatch's entry behind them where it gets one.
+-- The list of port p, which has n entries, with the entry of a dispatch for a client on a port behind them where it is that port.
 unfoldable pub enteredOn : ℕ → ℕ → List ℤ → ℕ → ℤ → ℤ → ℤ → ℤ → List ℤ
 enteredOn p port list n client tag size supplier = cond (eqb port p) (entered list (entryLength * n) client tag size supplier) list
 

@@ -3,8 +3,8 @@ use Prim.Native.Nat.{ℕ, _+_, _-_}
 use mathlib.Core.List.{List}
 use lib.IntN.{ℤ, pos}
 use Rattle.numbers.specs.Below.{forBelow}
-use Rattle.table.specs.Limits.{queueAt, queueLength, requestLength}
-use Rattle.table.specs.Places.{place, put}
+use Rattle.definitions.specs.Limits.{queueAt, queueLength, requestLength}
+use Rattle.definitions.specs.Places.{place, put}
 
 -- The requests behind the oldest of client k move up.
 unfoldable pub movedUp : List ℤ → ℕ → List ℤ

@@ -3,9 +3,10 @@ ghost use mathlib.Core.Path.{_≡_};
 ghost use Prim.Native.Nat.{_+_, _*_, _<_, _≤_, _^_};
 ghost use lib.ListN.{length};
 ghost use lib.IntN.{pos};
-ghost use Rattle.table.specs.Limits.{nodes, entryLength, firstPort, secondPort};
-ghost use Rattle.dispatch.specs.Entries.{entered, gets, enteredOn};
-use crate::PortCounts;
+ghost use Rattle.definitions.specs.Limits.{nodes, entryLength, firstPort, secondPort};
+ghost use Rattle.ticklaws.specs.Ports.{gets};
+ghost use Rattle.dispatch.specs.Entries.{entered, enteredOn};
+use table::PortCounts;
 use table::Table;
 
 // Writes an entry behind the n that the list has.

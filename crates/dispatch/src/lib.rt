@@ -2,21 +2,17 @@
 ghost use mathlib.Core.Path.{_≡_};
 ghost use Prim.Native.Nat.{_+_, _*_, _<_, _≤_};
 ghost use lib.ListN.{length};
-ghost use Rattle.table.specs.Limits.{nodes, entryLength, firstPort, secondPort};
-ghost use Rattle.table.specs.Places.{waiting, port};
+ghost use Rattle.definitions.specs.Limits.{nodes, entryLength, firstPort, secondPort};
+ghost use Rattle.definitions.specs.Places.{waiting, port};
+ghost use Rattle.ticklaws.specs.Ports.{gets};
 ghost use Rattle.balances.specs.Within.{Within};
-ghost use Rattle.dispatch.specs.Entries.{tableAfter, gets, listAfter};
+ghost use Rattle.dispatch.specs.Entries.{tableAfter, listAfter};
 
 mod entries;
 mod queue;
 
+use table::PortCounts;
 use table::Table;
-
-// How many there are at the first port and at the second.
-pub struct PortCounts {
-    pub first: usize,
-    pub second: usize,
-}
 
 // Dispatches the oldest request of client k with node s as supplier, as an entry behind the n that the lists have. Returns how many
 // they have then.

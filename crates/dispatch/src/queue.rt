@@ -2,9 +2,9 @@
 ghost use mathlib.Core.Path.{_≡_};
 ghost use Prim.Native.Nat.{_+_, _-_, _<_, _≤_};
 ghost use lib.ListN.{length};
-ghost use Rattle.table.specs.Limits.{tableLength, nodes, mostWaiting, queueAt, queueLength, requestLength};
-ghost use Rattle.table.specs.Places.{place, put, waiting};
-ghost use Rattle.table.specs.Tick.{takenOut};
+ghost use Rattle.definitions.specs.Limits.{tableLength, nodes, mostWaiting, queueAt, queueLength, requestLength};
+ghost use Rattle.definitions.specs.Places.{place, put, waiting};
+ghost use Rattle.definitions.specs.Tick.{takenOut};
 ghost use Rattle.dispatch.specs.Queue.{movedUp, lastCleared};
 use table::Table;
 

@@ -4,8 +4,8 @@
 -- grains of request (b).
 use mathlib.Core.List.{[], _∷_}
 use lib.IntN.{pos, negℤ}
-use Rattle.table.specs.Limits.{root, class, client, fixed, weighted, wholeShare}
-use Rattle.table.specs.Refusals.{refused}
+use Rattle.definitions.specs.Limits.{root, class, client, fixed, weighted, wholeShare}
+use Rattle.definitions.specs.Refusals.{refused}
 use Rattle.lateredges.specs.Edges.{LaterEdge, laterScenario}
 use Rattle.statededges.specs.Edges.{StatedEdge, statedScenario}
 use Rattle.portedges.specs.Edges.{PortEdge, portScenario}

@@ -5,20 +5,19 @@ ghost use mathlib.Core.Bool.{true};
 ghost use Prim.Native.Nat.{ℕ, _+_, _*_, _^_, _≤_, _<_};
 ghost use lib.ListN.{length};
 ghost use lib.IntN.{pos};
-ghost use Rattle.table.specs.Limits.{tableLength, nodes, firstPort, lastLevel};
-ghost use Rattle.table.specs.Tree.{treeOf};
-ghost use Rattle.table.specs.Refusals.{lastRefusal};
-ghost use Rattle.table.specs.Calls.{joinRefusal, joinTable};
-ghost use Rattle.layout.specs.Bytes.{byteValues, fourValues};
-ghost use Rattle.layout.specs.Nodes.{shareIn, heldBy, entryBy};
-ghost use Rattle.layout.specs.Format.{lastCount, lastKind, entryAt, editionIn, entryIn, planIn, formed};
-ghost use Rattle.layout.specs.Framed.{Framed};
+ghost use Rattle.definitions.specs.Limits.{tableLength, nodes, firstPort, lastLevel};
+ghost use Rattle.definitions.specs.Tree.{treeOf};
+ghost use Rattle.definitions.specs.Refusals.{lastRefusal};
+ghost use Rattle.definitions.specs.Calls.{joinRefusal, joinTable};
+ghost use Rattle.planformat.specs.Bytes.{byteValues, fourValues};
+ghost use Rattle.planformat.specs.Nodes.{shareIn, heldBy, entryBy};
+ghost use Rattle.planformat.specs.Format.{lastCount, lastKind, entryAt, editionIn, entryIn, planIn, formed};
+ghost use Rattle.planformat.specs.Framed.{Framed};
 ghost use Rattle.planlaws.specs.Reading.{entryRefusal, afterEntry, afterEntries, entriesRefusal, standing, rising};
 use layout::Edition;
 use layout::Node;
 use layout::bodies;
 use layout::bytes;
-use layout::forms;
 use table::Table;
 
 // Joins by numbers, on the first port; the number of the refusal, or 0.

@@ -1,8 +1,8 @@
 -- The edges of document 02's requests (a) to (c), each a scenario under its words. They are part of the joint table of edges.
 use mathlib.Core.List.{[], _∷_}
 use lib.IntN.{pos, negℤ}
-use Rattle.table.specs.Limits.{root, class, client, fixed, weighted}
-use Rattle.table.specs.Refusals.{refused}
+use Rattle.definitions.specs.Limits.{root, class, client, fixed, weighted}
+use Rattle.definitions.specs.Refusals.{refused}
 use Rattle.scenarios.specs.Scenario.{Scenario, disk, join, request, look, tick, dispatch, _gives_, _lists_, setBalance, number, seen}
 
 -- The edges by name: the ends of (a)'s ranges, (b)'s class without children and (c)'s order in step 4.

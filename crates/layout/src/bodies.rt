@@ -1,9 +1,9 @@
 // Nodes in their plan bytes and in their joins.
 ghost use mathlib.Core.Path.{_≡_};
 ghost use Prim.Native.Nat.{_≤_};
-ghost use Rattle.table.specs.Limits.{client, stated};
-ghost use Rattle.layout.specs.Kinds.{clientStated};
-ghost use Rattle.layout.specs.Nodes.{shareIn, shareKindIn, heldBy, sortIn, kindIn};
+ghost use Rattle.definitions.specs.Limits.{client, stated};
+ghost use Rattle.planformat.specs.Kinds.{clientStated};
+ghost use Rattle.planformat.specs.Nodes.{shareIn, shareKindIn, heldBy, sortIn, kindIn};
 use crate::Kind;
 use crate::Share;
 use crate::Sort;

@@ -2,8 +2,8 @@
 ghost use mathlib.Core.Path.{_≡_};
 ghost use Prim.Native.Nat.{_+_, _<_, _≤_};
 ghost use lib.ListN.{length};
-ghost use Rattle.layout.specs.Bytes.{byteValues, pairValues, fourValues, byteAt, le2, le4};
-ghost use Rattle.layout.specs.Format.{shareLength, shareValues, shareFrom};
+ghost use Rattle.planformat.specs.Bytes.{byteValues, pairValues, fourValues, byteAt, le2, le4};
+ghost use Rattle.planformat.specs.Format.{shareLength, shareValues, shareFrom};
 use crate::Edition;
 
 // How many values a byte has, and two bytes have.

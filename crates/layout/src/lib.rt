@@ -1,38 +1,13 @@
-// The bytes of a plan file: what a plan says of a node, and reading and putting it. Document 01, "Same tree, and the plan
+// The bytes of a plan file: what a plan says of a node, and the integers that bytes make. Document 01, "Same tree, and the plan
 // file", and document 02, (f).
+pub use planformat::Edition;
+pub use planformat::Node;
+pub use planformat::Share;
+pub use planformat::Sort;
 use table::Table;
 
 pub mod bodies;
 pub mod bytes;
-pub mod forms;
-pub mod putting;
-
-// The editions of a plan.
-pub enum Edition {
-    First,
-    Second,
-}
-
-// A share of a class's rate, or a rate that is stated.
-pub enum Share {
-    Fixed(u64),
-    Weighted(u64),
-    Stated(u64),
-}
-
-// A class or a client, with its share.
-pub enum Sort {
-    Class(Share),
-    Client(Share),
-}
-
-// What a plan says of one node.
-pub struct Node {
-    pub number: u64,
-    pub parent: u64,
-    pub sort: Sort,
-    pub depth: u64,
-}
 
 // The figures of a plan's bytes.
 pub struct Format {}

@@ -9,14 +9,15 @@ ghost use lib.IntN.{pos};
 ghost use lib.Signed.{ltZ};
 ghost use Rattle.numbers.specs.Whole.{withinℤ};
 ghost use Rattle.numbers.specs.Tests.{every};
-ghost use Rattle.table.specs.Limits.{tableLength, nodes, lastNode};
-ghost use Rattle.table.specs.Places.{balance, waiting};
-ghost use Rattle.table.specs.Tree.{treeOf, isClass, childless};
-ghost use Rattle.table.specs.Order.{inOrder};
-ghost use Rattle.table.specs.Refusals.{lastRefusal};
+ghost use Rattle.definitions.specs.Limits.{tableLength, nodes, lastNode};
+ghost use Rattle.definitions.specs.Places.{balance, waiting};
+ghost use Rattle.definitions.specs.Tree.{treeOf, isClass, childless};
+ghost use Rattle.definitions.specs.Order.{inOrder};
+ghost use Rattle.definitions.specs.Refusals.{lastRefusal};
 ghost use Rattle.table.specs.Answers.{told};
-ghost use Rattle.table.specs.Calls.{cleared, leaveRefusal, leaveTable, leaveAnswer};
+ghost use Rattle.definitions.specs.Calls.{cleared, leaveRefusal, leaveTable, leaveAnswer};
 use table::Answer;
+use table::Refusal;
 use table::Table;
 
 // Whether node k has children or waiting requests.
@@ -24,7 +25,7 @@ fn is_busy(table: &[i64], k: usize) -> bool
     requires { ⌜ (length (now table) ≡ tableLength) × (k < nodes) ⌝ }
     ensures { λ r. ⌜ r ≡ (not (childless (treeOf (now (table .entry))) k) || ltb 0 (waiting (now (table .entry)) k)) ⌝ }
 {
-    let has_children = !rating::tree::childless(table, k);
+    let has_children = !table::tree::childless(table, k);
     let has_requests = 0 < Table::natural(table, k, Table::WAITING);
     has_children | has_requests
 }
@@ -34,7 +35,7 @@ fn in_debt(table: &[i64], k: usize) -> bool
     requires { ⌜ (length (now table) ≡ tableLength) × (k < nodes) ⌝ }
     ensures { λ r. ⌜ r ≡ every (isClass (treeOf (now (table .entry))) k ∷ ltZ (balance (now (table .entry)) k) (pos 0) ∷ []) ⌝ }
 {
-    let class = rating::tree::is_class(table, k);
+    let class = table::tree::is_class(table, k);
     let below = 0 < numbers::negative(Table::get(table, k, Table::BALANCE));
     class & below
 }
@@ -45,17 +46,17 @@ fn tree_refusal(table: &[i64], k: usize) -> u64
     ensures first { λ r. ⌜ r ≡ leaveRefusal (now (table .entry)) (pos k) ⌝ }
     ensures small { λ r. ⌜ r ≤ lastRefusal ⌝ }
 {
-    if !rating::tree::there(table, k) {
-        return 3;
+    if !table::tree::there(table, k) {
+        return Refusal::NOT_THERE;
     }
     if k == 0 {
-        return 5;
+        return Refusal::WRONG_NODE;
     }
     if is_busy(table, k) {
-        return 9;
+        return Refusal::NOT_EMPTY;
     }
     if in_debt(table, k) {
-        return 10;
+        return Refusal::IN_DEBT;
     }
     0
 }
@@ -66,10 +67,10 @@ fn leave_refusal(table: &[i64], node: i64) -> u64
     ensures small { λ r. ⌜ r ≤ lastRefusal ⌝ }
 {
     if !order::in_order(table) {
-        return 1;
+        return Refusal::NOT_IN_ORDER;
     }
     if !numbers::within(node, 0, Table::LAST_NODE) {
-        return 2;
+        return Refusal::OUTSIDE_LIMITS;
     }
     tree_refusal(table, numbers::natural(node) as usize)
 }
@@ -96,6 +97,6 @@ pub fn leave(table: &mut [i64], node: i64) -> Answer
     let k = numbers::natural(node) as usize;
     let parent = Table::natural(table, k, Table::PARENT) as usize;
     clear_node(table, k);
-    rating::renewal::renew_below(table, parent);
+    renewing::renew_below(table, parent);
     Answer::Accepted(0)
 }

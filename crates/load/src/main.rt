@@ -3,7 +3,7 @@
 ghost use mathlib.Core.Path.{_≡_};
 ghost use mathlib.Core.Bool.{false};
 ghost use Prim.Native.Nat.{_≤_};
-ghost use Rattle.loadtext.specs.Parts.{opening, ticksAllowed, partOf};
+ghost use Rattle.loadformat.specs.Parts.{opening, ticksAllowed, partOf};
 use libc::STDERR_FILENO;
 use libc::STDIN_FILENO;
 use libc::STDOUT_FILENO;
@@ -39,7 +39,7 @@ fn send(input: &[u8]) -> Sent
 {
     let mut table = [0i64; Table::LENGTH];
     let mut text = io::large_buffer();
-    let mut progress = loadtext::begin(&mut text, &mut table, input);
+    let mut progress = loadinput::begin(&mut text, &mut table, input);
     let mut sent = send_opening(&text[..progress.length], input);
     while !sent.failed && progress.made < progress.ticks {
         progress = loadtext::go_on(&mut text, &mut table, progress);
@@ -48,7 +48,7 @@ fn send(input: &[u8]) -> Sent
     sent
 }
 
-// Of an input the first 4096 bytes are read: with more, its text is the same (`first-bytes`, loadtext/proofs/Inputs.antt).
+// Of an input the first 4096 bytes are read: with more, its text is the same (`first-bytes`, loadform/proofs/Inputs.antt).
 fn main() {
     let mut input = io::buffer();
     let n = io::read_full(STDIN_FILENO, &mut input);

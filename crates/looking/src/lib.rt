@@ -2,16 +2,16 @@
 ghost use mathlib.Core.Path.{_≡_};
 ghost use mathlib.Core.Bool.{true};
 ghost use Prim.Native.Nat.{_≤_, _<_};
-ghost use Rattle.table.specs.Limits.{nodes};
-ghost use Rattle.table.specs.Order.{inOrder};
-ghost use Rattle.table.specs.Refusals.{lastRefusal};
+ghost use Rattle.definitions.specs.Limits.{nodes};
+ghost use Rattle.definitions.specs.Order.{inOrder};
+ghost use Rattle.definitions.specs.Refusals.{lastRefusal};
 ghost use Rattle.table.specs.Answers.{toldSeen};
-ghost use Rattle.table.specs.Calls.{lostGrains, lookRefusal, lookAnswer};
-use rating::sums;
-use rating::sums::Summand;
-use rating::tree;
+ghost use Rattle.definitions.specs.Calls.{lostGrains, lookRefusal, lookAnswer};
+use sums::Summand;
+use table::Refusal;
 use table::Seen;
 use table::Table;
+use table::tree;
 
 // The number of the first cause that turns look back, or 0.
 fn look_refusal(table: &[i64], node: i64) -> u64
@@ -19,13 +19,13 @@ fn look_refusal(table: &[i64], node: i64) -> u64
     ensures small { λ r. ⌜ r ≤ lastRefusal ⌝ }
 {
     if !order::in_order(table) {
-        return 1;
+        return Refusal::NOT_IN_ORDER;
     }
     if !numbers::within(node, 0, Table::LAST_NODE) {
-        return 2;
+        return Refusal::OUTSIDE_LIMITS;
     }
     if !tree::there(table, numbers::natural(node) as usize) {
-        return 3;
+        return Refusal::NOT_THERE;
     }
     0
 }

@@ -1,3 +1,1 @@
-mod Small
-mod Following
 mod Verdict

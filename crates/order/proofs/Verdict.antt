@@ -17,21 +17,21 @@ use Rattle.numbers.proofs.Tests.{by-test, true-false, cond-true, cond-false}
 use Rattle.numbers.proofs.Every.{head-holds, rest-hold, holds-with, none-left}
 use Rattle.numbers.proofs.All.{all-at, all-intro}
 use Rattle.numbers.proofs.Parts.{zarith, add-parts, one-is-zero, plus-pos}
-use Rattle.table.specs.Limits.{tableLength, recordLength, nodes, root, sortAt, depthAt, waitingAt, class, client, stated, wholeShare, greatestDepth, mostWaiting}
-use Rattle.table.specs.Places.{place, rate, balance, waiting, depthGrains}
-use Rattle.table.specs.Tree.{treeOf, there, isClass, isClient, isStated, sumUnder, eachNode, eachClass, eachClient}
-use Rattle.table.specs.Rates.{fixedSum, statedSum}
-use Rattle.table.specs.Order.{isZero, headerInOrder, unusedInOrder, limitsKept, spareInOrder, rootInOrder, parentInOrder, classInOrder, rateInOrder, balanceInOrder, requestInOrder, queueInOrder, arrivalsDiffer, inOrder}
-use Rattle.table.proofs.Facts.{InOrder, Root, Stated, facts, of-stated, each-at, at-each, at-zero, zero-at as zero-of, limits-of, root-of, root-there, root-unstated, child-of, of-balance}
-use Rattle.table.proofs.ShareKinds.{stated-kind}
+use Rattle.definitions.specs.Limits.{tableLength, recordLength, nodes, root, sortAt, depthAt, waitingAt, class, client, stated, wholeShare, greatestDepth, mostWaiting}
+use Rattle.definitions.specs.Places.{place, rate, balance, waiting, depthGrains}
+use Rattle.definitions.specs.Tree.{treeOf, there, isClass, isClient, isStated, sumUnder, eachNode, eachClass, eachClient}
+use Rattle.definitions.specs.Rates.{fixedSum, statedSum}
+use Rattle.definitions.specs.Order.{isZero, headerInOrder, unusedInOrder, limitsKept, spareInOrder, rootInOrder, parentInOrder, classInOrder, rateInOrder, balanceInOrder, requestInOrder, queueInOrder, arrivalsDiffer, inOrder}
+use Rattle.definitions.proofs.Facts.{InOrder, Root, Stated, facts, of-stated, each-at, at-each, at-zero, zero-at as zero-of, limits-of, root-of, root-there, root-unstated, child-of, of-balance}
+use Rattle.definitions.proofs.ShareKinds.{stated-kind}
 use Rattle.treelaws.proofs.Children.{child-of as is-child, balances-parts, class-there}
 use Rattle.treelaws.proofs.Rounding.{no-stated-under, share-le-sum, rate-small, rate-natural}
 use Rattle.treelaws.proofs.Floors.{grounds, balance-room, node-floor}
-use Rattle.rating.proofs.Rated.{rated-of}
+use Rattle.sums.proofs.Rated.{rated-of}
 use Rattle.records.specs.Record.{recordsInOrder}
 use Rattle.queues.specs.Waiting.{waitingInOrder}
-use Rattle.order.specs.Cover.{statedLimit, classCovers}
-use Rattle.order.specs.Following.{Testable}
+use Rattle.covering.specs.Cover.{statedLimit, classCovers}
+use Rattle.ratetest.specs.Following.{Testable}
 use Rattle.records.proofs.Bounds.{bounds}
 use Rattle.records.proofs.Nodes.{Node, node-at, zero-at, records-by}
 

@@ -1,12 +1,10 @@
 // Whether a table is in order: the test of document 01, "The table", made in stages. Each stage makes the next one safe
 // to compute.
-mod classes;
-mod rates;
-mod totals;
-
+use covering::classes;
+use covering::totals;
 use table::Table;
 ghost use mathlib.Core.Path.{_≡_};
-ghost use Rattle.table.specs.Order.{inOrder};
+ghost use Rattle.definitions.specs.Order.{inOrder};
 
 // Whether a table is in order. Document 01, "The table".
 pub fn in_order(table: &[i64]) -> bool
@@ -29,7 +27,7 @@ pub fn in_order(table: &[i64]) -> bool
     if !classes::classes_cover(table, &shares, &depths, &credits, &debts) {
         return false;
     }
-    let rates = rates::rates_in_order(table, &shares);
+    let rates = ratetest::rates_in_order(table, &shares);
     let queues = queues::queues_in_order(table);
     rates & queues
 }

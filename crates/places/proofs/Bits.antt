@@ -13,7 +13,7 @@ use mir.Val.{SFits, Fits, bits, ofZ, toZ}
 use mir.ValLaws.{toZ-fits, ofZ-toZ, ofZ-fits}
 use Rattle.numbers.proofs.Tests.{same-truth, and-true, and-left, and-right}
 use Rattle.numbers.proofs.Parts.{bits-same}
-use Rattle.table.specs.Order.{isZero}
+use Rattle.definitions.specs.Order.{isZero}
 
 or-zero : (x y : ℕ) → eqb (bitOr x y) 0 ≡ (eqb x 0 && eqb y 0)
 or-zero x y =

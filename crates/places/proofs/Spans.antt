@@ -12,9 +12,9 @@ use lib.IntN.{ℤ, pos}
 use Rattle.numbers.specs.Below.{allBelow}
 use Rattle.numbers.proofs.Tests.{same-truth, by-test, and-true, and-left, and-right, or-cases, or-true-left, or-true-right}
 use Rattle.numbers.proofs.All.{all-at, all-intro, all-cong}
-use Rattle.table.specs.Limits.{headerLength, recordLength, spareAt, spareLength, queueAt, queueLength}
-use Rattle.table.specs.Places.{place, header}
-use Rattle.table.specs.Order.{isZero}
+use Rattle.definitions.specs.Limits.{headerLength, recordLength, spareAt, spareLength, queueAt, queueLength}
+use Rattle.definitions.specs.Places.{place, header}
+use Rattle.definitions.specs.Order.{isZero}
 use Rattle.places.specs.Zeros.{zeros}
 
 -- One number looked at from two starts.

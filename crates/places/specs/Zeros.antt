@@ -5,7 +5,7 @@ use mathlib.Core.List.{List}
 use lib.ListN.{getD}
 use lib.IntN.{ℤ, pos}
 use Rattle.numbers.specs.Below.{allBelow}
-use Rattle.table.specs.Order.{isZero}
+use Rattle.definitions.specs.Order.{isZero}
 
 -- Whether n numbers from the first on are zero.
 unfoldable pub zeros : List ℤ → ℕ → ℕ → Bool

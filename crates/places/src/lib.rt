@@ -6,9 +6,9 @@ ghost use Prim.Native.Nat.{_+_, _-_, _<_, _≤_, _^_};
 ghost use lib.ListN.{length};
 ghost use lib.IntN.{pos};
 ghost use Rattle.numbers.specs.Whole.{minus, sameℤ, withinℤ};
-ghost use Rattle.table.specs.Limits.{tableLength, recordLength, nodes, mostWaiting};
-ghost use Rattle.table.specs.Places.{place, waiting};
-ghost use Rattle.table.specs.Order.{isZero, headerInOrder, rootInOrder, limitsKept, spareInOrder};
+ghost use Rattle.definitions.specs.Limits.{tableLength, recordLength, nodes, mostWaiting};
+ghost use Rattle.definitions.specs.Places.{place, waiting};
+ghost use Rattle.definitions.specs.Order.{isZero, headerInOrder, rootInOrder, limitsKept, spareInOrder};
 ghost use Rattle.places.specs.Zeros.{zeros};
 
 // Zero just where both are.

@@ -13,14 +13,14 @@ use lib.IntN.{ℤ, pos}
 use Rattle.numbers.proofs.All.{below-cases}
 use Rattle.numbers.proofs.Steps.{for-suc}
 use Rattle.numbers.specs.Below.{forBelow}
-use Rattle.table.specs.Limits.{tableLength, firstPort}
-use Rattle.table.specs.Tree.{treeOf}
-use Rattle.table.specs.Refusals.{Cause, cause, first}
-use Rattle.table.specs.Calls.{openRefusal, openTable, opened, joinRefusal, joinTable}
-use Rattle.table.proofs.Refusals.{first-here, first-past, first-end, first-none, none-first, kept-new}
+use Rattle.definitions.specs.Limits.{tableLength, firstPort}
+use Rattle.definitions.specs.Tree.{treeOf}
+use Rattle.definitions.specs.Refusals.{Cause, cause, first}
+use Rattle.definitions.specs.Calls.{openRefusal, openTable, opened, joinRefusal, joinTable}
+use Rattle.definitions.proofs.Refusals.{first-here, first-past, first-end, first-none, none-first, kept-new}
 use Rattle.treelaws.specs.Joins.{refusalOf, afterJoin}
-use Rattle.layout.specs.Kinds.{sortOf, shareKindOf}
-use Rattle.layout.specs.Format.{Entry, Plan, planIn, formed}
+use Rattle.planformat.specs.Kinds.{sortOf, shareKindOf}
+use Rattle.planformat.specs.Format.{Entry, Plan, planIn, formed}
 use Rattle.planlaws.specs.Reading.{joinOf, entryRefusal, afterEntry, afterEntries, refusing, entriesRefusal, openedFor, joinedFor, rising, planRefusal, planTable}
 
 -- The refusal of a call as a cause.

@@ -11,21 +11,21 @@ use lib.IntN.{ℤ, pos}
 use Rattle.numbers.specs.Whole.{plus}
 use Rattle.numbers.proofs.Tests.{true-false}
 use Rattle.numbers.proofs.All.{below-cases}
-use Rattle.table.specs.Limits.{nodes, sortAt, parentAt, kindAt, shareAt, depthAt, rateAt, portAt, firstPort, unused, root}
-use Rattle.table.specs.Places.{place, rate}
-use Rattle.table.specs.Tree.{Tree, treeOf, there}
-use Rattle.table.specs.Calls.{opened, openRefusal}
-use Rattle.table.proofs.Facts.{InOrder, facts}
+use Rattle.definitions.specs.Limits.{nodes, sortAt, parentAt, kindAt, shareAt, depthAt, rateAt, portAt, firstPort, unused, root}
+use Rattle.definitions.specs.Places.{place, rate}
+use Rattle.definitions.specs.Tree.{Tree, treeOf, there}
+use Rattle.definitions.specs.Calls.{opened, openRefusal}
+use Rattle.definitions.proofs.Facts.{InOrder, facts}
 use Rattle.treelaws.specs.Joins.{Join, refusalOf, afterJoin}
 use Rattle.treelaws.proofs.Joined.{JoinAccepted, join-accepted, of-tree, of-port, givenBy, same-there, JoinLeaves, join-leaves}
-use Rattle.table.proofs.Edits.{same-node, opened-edit, opened-node, opened-place, opened-others}
+use Rattle.definitions.proofs.Edits.{same-node, opened-edit, opened-node, opened-place, opened-others}
 use Rattle.calllaws.proofs.Fresh.{zero-unused}
-use Rattle.table.proofs.Passed.{open-passed}
+use Rattle.definitions.proofs.Passed.{open-passed}
 use Rattle.calllaws.proofs.Open.{opened-in-order}
 use Rattle.calllaws.proofs.Join.{join-keeps}
-use Rattle.layout.specs.Kinds.{sortOf, shareKindOf}
-use Rattle.layout.specs.Format.{Entry, Plan}
-use Rattle.layout.proofs.EachKind.{sort-limits}
+use Rattle.planformat.specs.Kinds.{sortOf, shareKindOf}
+use Rattle.planformat.specs.Format.{Entry, Plan}
+use Rattle.planformat.proofs.EachKind.{sort-limits}
 use Rattle.planlaws.specs.Reading.{joinOf, entryRefusal, afterEntry, afterEntries, openedFor}
 use Rattle.planlaws.proofs.Accepted.{after-none, after-suc, opened-for}
 

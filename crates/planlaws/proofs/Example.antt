@@ -6,15 +6,15 @@ use mathlib.Core.List.{List, [], _∷_}
 use lib.IntN.{pos}
 use Rattle.numbers.specs.Tests.{every}
 use Rattle.numbers.specs.Below.{allBelow}
-use Rattle.table.specs.Limits.{class, client, fixed, weighted, firstPort}
-use Rattle.table.specs.Tree.{Tree, there}
-use Rattle.table.specs.Refusals.{first}
-use Rattle.table.specs.Calls.{blank}
-use Rattle.layout.specs.Bytes.{byteAt, le2, le4, bytes2, bytes4, bytesBelow}
-use Rattle.layout.specs.Format.{startOf, shareLength, lastKind, markBytes, headBytes, entryBytes, shareBytes, bodyBytes, bytesOf, editionIn, countIn, shareFrom, entryIn, planIn, entryFormed, formed}
-use Rattle.layout.specs.declared.Edition.the-variants.{First}
-use Rattle.layout.specs.Kinds.{kindOf, sortOf, shareKindOf}
-use Rattle.layout.proofs.Example.{mixed}
+use Rattle.definitions.specs.Limits.{class, client, fixed, weighted, firstPort}
+use Rattle.definitions.specs.Tree.{Tree, there}
+use Rattle.definitions.specs.Refusals.{first}
+use Rattle.definitions.specs.Calls.{blank}
+use Rattle.planformat.specs.Bytes.{byteAt, le2, le4, bytes2, bytes4, bytesBelow}
+use Rattle.planformat.specs.Format.{startOf, shareLength, lastKind, markBytes, headBytes, entryBytes, shareBytes, bodyBytes, bytesOf, editionIn, countIn, shareFrom, entryIn, planIn, entryFormed, formed}
+use Rattle.planformat.specs.declared.Edition.the-variants.{First}
+use Rattle.planformat.specs.Kinds.{kindOf, sortOf, shareKindOf}
+use Rattle.planformat.proofs.Example.{mixed}
 use Rattle.planlaws.specs.Reading.{joinOf, planRefusal, checkAnswer}
 use Rattle.planlaws.specs.Writing.{stands, orderBelow, order, entryOf}
 

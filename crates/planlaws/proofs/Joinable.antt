@@ -14,16 +14,16 @@ use Rattle.numbers.specs.Tests.{every}
 use Rattle.numbers.proofs.Tests.{by-test, true-false}
 use Rattle.numbers.proofs.Every.{none-left, holds-with, head-fails, rest-fail}
 use Rattle.numbers.proofs.Parts.{plus-pos, minus-pos, pos-of-within, zarith}
-use Rattle.table.specs.Limits.{recordLength, nodes, lastNode, sortAt, parentAt, levelAt, kindAt, shareAt, depthAt, rateAt, class, client, fixed, stated, root, lastClassLevel, lastLevel, wholeShare, firstPort, portLimit}
-use Rattle.table.specs.Places.{place, rate}
-use Rattle.table.specs.Tree.{Tree, treeOf, there, isClass, isClient, isStated, sumUnder}
-use Rattle.table.specs.Rates.{fixedSum}
-use Rattle.table.specs.Calls.{joinRefusal, sharesAbove, depthsAbove, statedWrong}
-use Rattle.table.proofs.Facts.{InOrder, from-facts, Limits, Child, Stated, of-stated}
-use Rattle.table.proofs.Refusals.{first-none, first-end}
+use Rattle.definitions.specs.Limits.{recordLength, nodes, lastNode, sortAt, parentAt, levelAt, kindAt, shareAt, depthAt, rateAt, class, client, fixed, stated, root, lastClassLevel, lastLevel, wholeShare, firstPort, portLimit}
+use Rattle.definitions.specs.Places.{place, rate}
+use Rattle.definitions.specs.Tree.{Tree, treeOf, there, isClass, isClient, isStated, sumUnder}
+use Rattle.definitions.specs.Rates.{fixedSum}
+use Rattle.definitions.specs.Calls.{joinLimits, sumCauses, joinRefusal, sharesAbove, depthsAbove, statedWrong}
+use Rattle.definitions.proofs.Facts.{InOrder, from-facts, Limits, Child, Stated, of-stated}
+use Rattle.definitions.proofs.Refusals.{first-none, first-end}
 use Rattle.treelaws.specs.Joins.{Join, refusalOf, joinedBy}
 use Rattle.treelaws.proofs.Joined.{of-tree, givenBy, joined-shown, joined-apart, same-there}
-use Rattle.table.proofs.Edits.{SameNode, same-node}
+use Rattle.definitions.proofs.Edits.{SameNode, same-node}
 use Rattle.calllaws.proofs.Nodes.{there-same, class-same}
 use Rattle.planlaws.proofs.Part.{PartOf, part-kinds, part-depths}
 
@@ -156,7 +156,7 @@ module _ (t v : List ℤ) (k : ℕ) (x : Next t v k) where
   port-limits = omega (arith, zarith, plus-pos firstPort, minus-pos firstPort)
 
   pub joinable : refusalOf v (joinAt t k) ≡ 0
-  unfolding refusalOf joinRefusal joinAt sharesAbove depthsAbove statedWrong joinedBy treeOf plus
+  unfolding refusalOf joinRefusal joinLimits sumCauses joinAt sharesAbove depthsAbove statedWrong joinedBy treeOf plus
   joinable =
       first-none 1 _ _ (ap not (from-facts v (x .order)))
       (first-none 2 _ _ (ap not (holds-with _ _ node-limits (holds-with _ _ (limits .parent) (holds-with _ _ (limits .sort) (holds-with _ _ (limits .kind) (holds-with _ _ (limits .share) (holds-with _ _ (limits .depth) (holds-with _ _ port-limits none-left))))))))

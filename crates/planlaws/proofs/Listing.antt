@@ -12,9 +12,9 @@ use lib.Seq.{getD-append-seam}
 use Rattle.numbers.proofs.Tests.{by-test, true-false, cond-true, cond-false}
 use Rattle.numbers.proofs.Every.{head-holds, rest-hold, none-left, holds-with}
 use Rattle.numbers.proofs.All.{below-cases}
-use Rattle.table.specs.Limits.{nodes, root, lastLevel}
-use Rattle.table.specs.Tree.{Tree, there}
-use Rattle.layout.specs.Format.{lastCount}
+use Rattle.definitions.specs.Limits.{nodes, root, lastLevel}
+use Rattle.definitions.specs.Tree.{Tree, there}
+use Rattle.planformat.specs.Format.{lastCount}
 use Rattle.planlaws.specs.Reading.{standing}
 use Rattle.planlaws.specs.Writing.{standings, stands, orderBelow, order}
 use Rattle.planlaws.proofs.Rising.{Rises, different-few}

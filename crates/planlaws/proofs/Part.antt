@@ -6,12 +6,12 @@ use mathlib.Core.Bool.{true}
 use native.Mathlib.Omega.{arith}
 use Rattle.numbers.proofs.Tests.{by-test}
 use Rattle.numbers.proofs.Sums.{sum-mono}
-use Rattle.table.specs.Limits.{nodes}
-use Rattle.table.specs.Tree.{Tree, there, childOf, countIf, sumUnder}
-use Rattle.table.specs.Rates.{kindShare, kindSum}
-use Rattle.table.proofs.ShareKinds.{same-share}
+use Rattle.definitions.specs.Limits.{nodes}
+use Rattle.definitions.specs.Tree.{Tree, there, childOf, countIf, sumUnder}
+use Rattle.definitions.specs.Rates.{kindShare, kindSum}
+use Rattle.definitions.proofs.ShareKinds.{same-share}
 use Rattle.treelaws.proofs.Children.{ChildOf, child-facts, child-of}
-use Rattle.table.proofs.Edits.{SameNode}
+use Rattle.definitions.proofs.Edits.{SameNode}
 use Rattle.calllaws.proofs.Nodes.{there-same}
 
 pub record PartOf (part whole : Tree) : Type 0 where

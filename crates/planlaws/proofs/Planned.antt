@@ -12,20 +12,20 @@ use lib.IntN.{ℤ, pos}
 use Rattle.numbers.specs.Whole.{plus}
 use Rattle.numbers.proofs.Parts.{pos-of-within, zarith}
 use Rattle.numbers.proofs.All.{below-cases}
-use Rattle.table.specs.Limits.{nodes, lastNode, sortAt, parentAt, kindAt, shareAt, depthAt, class, client, fixed, stated, root, firstPort, lastLevel, greatestDepth, shareLimit}
-use Rattle.table.specs.Places.{place, rate}
-use Rattle.table.specs.Tree.{Tree, treeOf, there, isStated, eachNode}
-use Rattle.table.proofs.Facts.{InOrder, Limits, Child, root-there, each-at, at-each}
-use Rattle.table.proofs.ShareKinds.{unstated-kind, unstated-share, limit-le}
+use Rattle.definitions.specs.Limits.{nodes, lastNode, sortAt, parentAt, kindAt, shareAt, depthAt, class, client, fixed, stated, root, firstPort, lastLevel, greatestDepth, shareLimit}
+use Rattle.definitions.specs.Places.{place, rate}
+use Rattle.definitions.specs.Tree.{Tree, treeOf, there, isStated, eachNode}
+use Rattle.definitions.proofs.Facts.{InOrder, Limits, Child, root-there, each-at, at-each}
+use Rattle.definitions.proofs.ShareKinds.{unstated-kind, unstated-share, limit-le}
 use Rattle.treelaws.proofs.Children.{class-there}
-use Rattle.layout.specs.declared.Edition.{Edition}
-use Rattle.layout.specs.declared.Edition.the-variants.{First, Second}
-use Rattle.layout.specs.Kinds.{kindOf, sortOf, shareKindOf}
-use Rattle.layout.specs.Format.{lastKind, shareValues}
-use Rattle.layout.proofs.EachKind.{sort-of-kind, share-of-kind, kind-small, first-kind}
+use Rattle.planformat.specs.declared.Edition.{Edition}
+use Rattle.planformat.specs.declared.Edition.the-variants.{First, Second}
+use Rattle.planformat.specs.Kinds.{kindOf, sortOf, shareKindOf}
+use Rattle.planformat.specs.Format.{lastKind, shareValues}
+use Rattle.planformat.proofs.EachKind.{sort-of-kind, share-of-kind, kind-small, first-kind}
 use Rattle.planlaws.specs.Reading.{joinOf, standing}
 use Rattle.planlaws.specs.Writing.{order, entryOf, planOf, anyStated, unwritable}
-use Rattle.layout.proofs.Codec.{Fits}
+use Rattle.planformat.proofs.Codec.{Fits}
 use Rattle.planlaws.proofs.Listing.{listed, listed-node, listed-found, listed-rises, level-listed, order-short}
 use Rattle.planlaws.proofs.Joinable.{joinAt, limited-parent}
 

@@ -14,22 +14,22 @@ use Rattle.numbers.specs.Whole.{plus}
 use Rattle.numbers.proofs.Tests.{true-false}
 use Rattle.numbers.proofs.Parts.{plus-pos}
 use Rattle.numbers.proofs.All.{all-at}
-use Rattle.table.specs.Limits.{nodes, stated, root, firstPort}
-use Rattle.table.specs.Places.{port}
-use Rattle.table.specs.Tree.{Tree, treeOf, there, isStated}
-use Rattle.table.specs.Order.{inOrder}
-use Rattle.table.proofs.Facts.{root-unstated, from-facts}
-use Rattle.table.proofs.Ports.{port-beyond}
-use Rattle.layout.specs.Bytes.{byteValues, byteAt}
-use Rattle.layout.specs.declared.Edition.{Edition}
-use Rattle.layout.specs.declared.Edition.the-variants.{First, Second}
-use Rattle.layout.specs.Kinds.{clientWeighted, clientStated, kindOf}
-use Rattle.layout.specs.Format.{Entry, Plan, lastKind, editionIn, planIn}
+use Rattle.definitions.specs.Limits.{nodes, stated, root, firstPort}
+use Rattle.definitions.specs.Places.{port}
+use Rattle.definitions.specs.Tree.{Tree, treeOf, there, isStated}
+use Rattle.definitions.specs.Order.{inOrder}
+use Rattle.definitions.proofs.Facts.{root-unstated, from-facts}
+use Rattle.definitions.proofs.Ports.{port-beyond}
+use Rattle.planformat.specs.Bytes.{byteValues, byteAt}
+use Rattle.planformat.specs.declared.Edition.{Edition}
+use Rattle.planformat.specs.declared.Edition.the-variants.{First, Second}
+use Rattle.planformat.specs.Kinds.{clientWeighted, clientStated, kindOf}
+use Rattle.planformat.specs.Format.{Entry, Plan, lastKind, editionIn, planIn}
 use Rattle.planlaws.specs.Reading.{joinedFor, standing, rising, planRefusal, planTable}
 use Rattle.planlaws.specs.Writing.{order, entryOf, planOf, planBytes, anyStated, unwritable}
-use Rattle.layout.proofs.EachKind.{kind-again, first-unstated}
-use Rattle.layout.proofs.Editions.{last-kind-small}
-use Rattle.layout.proofs.Codec.{SamePlan, same-entry, same-bytes, formed-facts, read-bytes}
+use Rattle.planformat.proofs.EachKind.{kind-again, first-unstated}
+use Rattle.planformat.proofs.Editions.{last-kind-small}
+use Rattle.planformat.proofs.Codec.{SamePlan, same-entry, same-bytes, formed-facts, read-bytes}
 use Rattle.planlaws.proofs.Rising.{Rises, rises-by-steps, found-below, Within, rising-same, rising-short}
 use Rattle.planlaws.proofs.Listing.{listed, listed-node, listed-found, listed-rises, level-listed, standing-apart}
 use Rattle.planlaws.proofs.Planned.{level-small, Unstated, of-unstated}

@@ -18,24 +18,24 @@ use Rattle.numbers.proofs.Tests.{cond-true}
 use Rattle.numbers.proofs.Every.{head-holds, rest-hold, none-left, holds-with}
 use Rattle.numbers.proofs.Parts.{eq-same, same-eq, plus-pos, minus-pos, pos-of-within, zarith}
 use Rattle.numbers.proofs.All.{all-at, all-intro}
-use Rattle.table.specs.Limits.{tableLength, nodes, rateAt, portAt, root}
-use Rattle.table.specs.Places.{place, put, rate}
-use Rattle.table.specs.Tree.{treeOf}
-use Rattle.table.specs.Order.{inOrder}
-use Rattle.table.specs.Refusals.{accepted}
-use Rattle.table.specs.Calls.{sameTree, sameRefusal, sameAnswer}
-use Rattle.table.proofs.Facts.{facts}
-use Rattle.table.proofs.Places.{place-put-place}
-use Rattle.table.proofs.Refusals.{none-first, first-none, first-end, outcome-accepted}
+use Rattle.definitions.specs.Limits.{tableLength, nodes, rateAt, portAt, root}
+use Rattle.definitions.specs.Places.{place, put, rate}
+use Rattle.definitions.specs.Tree.{treeOf}
+use Rattle.definitions.specs.Order.{inOrder}
+use Rattle.definitions.specs.Refusals.{accepted}
+use Rattle.definitions.specs.Calls.{sameTree, sameRefusal, sameAnswer}
+use Rattle.definitions.proofs.Facts.{facts}
+use Rattle.definitions.proofs.Places.{place-put-place}
+use Rattle.definitions.proofs.Refusals.{none-first, first-none, first-end, outcome-accepted}
 use Rattle.treelaws.proofs.Renewed.{same-tree-below}
-use Rattle.layout.specs.Bytes.{byteValues, byteAt}
-use Rattle.layout.specs.declared.Edition.{Edition}
-use Rattle.layout.specs.declared.Edition.the-variants.{First, Second}
-use Rattle.layout.specs.Format.{firstEdition, secondEdition, editionNumber, editionOf, editionIn, planLength}
-use Rattle.layout.proofs.Editions.{edition-again}
+use Rattle.planformat.specs.Bytes.{byteValues, byteAt}
+use Rattle.planformat.specs.declared.Edition.{Edition}
+use Rattle.planformat.specs.declared.Edition.the-variants.{First, Second}
+use Rattle.planformat.specs.Format.{firstEdition, secondEdition, editionNumber, editionOf, editionIn, planLength}
+use Rattle.planformat.proofs.Editions.{edition-again}
 use Rattle.planlaws.specs.Reading.{planRefusal, planTable, planAnswer}
 use Rattle.planlaws.specs.Writing.{order, planOf, planBytes, unwritable, editionTold, writeRefusal, writeBuffer, writeAnswer}
-use Rattle.layout.proofs.Codec.{length-bytes}
+use Rattle.planformat.proofs.Codec.{length-bytes}
 use Rattle.planlaws.proofs.ReadWritten.{plan-keeps, plan-writable, read-written}
 use Rattle.planlaws.proofs.WrittenRead.{written-met, written-accepted, written-place, written-disk}
 

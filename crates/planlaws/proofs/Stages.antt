@@ -8,14 +8,14 @@ use borrow.Author.Tests.{eq-eqb, ne-eqb}
 use lib.ListN.{length, length-replicate}
 use lib.IntN.{ℤ, pos}
 use Rattle.numbers.proofs.Tests.{by-test}
-use Rattle.table.specs.Limits.{tableLength, nodes, lastLevel}
-use Rattle.table.specs.Tree.{treeOf}
-use Rattle.table.specs.Calls.{blank, openRefusal}
-use Rattle.table.proofs.Refusals.{first-here, first-past}
-use Rattle.layout.specs.Format.{lastCount, startOf, shareLength, planLength, editionIn, countIn, planIn, formed}
-use Rattle.layout.specs.declared.Edition.the-variants.{Second}
-use Rattle.layout.proofs.Editions.{plan-small}
-use Rattle.layout.proofs.Codec.{formed-facts}
+use Rattle.definitions.specs.Limits.{tableLength, nodes, lastLevel}
+use Rattle.definitions.specs.Tree.{treeOf}
+use Rattle.definitions.specs.Calls.{blank, openRefusal}
+use Rattle.definitions.proofs.Refusals.{first-here, first-past}
+use Rattle.planformat.specs.Format.{lastCount, startOf, shareLength, planLength, editionIn, countIn, planIn, formed}
+use Rattle.planformat.specs.declared.Edition.the-variants.{Second}
+use Rattle.planformat.proofs.Editions.{plan-small}
+use Rattle.planformat.proofs.Codec.{formed-facts}
 use Rattle.planlaws.specs.Reading.{afterEntries, entriesRefusal, openedFor, joinedFor, rising, planRefusal, checkAnswer}
 use Rattle.planlaws.proofs.Accepted.{refusing-here, refusing-past, entries-each, plan-refusal-any}
 use Rattle.planlaws.proofs.Entered.{shown-there, entered}

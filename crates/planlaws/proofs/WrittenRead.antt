@@ -17,21 +17,21 @@ use Rattle.numbers.proofs.Tests.{by-test, true-false}
 use Rattle.numbers.proofs.Every.{none-left, holds-with}
 use Rattle.numbers.proofs.Parts.{pos-of-within}
 use Rattle.numbers.proofs.All.{below-cases, all-intro}
-use Rattle.table.specs.Limits.{tableLength, nodes, lastNode, kindAt, depthAt, rateAt, class, client, fixed, stated, root, lastLevel, greatestDepth, greatestRate, shareLimit}
-use Rattle.table.specs.Places.{place, rate}
-use Rattle.table.specs.Tree.{treeOf, there}
-use Rattle.table.specs.Order.{inOrder}
-use Rattle.table.specs.Calls.{openRefusal}
-use Rattle.table.proofs.Facts.{InOrder, Limits, facts, root-there}
-use Rattle.table.proofs.Refusals.{first-none, first-end}
+use Rattle.definitions.specs.Limits.{tableLength, nodes, lastNode, kindAt, depthAt, rateAt, class, client, fixed, stated, root, lastLevel, greatestDepth, greatestRate, shareLimit}
+use Rattle.definitions.specs.Places.{place, rate}
+use Rattle.definitions.specs.Tree.{treeOf, there}
+use Rattle.definitions.specs.Order.{inOrder}
+use Rattle.definitions.specs.Calls.{openLimits, openRefusal}
+use Rattle.definitions.proofs.Facts.{InOrder, Limits, facts, root-there}
+use Rattle.definitions.proofs.Refusals.{first-none, first-end}
 use Rattle.treelaws.proofs.Renewed.{same-tree-below}
-use Rattle.table.proofs.Edits.{SameNode}
+use Rattle.definitions.proofs.Edits.{SameNode}
 use Rattle.calllaws.proofs.Nodes.{there-same}
-use Rattle.layout.specs.declared.Edition.{Edition}
-use Rattle.layout.specs.Format.{Entry, Plan, editionIn, planIn, formed}
+use Rattle.planformat.specs.declared.Edition.{Edition}
+use Rattle.planformat.specs.Format.{Entry, Plan, editionIn, planIn, formed}
 use Rattle.planlaws.specs.Reading.{entryRefusal, afterEntries, openedFor, joinedFor, standing, rising, planRefusal, planTable}
 use Rattle.planlaws.specs.Writing.{standings, order, entryOf, planOf, planBytes, unwritable}
-use Rattle.layout.proofs.Codec.{SamePlan, Fits, written-edition, written-formed, written-plan}
+use Rattle.planformat.proofs.Codec.{SamePlan, Fits, written-edition, written-formed, written-plan}
 use Rattle.planlaws.proofs.Rising.{found-below}
 use Rattle.planlaws.proofs.Listing.{Listed, listed, listed-node, listed-found, listed-rises, level-listed}
 use Rattle.planlaws.proofs.Accepted.{accepted-plan, plan-table, each-entries}
@@ -182,7 +182,7 @@ module _ (t : List ℤ) (f : InOrder t) (q : Plan) (same : SamePlan q (planOf t)
   -- Opening for q and joining its entries into a table u of right length.
   module _ (u : List ℤ) (long : length u ≡ tableLength) where
     opens : openRefusal u (pos (q .rate)) (pos (q .depth)) ≡ 0
-    unfolding openRefusal planOf
+    unfolding openRefusal openLimits planOf
     opens =
         first-none 1 _ _ (ap not (eq-eqb (length u) tableLength long))
         (first-none 2 _ _ (ap not (holds-with _ _ (rw rate-is (f .root .rate)) (holds-with _ _ (rw depth-is (limits .depth)) none-left))) first-end)

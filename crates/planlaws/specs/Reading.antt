@@ -7,13 +7,13 @@ use lib.ListN.{length}
 use lib.Dec.{eqb, ltb}
 use lib.IntN.{ℤ, pos}
 use Rattle.numbers.specs.Below.{allBelow, forBelow}
-use Rattle.table.specs.Limits.{tableLength, nodes, firstPort}
-use Rattle.table.specs.Tree.{Tree, treeOf}
-use Rattle.table.specs.Refusals.{Cause, cause, first, Outcome, outcome, kept}
-use Rattle.table.specs.Calls.{blank, openRefusal, openTable}
+use Rattle.definitions.specs.Limits.{tableLength, nodes, firstPort}
+use Rattle.definitions.specs.Tree.{Tree, treeOf}
+use Rattle.definitions.specs.Refusals.{Cause, cause, first, Outcome, outcome, kept}
+use Rattle.definitions.specs.Calls.{blank, openRefusal, openTable}
 use Rattle.treelaws.specs.Joins.{Join, refusalOf, afterJoin}
-use Rattle.layout.specs.Kinds.{sortOf, shareKindOf}
-use Rattle.layout.specs.Format.{Entry, Plan, editionNumber, editionIn, planIn, formed}
+use Rattle.planformat.specs.Kinds.{sortOf, shareKindOf}
+use Rattle.planformat.specs.Format.{Entry, Plan, editionNumber, editionIn, planIn, formed}
 
 -- The join that an entry asks for: plans put every client on port 0.
 unfoldable pub joinOf : Entry → Join

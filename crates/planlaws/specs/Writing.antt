@@ -7,15 +7,15 @@ use lib.Dec.{eqb, ltb}
 use lib.IntN.{ℤ, pos}
 use Rattle.numbers.specs.Whole.{plus, withinℤ}
 use Rattle.numbers.specs.Tests.{every}
-use Rattle.table.specs.Limits.{nodes, root, lastLevel}
-use Rattle.table.specs.Places.{rate}
-use Rattle.table.specs.Tree.{Tree, treeOf, there, isStated, eachNode}
-use Rattle.table.specs.Order.{inOrder}
-use Rattle.table.specs.Refusals.{cause, first, Outcome, outcome}
-use Rattle.layout.specs.Kinds.{kindOf}
-use Rattle.layout.specs.Format.{Entry, Plan, firstEdition, secondEdition, editionOf, bytesOf}
-use Rattle.layout.specs.declared.Edition.{Edition}
-use Rattle.layout.specs.declared.Edition.the-variants.{First, Second}
+use Rattle.definitions.specs.Limits.{nodes, root, lastLevel}
+use Rattle.definitions.specs.Places.{rate}
+use Rattle.definitions.specs.Tree.{Tree, treeOf, there, isStated, eachNode}
+use Rattle.definitions.specs.Order.{inOrder}
+use Rattle.definitions.specs.Refusals.{cause, first, Outcome, outcome}
+use Rattle.planformat.specs.Kinds.{kindOf}
+use Rattle.planformat.specs.Format.{Entry, Plan, firstEdition, secondEdition, editionOf, bytesOf}
+use Rattle.planformat.specs.declared.Edition.{Edition}
+use Rattle.planformat.specs.declared.Edition.the-variants.{First, Second}
 
 -- How many pairs of a level and a number there are.
 abbrev pub standings : ℕ

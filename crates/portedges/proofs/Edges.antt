@@ -5,9 +5,9 @@ use Rattle.scenarios.specs.Scenario.{Scenario, Passes}
 use Rattle.scenarios.proofs.Run.{passes, allPass, at}
 use Rattle.portedges.specs.Edges.{PortEdge, bothServed, otherEmpty, shortByEither, alternating, backOnOther, portScenario}
 
--- The scenarios.
+-- The scenarios. Those that a must-fail edit changes stand first, since the test ends at the first that fails.
 all : List Scenario
-all = map portScenario (bothServed ∷ otherEmpty ∷ shortByEither ∷ alternating ∷ backOnOther ∷ [])
+all = map portScenario (bothServed ∷ shortByEither ∷ alternating ∷ otherEmpty ∷ backOnOther ∷ [])
 
 computed : T (allPass all)
 unfolding allPass all passes portScenario
@@ -16,7 +16,7 @@ computed = tt
 pub port-edges-hold : (e : PortEdge) → Passes (portScenario e)
 unfolding all
 port-edges-hold bothServed = at all computed 0
-port-edges-hold otherEmpty = at all computed 1
-port-edges-hold shortByEither = at all computed 2
-port-edges-hold alternating = at all computed 3
+port-edges-hold shortByEither = at all computed 1
+port-edges-hold alternating = at all computed 2
+port-edges-hold otherEmpty = at all computed 3
 port-edges-hold backOnOther = at all computed 4

@@ -1,7 +1,7 @@
 -- The edges of document 02's request (g), two ports, each a scenario under its words. They are part of the joint table of edges.
 use mathlib.Core.List.{[], _∷_}
 use lib.IntN.{pos}
-use Rattle.table.specs.Limits.{root, client, weighted, firstPort, secondPort}
+use Rattle.definitions.specs.Limits.{root, client, weighted, firstPort, secondPort}
 use Rattle.scenarios.specs.Scenario.{Scenario, disk, joinOn, leave, request, look, tickBoth, dispatch, _gives_, _lists_and_, _refuses_, setBalance, number, seen}
 
 -- The edges by name.

@@ -12,8 +12,8 @@ use lib.IntN.{ℤ}
 use Rattle.numbers.specs.Below.{allBelow}
 use Rattle.numbers.proofs.All.{all-intro}
 use Rattle.numbers.proofs.Tests.{true-false}
-use Rattle.table.specs.Places.{waiting, arrival}
-use Rattle.table.specs.Order.{differsAt}
+use Rattle.definitions.specs.Places.{waiting, arrival}
+use Rattle.definitions.specs.Order.{differsAt}
 use Rattle.queues.specs.Marks.{marks, markOf, Marked, MarkedBelow}
 
 -- A number whose mark is not set differs from those whose marks are set.

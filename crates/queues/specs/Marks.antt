@@ -5,7 +5,7 @@ use mathlib.Core.Bool.{Bool, true, false}
 use mathlib.Core.List.{List}
 use lib.ListN.{length, getD}
 use lib.IntN.{ℤ}
-use Rattle.table.specs.Places.{waiting, arrival}
+use Rattle.definitions.specs.Places.{waiting, arrival}
 
 -- How many marks there are: a prime, so that numbers in equal steps have different marks.
 abbrev pub marks : ℕ

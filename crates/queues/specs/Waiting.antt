@@ -5,7 +5,7 @@ use mathlib.Core.Bool.{Bool}
 use mathlib.Core.List.{List, [], _∷_}
 use lib.IntN.{ℤ}
 use Rattle.numbers.specs.Tests.{every}
-use Rattle.table.specs.Order.{queueInOrder, arrivalsDiffer}
+use Rattle.definitions.specs.Order.{queueInOrder, arrivalsDiffer}
 
 -- The waiting requests of node k.
 unfoldable pub waitingInOrder : List ℤ → ℕ → Bool

@@ -1,36 +1,21 @@
 // The waiting requests: their sizes and arrival numbers.
 use table::Table;
+use table::queue;
 ghost use mathlib.Core.Path.{_≡_};
 ghost use Prim.Native.Nat.{ℕ, _+_, _-_, _<_, _≤_};
 ghost use mathlib.Core.Bool.{_||_};
 ghost use lib.ListN.{length};
 ghost use lib.Dec.{eqb, ltb};
 ghost use Rattle.numbers.specs.Below.{allBelow};
-ghost use Rattle.table.specs.Limits.{tableLength, nodes, greatestDepth, mostWaiting};
-ghost use Rattle.table.specs.Places.{waiting, arrival};
-ghost use Rattle.table.specs.Tree.{treeOf};
-ghost use Rattle.table.specs.Order.{requestInOrder, queueInOrder, differsAt, arrivalsDiffer};
+ghost use Rattle.definitions.specs.Limits.{tableLength, nodes, greatestDepth, mostWaiting};
+ghost use Rattle.definitions.specs.Places.{waiting, arrival};
+ghost use Rattle.definitions.specs.Tree.{treeOf};
+ghost use Rattle.definitions.specs.Order.{requestInOrder, queueInOrder, differsAt, arrivalsDiffer};
 ghost use Rattle.queues.specs.Waiting.{waitingInOrder};
 ghost use Rattle.queues.specs.Marks.{marks, markOf, MarkedBelow};
 
 // How many marks there are: a prime, so that numbers in equal steps have different marks.
 const MARKS: usize = 4093;
-
-// How many requests wait at node k.
-pub fn waiting(table: &[i64], k: usize) -> usize
-    requires { ⌜ (length (now table) ≡ tableLength) × (k < nodes) ⌝ }
-    ensures { λ r. ⌜ r ≡ waiting (now (table .entry)) k ⌝ }
-{
-    Table::natural(table, k, Table::WAITING) as usize
-}
-
-// The arrival number of waiting request i of node k.
-pub fn arrival(table: &[i64], k: usize, i: usize) -> u64
-    requires { ⌜ (length (now table) ≡ tableLength) × (k < nodes) × (i < mostWaiting) ⌝ }
-    ensures { λ r. ⌜ r ≡ arrival (now (table .entry)) k i ⌝ }
-{
-    Table::natural(table, k, Table::QUEUE + Table::REQUEST * i + Table::ARRIVAL)
-}
 
 // Whether request i of node k arrived after the one before it.
 fn rising(table: &[i64], k: usize, i: usize) -> bool
@@ -40,7 +25,7 @@ fn rising(table: &[i64], k: usize, i: usize) -> bool
     if i == 0 {
         return true;
     }
-    arrival(table, k, i - 1) < arrival(table, k, i)
+    queue::arrival(table, k, i - 1) < queue::arrival(table, k, i)
 }
 
 // Whether request i of node k is in order.
@@ -62,7 +47,7 @@ fn queue_in_order(table: &[i64], k: usize) -> bool
     requires { ⌜ (length (now table) ≡ tableLength) × (k < nodes) × (waiting (now table) k ≤ mostWaiting) × (treeOf (now table) .depth k ≤ greatestDepth) ⌝ }
     ensures { λ r. ⌜ r ≡ queueInOrder (now (table .entry)) k ⌝ }
 {
-    let n = waiting(table, k);
+    let n = queue::waiting(table, k);
     let mut ok = true;
     let mut i: usize = 0;
     while i < n {
@@ -79,21 +64,6 @@ fn mark_of(a: u64) -> usize
     a as usize % MARKS
 }
 
-// Whether arrival number a differs from those that wait at node j.
-fn differs_at(table: &[i64], a: u64, j: usize) -> bool
-    requires { ⌜ (length (now table) ≡ tableLength) × (j < nodes) × (waiting (now table) j ≤ mostWaiting) ⌝ }
-    ensures { λ r. ⌜ r ≡ differsAt (now (table .entry)) a j ⌝ }
-{
-    let n = waiting(table, j);
-    let mut ok = true;
-    let mut i: usize = 0;
-    while i < n {
-        ok = ok & (a != arrival(table, j, i));
-        i += 1;
-    }
-    ok
-}
-
 // Whether it differs from those of every node below k.
 fn differs_below(table: &[i64], a: u64, k: usize) -> bool
     requires { ⌜ (length (now table) ≡ tableLength) × (k ≤ nodes) × ((j : ℕ) → j < nodes → waiting (now table) j ≤ mostWaiting) ⌝ }
@@ -102,7 +72,7 @@ fn differs_below(table: &[i64], a: u64, k: usize) -> bool
     let mut ok = true;
     let mut j: usize = 0;
     while j < k {
-        ok = ok & differs_at(table, a, j);
+        ok = ok & queue::differs_at(table, a, j);
         j += 1;
     }
     ok
@@ -125,11 +95,11 @@ fn arrivals_differ(table: &[i64], marked: &mut [bool; MARKS], k: usize) -> bool
     ensures differ { λ r. ⌜ r ≡ arrivalsDiffer (now (table .entry)) k ⌝ }
     ensures marked { λ _. ⌜ MarkedBelow (now (table .entry)) (now (marked .exit)) (k + 1) ⌝ }
 {
-    let n = waiting(table, k);
+    let n = queue::waiting(table, k);
     let mut ok = true;
     let mut i: usize = 0;
     while i < n {
-        let a = arrival(table, k, i);
+        let a = queue::arrival(table, k, i);
         ok = ok & differs_marked(table, marked, a, k);
         marked[mark_of(a)] = true;
         i += 1;

@@ -3,17 +3,17 @@ ghost use mathlib.Core.Path.{_≡_};
 ghost use Prim.Native.Nat.{_+_, _≤_, _<_};
 ghost use lib.ListN.{length, getD};
 ghost use lib.IntN.{pos};
-ghost use Rattle.table.specs.Limits.{tableLength};
-ghost use Rattle.table.specs.Refusals.{lastRefusal};
+ghost use Rattle.definitions.specs.Limits.{tableLength};
+ghost use Rattle.definitions.specs.Refusals.{lastRefusal};
 ghost use Rattle.table.specs.Answers.{told};
-ghost use Rattle.table.specs.Calls.{openRefusal};
-ghost use Rattle.layout.specs.Format.{startOf, headLength, editionIn, planIn, formed};
+ghost use Rattle.definitions.specs.Calls.{openRefusal};
+ghost use Rattle.planformat.specs.Format.{startOf, headLength, editionIn, planIn, formed};
 ghost use Rattle.planlaws.specs.Reading.{openedFor, joinedFor, rising, planRefusal, planTable, planAnswer, checkAnswer};
 use layout::Edition;
 use layout::Format;
 use layout::bytes;
-use layout::forms;
 use table::Answer;
+use table::Refusal;
 use table::Table;
 
 // Opens the table of a plan; the number of the refusal, or 0.
@@ -37,7 +37,7 @@ fn build(table: &mut [i64], s: &[u8]) -> u64
     ensures table { λ r. ⌜ (r ≡ 0 → now (table .exit) ≡ joinedFor (now (table .entry)) (planIn (now (s .entry)))) ⌝ }
 {
     if !forms::formed(s) {
-        return 14;
+        return Refusal::PLAN_WRONG;
     }
     let edition = forms::edition_in(s);
     let opening = open_plan(table, s, edition);
@@ -93,7 +93,7 @@ pub fn read(table: &mut [i64], s: &[u8]) -> Answer
     ensures table { λ _. ⌜ now (table .exit) ≡ planTable (now (table .entry)) (now (s .entry)) ⌝ }
 {
     if table.len() != Table::LENGTH {
-        return table::answered(1, 0);
+        return table::answered(Refusal::NOT_IN_ORDER, 0);
     }
     let mut built = [0i64; Table::LENGTH];
     let refusal = build(&mut built, s);

@@ -6,11 +6,11 @@ use mathlib.Core.List.{List}
 use native.Mathlib.Omega.{arith}
 use lib.IntN.{ℤ}
 use Rattle.numbers.proofs.Parts.{zarith}
-use Rattle.table.specs.Limits.{nodes, lastLevel, greatestDepth, mostWaiting}
-use Rattle.table.specs.Places.{waiting}
-use Rattle.table.specs.Tree.{treeOf}
-use Rattle.table.specs.Order.{limitsKept}
-use Rattle.table.proofs.Facts.{limits-of}
+use Rattle.definitions.specs.Limits.{nodes, lastLevel, greatestDepth, mostWaiting}
+use Rattle.definitions.specs.Places.{waiting}
+use Rattle.definitions.specs.Tree.{treeOf}
+use Rattle.definitions.specs.Order.{limitsKept}
+use Rattle.definitions.proofs.Facts.{limits-of}
 
 pub record Bounds (t : List ℤ) (k : ℕ) : Type 0 where
   pub parent : treeOf t .parent k < nodes

@@ -5,7 +5,7 @@ use mathlib.Core.Bool.{Bool, true, false, not, _&&_, _||_}
 use mathlib.Core.List.{List, _∷_}
 use Rattle.numbers.specs.Tests.{every}
 use Rattle.numbers.proofs.Tests.{true-false}
-use Rattle.table.specs.Tree.{testIf}
+use Rattle.definitions.specs.Tree.{testIf}
 
 pub test-or : (b : Bool) (p : ℕ → Bool) (k : ℕ) → testIf b p k ≡ (not b || p k)
 unfolding testIf

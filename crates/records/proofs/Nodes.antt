@@ -12,11 +12,11 @@ use Rattle.numbers.specs.Below.{allBelow}
 use Rattle.numbers.proofs.Tests.{by-test, true-false, cond-true, cond-false, or-cases, or-true-left, or-true-right}
 use Rattle.numbers.proofs.Every.{head-holds, rest-hold, holds-with, none-left}
 use Rattle.numbers.proofs.All.{all-at, all-intro}
-use Rattle.table.specs.Limits.{recordLength, nodes, rateAt, lastClassLevel, lastLevel, greatestRate}
-use Rattle.table.specs.Places.{place, balance, waiting, depthGrains}
-use Rattle.table.specs.Tree.{treeOf, there, isClass}
-use Rattle.table.specs.Order.{isZero, limitsKept, spareInOrder, parentInOrder}
-use Rattle.table.proofs.Facts.{test-at, at-test}
+use Rattle.definitions.specs.Limits.{recordLength, nodes, rateAt, lastClassLevel, lastLevel, greatestRate}
+use Rattle.definitions.specs.Places.{place, balance, waiting, depthGrains}
+use Rattle.definitions.specs.Tree.{treeOf, there, isClass}
+use Rattle.definitions.specs.Order.{isZero, limitsKept, spareInOrder, parentInOrder}
+use Rattle.definitions.proofs.Facts.{test-at, at-test}
 use Rattle.records.specs.Record.{classPlaced, balanceWithin, nodeInOrder, recordInOrder, recordsInOrder}
 
 pub record Node (t : List ℤ) (k : ℕ) : Type 0 where

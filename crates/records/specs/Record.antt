@@ -8,10 +8,10 @@ use lib.IntN.{ℤ}
 use Rattle.numbers.specs.Whole.{plus, minus, withinℤ}
 use Rattle.numbers.specs.Tests.{every}
 use Rattle.numbers.specs.Below.{allBelow}
-use Rattle.table.specs.Limits.{nodes, recordLength, rateAt, lastClassLevel, lastLevel, greatestRate}
-use Rattle.table.specs.Places.{place, balance, waiting, depthGrains}
-use Rattle.table.specs.Tree.{treeOf, there, isClass, testIf}
-use Rattle.table.specs.Order.{isZero, limitsKept, spareInOrder, parentInOrder}
+use Rattle.definitions.specs.Limits.{nodes, recordLength, rateAt, lastClassLevel, lastLevel, greatestRate}
+use Rattle.definitions.specs.Places.{place, balance, waiting, depthGrains}
+use Rattle.definitions.specs.Tree.{treeOf, there, isClass, testIf}
+use Rattle.definitions.specs.Order.{isZero, limitsKept, spareInOrder, parentInOrder}
 
 -- A class has level 0 to 3 and nothing waiting.
 unfoldable pub classPlaced : List ℤ → ℕ → Bool

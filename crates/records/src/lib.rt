@@ -1,13 +1,13 @@
 // Each record with its parent's: what a node's record is held to beyond the limits of its places.
-use rating::tree;
 use table::Table;
+use table::tree;
 ghost use mathlib.Core.Path.{_≡_};
 ghost use Prim.Native.Nat.{suc, _<_, _≤_};
 ghost use lib.ListN.{length};
 ghost use lib.Dec.{eqb};
-ghost use Rattle.table.specs.Limits.{tableLength, nodes, greatestDepth};
-ghost use Rattle.table.specs.Tree.{treeOf, isClass, testIf};
-ghost use Rattle.table.specs.Order.{parentInOrder};
+ghost use Rattle.definitions.specs.Limits.{tableLength, nodes, greatestDepth};
+ghost use Rattle.definitions.specs.Tree.{treeOf, isClass, testIf};
+ghost use Rattle.definitions.specs.Order.{parentInOrder};
 ghost use Rattle.records.specs.Record.{classPlaced, balanceWithin, nodeInOrder, recordInOrder, recordsInOrder};
 
 // Whether n is the next number after m.

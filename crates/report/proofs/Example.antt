@@ -9,20 +9,20 @@ use lib.IntN.{ℤ, pos}
 use Rattle.numbers.specs.Whole.{plus, withinℤ}
 use Rattle.numbers.specs.Tests.{every}
 use Rattle.numbers.specs.Below.{sumBelow, allBelow}
-use Rattle.table.specs.Limits.{tableLength, nodes, root, shareLimit, portLimit}
-use Rattle.table.specs.Places.{place, put, rate}
-use Rattle.table.specs.Order.{statedPlaced, statedInOrder, inOrder}
-use Rattle.table.specs.Refusals.{first}
-use Rattle.table.specs.Tree.{treeOf, there, isClass, isClient, isFixed, isStated, childOf, countIf, testIf, sumUnder, eachNode}
-use Rattle.table.specs.Rates.{kindShare, kindSum, fixedRate, leftRate, weightedRate, dividedRate, unstatedRate, childRate, rateAtLevel, rateIn, renewed}
-use Rattle.table.specs.Calls.{blank, opened, openRefusal, joined, joinRefusal, sharesAbove, depthsAbove, statedWrong}
-use Rattle.table.proofs.Refusals.{first-none, first-end}
+use Rattle.definitions.specs.Limits.{tableLength, nodes, root, shareLimit, portLimit}
+use Rattle.definitions.specs.Places.{place, put, rate}
+use Rattle.definitions.specs.Order.{statedPlaced, statedInOrder, inOrder}
+use Rattle.definitions.specs.Refusals.{first}
+use Rattle.definitions.specs.Tree.{treeOf, there, isClass, isClient, isFixed, isStated, childOf, countIf, testIf, sumUnder, eachNode}
+use Rattle.definitions.specs.Rates.{kindShare, kindSum, fixedRate, leftRate, weightedRate, dividedRate, unstatedRate, childRate, rateAtLevel, rateIn, renewed}
+use Rattle.definitions.specs.Calls.{blank, opened, openLimits, openRefusal, joined, joinLimits, sumCauses, joinRefusal, sharesAbove, depthsAbove, statedWrong}
+use Rattle.definitions.proofs.Refusals.{first-none, first-end}
 use Rattle.treelaws.specs.Joins.{Join, refusalOf, joinedBy}
 use Rattle.treelaws.proofs.Joined.{after-join}
 use Rattle.calllaws.proofs.Open.{opened-in-order}
-use Rattle.layout.specs.Bytes.{byteAt, le2, le4, bytesBelow}
-use Rattle.layout.specs.Kinds.{sortOf, shareKindOf}
-use Rattle.layout.specs.Format.{startOf, shareLength, lastKind, editionIn, countIn, shareFrom, entryIn, planIn, entryFormed, formed}
+use Rattle.planformat.specs.Bytes.{byteAt, le2, le4, bytesBelow}
+use Rattle.planformat.specs.Kinds.{sortOf, shareKindOf}
+use Rattle.planformat.specs.Format.{startOf, shareLength, lastKind, editionIn, countIn, shareFrom, entryIn, planIn, entryFormed, formed}
 use Rattle.planlaws.specs.Reading.{joinOf, entryRefusal, afterEntry, afterEntries, entriesRefusal, openedFor, joinedFor, rising, planRefusal, planTable, checkAnswer}
 use Rattle.planlaws.proofs.Accepted.{after-none, after-suc, entries-none, entries-suc, accepted-plan, plan-table, opened-for}
 use Rattle.text.specs.Text.{ascii, decimalWithin, decimal, refusedLine}
@@ -55,7 +55,7 @@ join-is = refl
 
 -- Open is accepted, and the join.
 open-accepted : openRefusal blank (pos (planIn sample .rate)) (pos (planIn sample .depth)) ≡ 0
-unfolding planIn le4 le2 byteAt openRefusal first every withinℤ plus blank startOf editionIn allBelow
+unfolding planIn le4 le2 byteAt openRefusal openLimits first every withinℤ plus blank startOf editionIn allBelow
 open-accepted = refl
 
 opened-is : openedFor blank (planIn sample) ≡ before
@@ -67,7 +67,7 @@ unfolding before withinℤ plus
 in-order = opened-in-order (pos 1000) (pos 40) (record { rates = refl; depths = refl })
 
 no-cause : joinRefusal before (pos 5) (pos 0) (pos 2) (pos 1) (pos 4) (pos 16) (pos 0) ≡ 0
-unfolding before joinRefusal sharesAbove depthsAbove statedWrong statedInOrder statedPlaced eachNode testIf allBelow joined opened blank shareLimit portLimit kindSum kindShare sumUnder childOf countIf there isClient isStated rate treeOf place put sumBelow every plus withinℤ
+unfolding before joinRefusal joinLimits sumCauses sharesAbove depthsAbove statedWrong statedInOrder statedPlaced eachNode testIf allBelow joined opened blank shareLimit portLimit kindSum kindShare sumUnder childOf countIf there isClient isStated rate treeOf place put sumBelow every plus withinℤ
 no-cause =
     first-none 1 _ _ (ap not in-order)
     (first-none 2 _ _ refl

@@ -7,9 +7,9 @@ use native.Mathlib.Omega.{arith}
 use lib.ListN.{length, length-append}
 use lib.IntN.{ℤ}
 use Rattle.numbers.proofs.Tests.{by-test, cond-true, cond-false}
-use Rattle.table.specs.Places.{rate}
-use Rattle.table.specs.Tree.{treeOf, there, isClass}
-use Rattle.layout.specs.Bytes.{bytesBelow}
+use Rattle.definitions.specs.Places.{rate}
+use Rattle.definitions.specs.Tree.{treeOf, there, isClass}
+use Rattle.planformat.specs.Bytes.{bytesBelow}
 use Rattle.text.specs.Text.{ascii, decimal}
 use Rattle.report.specs.Text.{longestSort, longestLine, sortText, nodeLine, line}
 use Rattle.text.specs.Appended.{Appended}

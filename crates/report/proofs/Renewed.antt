@@ -7,12 +7,12 @@ use lib.ListN.{length}
 use lib.IntN.{ℤ}
 use Rattle.numbers.specs.Whole.{plus}
 use Rattle.numbers.proofs.Tests.{by-test, cond-true, cond-false}
-use Rattle.table.specs.Limits.{tableLength, nodes, root}
-use Rattle.table.specs.Places.{rate}
-use Rattle.table.specs.Tree.{Tree, treeOf, there, isClass}
-use Rattle.table.specs.Rates.{rateIn, renewed}
+use Rattle.definitions.specs.Limits.{tableLength, nodes, root}
+use Rattle.definitions.specs.Places.{rate}
+use Rattle.definitions.specs.Tree.{Tree, treeOf, there, isClass}
+use Rattle.definitions.specs.Rates.{rateIn, renewed}
 use Rattle.treelaws.proofs.Renewed.{renewed-rate, renewed-tree}
-use Rattle.layout.specs.Bytes.{bytesBelow}
+use Rattle.planformat.specs.Bytes.{bytesBelow}
 use Rattle.text.proofs.Below.{bytes-cong}
 use Rattle.report.specs.Text.{nodeLine, line, linesOf}
 use Rattle.report.proofs.Lines.{line-of, line-none}

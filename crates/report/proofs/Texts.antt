@@ -9,11 +9,11 @@ use lib.Seq.{length-take-le}
 use lib.Dec.{eqb}
 use lib.IntN.{pos}
 use Rattle.numbers.proofs.Tests.{cond-true, cond-false}
-use Rattle.table.specs.Limits.{tableLength}
-use Rattle.table.specs.Refusals.{numberTold}
-use Rattle.table.specs.Calls.{blank}
-use Rattle.table.proofs.Refusals.{number-outcome}
-use Rattle.layout.specs.Format.{startOf, shareLength}
+use Rattle.definitions.specs.Limits.{tableLength}
+use Rattle.definitions.specs.Refusals.{numberTold}
+use Rattle.definitions.specs.Calls.{blank}
+use Rattle.definitions.proofs.Refusals.{number-outcome}
+use Rattle.planformat.specs.Format.{startOf, shareLength}
 use Rattle.planlaws.specs.Reading.{planTable, planAnswer, checkAnswer}
 use Rattle.planlaws.proofs.Stages.{too-long}
 use Rattle.text.specs.Text.{inputLength, refusedLine}

@@ -4,11 +4,11 @@ use mathlib.Core.Bool.{Bool, cond}
 use mathlib.Core.List.{List, [], _++_}
 use lib.Dec.{eqb}
 use lib.IntN.{ℤ}
-use Rattle.table.specs.Limits.{nodes}
-use Rattle.table.specs.Places.{rate}
-use Rattle.table.specs.Tree.{treeOf, there, isClass}
-use Rattle.table.specs.Calls.{blank}
-use Rattle.layout.specs.Bytes.{bytesBelow}
+use Rattle.definitions.specs.Limits.{nodes}
+use Rattle.definitions.specs.Places.{rate}
+use Rattle.definitions.specs.Tree.{treeOf, there, isClass}
+use Rattle.definitions.specs.Calls.{blank}
+use Rattle.planformat.specs.Bytes.{bytesBelow}
 use Rattle.text.specs.Text.{mostDigits, ascii, decimal, refusedLine}
 use Rattle.planlaws.specs.Reading.{planTable, checkAnswer}
 

@@ -4,12 +4,12 @@ ghost use mathlib.Core.Path.{_≡_};
 ghost use Prim.Native.Nat.{_+_, _<_, _≤_};
 ghost use lib.ListN.{length};
 ghost use Rattle.io.specs.Counts.{Counts};
-ghost use Rattle.table.specs.Limits.{tableLength, nodes};
-ghost use Rattle.layout.specs.Written.{written};
+ghost use Rattle.definitions.specs.Limits.{tableLength, nodes};
+ghost use Rattle.planformat.specs.Written.{written};
 ghost use Rattle.text.specs.Appended.{Appended};
 ghost use Rattle.report.specs.Text.{textLength, longestSort, longestLine, sortText, nodeLine, line, linesOf, reportOf};
-use rating::tree;
 use table::Table;
+use table::tree;
 
 // What the text's buffer holds.
 pub const TEXT_LENGTH: usize = 4096;
@@ -71,7 +71,7 @@ pub fn report(contents: &[u8], text: &mut [u8; TEXT_LENGTH]) -> usize
     ensures text { λ _. ⌜ now (text .exit) ≡ written (now (text .entry)) 0 (reportOf (now (contents .entry))) ⌝ }
 {
     let mut table = [0i64; Table::LENGTH];
-    let answer = plan::read(&mut table, contents);
+    let answer = reading::read(&mut table, contents);
     let number = table::number_told(answer);
     if number == 0 {
         put_lines(text, &table)

@@ -7,11 +7,11 @@ use lib.ListN.{length}
 use lib.IntN.{ℤ}
 use Rattle.numbers.specs.Whole.{plus}
 use Rattle.numbers.proofs.Parts.{zarith}
-use Rattle.table.specs.Limits.{tableLength, nodes, mostWaiting}
-use Rattle.table.specs.Places.{count, waiting}
-use Rattle.table.specs.Calls.{requestRefusal}
-use Rattle.table.proofs.Facts.{facts}
-use Rattle.table.proofs.Passed.{request-passed}
+use Rattle.definitions.specs.Limits.{tableLength, nodes, mostWaiting}
+use Rattle.definitions.specs.Places.{count, waiting}
+use Rattle.definitions.specs.Calls.{requestRefusal}
+use Rattle.definitions.proofs.Facts.{facts}
+use Rattle.definitions.proofs.Passed.{request-passed}
 
 pub record Room (t : List ℤ) (k : ℕ) : Type 0 where
   pub long : length t ≡ tableLength

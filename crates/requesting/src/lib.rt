@@ -4,14 +4,14 @@ ghost use mathlib.Core.Bool.{true};
 ghost use Prim.Native.Nat.{_+_, _<_, _≤_, _^_};
 ghost use lib.ListN.{length};
 ghost use lib.IntN.{pos};
-ghost use Rattle.table.specs.Limits.{tableLength, nodes, mostWaiting, tagAt, sizeAt, arrivalAt};
-ghost use Rattle.table.specs.Places.{put, queuePlace, count, waiting};
-ghost use Rattle.table.specs.Order.{inOrder};
-ghost use Rattle.table.specs.Refusals.{lastRefusal};
+ghost use Rattle.definitions.specs.Limits.{tableLength, nodes, mostWaiting, tagAt, sizeAt, arrivalAt};
+ghost use Rattle.definitions.specs.Places.{put, queuePlace, count, waiting};
+ghost use Rattle.definitions.specs.Order.{inOrder};
+ghost use Rattle.definitions.specs.Refusals.{lastRefusal};
 ghost use Rattle.table.specs.Answers.{told};
-ghost use Rattle.table.specs.Calls.{requested, requestRefusal, requestTable, requestAnswer};
-ghost use Rattle.requesting.specs.Limits.{requestLimits};
+ghost use Rattle.definitions.specs.Calls.{requestLimits, requested, requestRefusal, requestTable, requestAnswer};
 use table::Answer;
+use table::Refusal;
 use table::Table;
 
 // The i-th waiting place of node k.
@@ -51,21 +51,21 @@ fn tree_refusal(table: &[i64], k: usize, size: u64) -> u64
     ensures first { λ r. ⌜ r ≡ requestRefusal (now (table .entry)) (pos k) (pos 0) (pos size) ⌝ }
     ensures small { λ r. ⌜ r ≤ lastRefusal ⌝ }
 {
-    if !rating::tree::there(table, k) {
-        return 3;
+    if !table::tree::there(table, k) {
+        return Refusal::NOT_THERE;
     }
-    if rating::tree::is_class(table, k) {
-        return 5;
+    if table::tree::is_class(table, k) {
+        return Refusal::WRONG_NODE;
     }
     let depth = Table::natural(table, k, Table::DEPTH);
     if costs::above(size, depth) {
-        return 8;
+        return Refusal::DEPTH_ABOVE;
     }
     if Table::natural(table, k, Table::WAITING) == Table::MOST_WAITING {
-        return 11;
+        return Refusal::QUEUE_FULL;
     }
     if Table::count(table) == Table::GREATEST_COUNT {
-        return 12;
+        return Refusal::COUNT_AT_END;
     }
     0
 }
@@ -86,10 +86,10 @@ fn request_refusal(table: &[i64], client: i64, tag: i64, size: i64) -> u64
     ensures small { λ r. ⌜ r ≤ lastRefusal ⌝ }
 {
     if !order::in_order(table) {
-        return 1;
+        return Refusal::NOT_IN_ORDER;
     }
     if !request_limits(client, size) {
-        return 2;
+        return Refusal::OUTSIDE_LIMITS;
     }
     tree_refusal(
         table,

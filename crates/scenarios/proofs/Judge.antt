@@ -10,9 +10,9 @@ use lib.IntN.{ℤ}
 use Rattle.numbers.specs.Whole.{sameℤ}
 use Rattle.numbers.proofs.Tests.{and-true, and-left, and-right}
 use Rattle.numbers.proofs.Parts.{same-eq, eq-same}
-use Rattle.table.specs.Order.{inOrder}
-use Rattle.table.specs.Refusals.{Outcome, accepted, refused}
-use Rattle.table.specs.Tick.{tickFirst, tickSecond, tickAnswer}
+use Rattle.definitions.specs.Order.{inOrder}
+use Rattle.definitions.specs.Refusals.{Outcome, accepted, refused}
+use Rattle.definitions.specs.Tick.{tickFirst, tickSecond, tickAnswer}
 use Rattle.scenarios.specs.Scenario.{Step, _gives_, _answers_leaving_and_, keep, fits, spoils, Scenario, firstLent, secondLent, answer, changed, Says, after, keptAfter, Hold}
 
 -- Whether two lists, or two answers, are the same.

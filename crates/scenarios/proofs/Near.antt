@@ -19,12 +19,12 @@ use Rattle.numbers.proofs.Parts.{same-eq, eq-same}
 use Rattle.numbers.proofs.All.{below-cases, all-suc, all-intro}
 use Rattle.numbers.proofs.Steps.{for-suc}
 use Rattle.numbers.proofs.Sums.{sum-suc}
-use Rattle.table.specs.Limits.{headerLength, recordLength, nodes, unused, sortAt, parentAt, levelAt, kindAt, shareAt, depthAt, waitingAt}
-use Rattle.table.specs.Places.{place, put, waiting}
-use Rattle.table.specs.Tree.{Tree, treeOf, there, isClass, isClient, childOf, countIf, testIf, sumUnder, eachNode, eachClass, eachClient}
-use Rattle.table.specs.Order.{isZero, unusedInOrder}
-use Rattle.table.specs.Tick.{State, nobody, dispatched, supplier, supplied, choice, next, lent}
-use Rattle.table.proofs.Places.{put-same}
+use Rattle.definitions.specs.Limits.{headerLength, recordLength, nodes, unused, sortAt, parentAt, levelAt, kindAt, shareAt, depthAt, waitingAt}
+use Rattle.definitions.specs.Places.{place, put, waiting}
+use Rattle.definitions.specs.Tree.{Tree, treeOf, there, isClass, isClient, childOf, countIf, testIf, sumUnder, eachNode, eachClass, eachClient}
+use Rattle.definitions.specs.Order.{isZero, unusedInOrder}
+use Rattle.definitions.specs.Tick.{State, nobody, dispatched, supplier, supplied, choice, next, lent}
+use Rattle.definitions.proofs.Places.{put-same}
 
 -- The first far node, and where its record starts.
 abbrev pub fewNodes : ℕ

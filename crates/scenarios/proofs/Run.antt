@@ -10,15 +10,15 @@ use Rattle.numbers.specs.Whole.{plus, sameℤ, withinℤ}
 use Rattle.numbers.specs.Tests.{every}
 use Rattle.numbers.specs.Below.{sumBelow, sumℤBelow, allBelow, forBelow}
 use Rattle.numbers.proofs.Every.{head-holds, rest-hold}
-use Rattle.table.specs.Limits.{shareLimit, portLimit}
-use Rattle.table.specs.Places.{place, put, header, putHeader, count, tag, size, arrival}
-use Rattle.table.specs.Tree.{treeOf, there, isClass, isClient, isFixed, isStated, childOf, childless, countIf, testIf, sumUnder, eachNode, eachClass, eachClient}
-use Rattle.table.specs.Rates.{kindShare, kindSum, fixedRate, leftRate, weightedRate, dividedRate, unstatedRate, childRate, rateAtLevel, rateIn, writeRates}
-use Rattle.table.specs.Cost.{cost, sizeWithin}
-use Rattle.table.specs.Order.{isZero, headerInOrder, rootInOrder, parentInOrder, requestInOrder, queueInOrder, differsAt, statedPlaced}
-use Rattle.table.specs.Refusals.{first, outcome, kept}
-use Rattle.table.specs.Calls.{blank, opened, openRefusal, openTable, openAnswer, joined, cleared, reshared, requested}
-use Rattle.table.specs.Tick.{grains, enough, supplierFrom, supply, isFound, nodeFound, stepsFound, supplier, stepsAbove, lower, charge, takenOut, dispatched, ready, served, supplied, better, goesBefore, choice, ofPort, listed}
+use Rattle.definitions.specs.Limits.{shareLimit, portLimit}
+use Rattle.definitions.specs.Places.{place, put, header, putHeader, count, tag, size, arrival}
+use Rattle.definitions.specs.Tree.{treeOf, there, isClass, isClient, isFixed, isStated, childOf, childless, countIf, testIf, sumUnder, eachNode, eachClass, eachClient}
+use Rattle.definitions.specs.Rates.{kindShare, kindSum, fixedRate, leftRate, weightedRate, dividedRate, unstatedRate, childRate, rateAtLevel, rateIn, writeRates}
+use Rattle.definitions.specs.Cost.{cost, sizeWithin}
+use Rattle.definitions.specs.Order.{isZero, headerInOrder, rootInOrder, parentInOrder, requestInOrder, queueInOrder, differsAt, statedPlaced}
+use Rattle.definitions.specs.Refusals.{first, outcome, kept}
+use Rattle.definitions.specs.Calls.{blank, opened, openLimits, openRefusal, openTable, openAnswer, joined, joinLimits, cleared, reshared, changeShareLimits, requested, requestLimits}
+use Rattle.definitions.specs.Tick.{grains, enough, supplierFrom, supply, isFound, nodeFound, stepsFound, supplier, stepsAbove, lower, charge, takenOut, dispatched, ready, served, supplied, better, goesBefore, choice, ofPort, listed}
 use Rattle.scenarios.specs.Scenario.{Scenario, firstLent, secondLent, entries, keptAfter, after, sevens, Passes}
 use Rattle.scenarios.proofs.Judge.{sameList, sameOutcome, holds, run, run-hold}
 use Rattle.scenarios.proofs.Near.{zeros, few, recordOn, placeNear, putNear, treeNear, nearNodes, sumNear, eachNear, unusedAt, unusedNear, nextNear, lentNear}
@@ -26,7 +26,7 @@ use Rattle.scenarios.proofs.Short.{by, with, each, shortChildRate, rate
 
 -- A scenario run by the short forms of its steps. The line under the signature names what antt unfolds to compute it.
 unfoldable pub shortRun : Scenario → (kept t : List ℤ) → Bool
-unfolding plus sameℤ withinℤ every sumBelow sumℤBelow allBelow forBelow shareLimit portLimit place put header putHeader count tag size arrival treeOf there isClass isClient isFixed isStated childOf childless countIf testIf sumUnder eachNode eachClass eachClient kindShare kindSum fixedRate leftRate weightedRate dividedRate unstatedRate childRate rateAtLevel rateIn writeRates isZero headerInOrder rootInOrder parentInOrder cost sizeWithin requestInOrder queueInOrder differsAt statedPlaced first outcome kept blank opened openRefusal openTable openAnswer joined cleared reshared requested grains enough supplierFrom supply isFound nodeFound stepsFound supplier stepsAbove lower charge takenOut dispatched ready served supplied better goesBefore choice ofPort listed firstLent secondLent entries sameList sameOutcome zeros few recordOn placeNear putNear treeNear nearNodes sumNear eachNear unusedAt unusedNear nextNear lentNear by with each shortChildRate rateNear ratesNear shortLimits shortSpare shortClass shortRate shortChild shortBalance shortArrivals shortStated shortInOrder shortJoinRefusal shortLeaveRefusal shortChangeShareRefusal shortChangeRateRefusal shortRequestRefusal shortLookRefusal shortSameRefusal shortRates shortLost shortWaiting shortAllWaiting shortPorts shortPortWaiting shortTickRefusal shortGrown shortServed shortCut shortStepTwo shortStepThree shortTicked shortStep
+unfolding plus sameℤ withinℤ every sumBelow sumℤBelow allBelow forBelow shareLimit portLimit place put header putHeader count tag size arrival treeOf there isClass isClient isFixed isStated childOf childless countIf testIf sumUnder eachNode eachClass eachClient kindShare kindSum fixedRate leftRate weightedRate dividedRate unstatedRate childRate rateAtLevel rateIn writeRates isZero headerInOrder rootInOrder parentInOrder cost sizeWithin requestInOrder queueInOrder differsAt statedPlaced first outcome kept blank opened openLimits openRefusal openTable openAnswer joined joinLimits cleared reshared changeShareLimits requested requestLimits grains enough supplierFrom supply isFound nodeFound stepsFound supplier stepsAbove lower charge takenOut dispatched ready served supplied better goesBefore choice ofPort listed firstLent secondLent entries sameList sameOutcome zeros few recordOn placeNear putNear treeNear nearNodes sumNear eachNear unusedAt unusedNear nextNear lentNear by with each shortChildRate rateNear ratesNear shortLimits shortSpare shortClass shortRate shortChild shortBalance shortArrivals shortStated shortInOrder shortJoinRefusal shortLeaveRefusal shortChangeShareRefusal shortChangeRateRefusal shortRequestRefusal shortLookRefusal shortSameRefusal shortRates shortLost shortWaiting shortAllWaiting shortPorts shortPortWaiting shortTickRefusal shortGrown shortServed shortCut shortStepTwo shortStepThree shortTicked shortStep
 shortRun [] = λ kept t. true
 shortRun (step ∷ steps) = λ kept t. shortStep step (shortRun steps) kept t .value
 

@@ -5,11 +5,11 @@ use mathlib.Core.Path.{_≡_, refl, ap, _∙_, fun-ext}
 use mathlib.Core.Bool.{Bool, _&&_}
 use mathlib.Core.List.{List}
 use lib.IntN.{ℤ, pos}
-use Rattle.table.specs.Places.{rate, balance, waiting, port, depthGrains}
-use Rattle.table.specs.Rates.{kindSum, dividedRate, childRate, rateAtLevel, rateIn, renewed}
-use Rattle.table.specs.Order.{limitsKept, spareInOrder, classInOrder, rateInOrder, childBalance, childBalances, balanceInOrder, arrivalsDiffer, statedInOrder, inOrder}
-use Rattle.table.specs.Calls.{sharesAbove, depthsAbove, statedWrong, joinRefusal, joinTable, joinAnswer, leaveRefusal, leaveTable, leaveAnswer, changeShareRefusal, changeShareTable, changeShareAnswer, changeRateRefusal, changeRateTable, changeRateAnswer, requestRefusal, requestTable, requestAnswer, lostGrains, lookRefusal, lookAnswer, sameTree, sameRefusal, sameAnswer}
-use Rattle.table.specs.Tick.{State, grown, servedAll, cut, allWaiting, stepTwo, stepThree, ticked, portEntries, portCount, portWaiting, listShort, tickRefusal, tickTable, tickFirst, tickSecond, tickAnswer}
+use Rattle.definitions.specs.Places.{rate, balance, waiting, port, depthGrains}
+use Rattle.definitions.specs.Rates.{kindSum, dividedRate, childRate, rateAtLevel, rateIn, renewed}
+use Rattle.definitions.specs.Order.{limitsKept, spareInOrder, classInOrder, rateInOrder, childBalance, childBalances, balanceInOrder, arrivalsDiffer, statedInOrder, inOrder}
+use Rattle.definitions.specs.Calls.{sharesAbove, depthsAbove, statedWrong, sumCauses, joinRefusal, joinTable, joinAnswer, leaveRefusal, leaveTable, leaveAnswer, changeShareRefusal, changeShareTable, changeShareAnswer, changeRateRefusal, changeRateTable, changeRateAnswer, requestRefusal, requestTable, requestAnswer, lostGrains, lookRefusal, lookAnswer, sameTree, sameRefusal, sameAnswer}
+use Rattle.definitions.specs.Tick.{State, grown, servedAll, cut, allWaiting, stepTwo, stepThree, ticked, portEntries, portCount, portWaiting, listShort, tickRefusal, tickTable, tickFirst, tickSecond, tickAnswer}
 use Rattle.scenarios.specs.Scenario.{openℤ, joinℤ, leaveℤ, changeShareℤ, changeRateℤ, requestℤ, lookℤ, same, Step, _gives_, _answers_leaving_and_, keep, fits, spoils, firstLent, secondLent, answer, called, changed, after, keptAfter}
 use Rattle.scenarios.proofs.Judge.{holds}
 use Rattle.scenarios.proofs.Near.{treeNear, place-is, put-is, tree-is, sum-is, nodes-are, classes-are, clients-are, unused-is, lent-is}
@@ -102,7 +102,7 @@ shortInOrder t =
 
 -- The refusals.
 unfoldable pub shortJoinRefusal : (t : List ℤ) (node parent sort kind share depth port : ℤ) → Short (joinRefusal t node parent sort kind share depth port)
-unfolding joinRefusal sharesAbove depthsAbove statedWrong kindSum
+unfolding joinRefusal sumCauses sharesAbove depthsAbove statedWrong kindSum
 shortJoinRefusal t node parent sort kind share depth port = by (λ y e. simp (is shortInOrder, is shortStated, tree-is, sum-is) at e)
 
 unfoldable pub shortLeaveRefusal : (t : List ℤ) (node : ℤ) → Short (leaveRefusal t node)

@@ -6,12 +6,12 @@ use mathlib.Core.Bool.{true, false}
 use mathlib.Core.List.{List, [], _∷_, _++_}
 use lib.ListN.{length, take, drop, replicate}
 use lib.IntN.{ℤ, pos}
-use Rattle.table.specs.Limits.{tableLength, balanceAt, firstPort}
-use Rattle.table.specs.Places.{put, putHeader}
-use Rattle.table.specs.Order.{inOrder}
-use Rattle.table.specs.Refusals.{Outcome, accepted, refused}
-use Rattle.table.specs.Calls.{openTable, openAnswer, joinTable, joinAnswer, leaveTable, leaveAnswer, changeShareTable, changeShareAnswer, changeRateTable, changeRateAnswer, requestTable, requestAnswer, lookAnswer, sameAnswer}
-use Rattle.table.specs.Tick.{tickTable, tickFirst, tickSecond, tickAnswer}
+use Rattle.definitions.specs.Limits.{tableLength, balanceAt, firstPort}
+use Rattle.definitions.specs.Places.{put, putHeader}
+use Rattle.definitions.specs.Order.{inOrder}
+use Rattle.definitions.specs.Refusals.{Outcome, accepted, refused}
+use Rattle.definitions.specs.Calls.{openTable, openAnswer, joinTable, joinAnswer, leaveTable, leaveAnswer, changeShareTable, changeShareAnswer, changeRateTable, changeRateAnswer, requestTable, requestAnswer, lookAnswer, sameAnswer}
+use Rattle.definitions.specs.Tick.{tickTable, tickFirst, tickSecond, tickAnswer}
 
 -- A call other than tick, with any whole numbers for its arguments. Same has the table that was kept last for its first
 -- table and the table as it is for its second.

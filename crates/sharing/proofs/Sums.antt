@@ -9,17 +9,17 @@ use lib.Dec.{eqb, ltb}
 use lib.IntN.{ℤ, pos}
 use Rattle.numbers.specs.Whole.{plus}
 use Rattle.numbers.proofs.Sums.{term-le-sum}
-use Rattle.table.specs.Limits.{nodes, root, unused, fixed, stated, wholeShare}
-use Rattle.table.specs.Tree.{treeOf, there, childOf, countIf, sumUnder}
-use Rattle.table.specs.Rates.{kindShare, kindSum, fixedSum, statedSum}
-use Rattle.table.specs.Calls.{reshared, sharesAbove, statedWrong}
-use Rattle.table.proofs.Facts.{InOrder}
-use Rattle.table.proofs.Edits.{NodeIs, reshared-edit, reshared-node}
+use Rattle.definitions.specs.Limits.{nodes, root, unused, fixed, stated, wholeShare}
+use Rattle.definitions.specs.Tree.{treeOf, there, childOf, countIf, sumUnder}
+use Rattle.definitions.specs.Rates.{kindShare, kindSum, fixedSum, statedSum}
+use Rattle.definitions.specs.Calls.{reshared, sharesAbove, statedWrong}
+use Rattle.definitions.proofs.Facts.{InOrder}
+use Rattle.definitions.proofs.Edits.{NodeIs, reshared-edit, reshared-node}
 use Rattle.treelaws.specs.Stated.{statedWrongWith}
 use Rattle.treelaws.proofs.Children.{child-of, child-le-sum, counted}
 use Rattle.calllaws.proofs.OneNode.{kinds-changed}
 use Rattle.calllaws.proofs.StatedAfter.{stated-before, stated-after}
-use Rattle.rating.proofs.Rated.{share-of}
+use Rattle.sums.proofs.Rated.{share-of}
 
 module _ (t : List ℤ) (k : ℕ) (f : InOrder t) (low : k < nodes) (here : there (treeOf t) k ≡ true) (below : k ≡ root → ⊥) where
   own-child : childOf (treeOf t) (treeOf t .parent k) k ≡ true

@@ -1,23 +1,21 @@
-// Change share and change rate.
+// Change share.
 ghost use mathlib.Core.Path.{_≡_};
 ghost use mathlib.Core.Bool.{true};
 ghost use Prim.Native.Nat.{_≤_, _<_};
-ghost use lib.Dec.{ltb};
 ghost use lib.IntN.{pos};
 ghost use lib.ListN.{length};
-ghost use Rattle.table.specs.Limits.{tableLength, nodes, root, greatestRate};
-ghost use Rattle.table.specs.Tree.{treeOf, there};
-ghost use Rattle.table.specs.Rates.{statedSum};
-ghost use Rattle.table.specs.Order.{inOrder};
-ghost use Rattle.table.specs.Refusals.{lastRefusal};
+ghost use Rattle.definitions.specs.Limits.{tableLength, nodes, root, greatestRate};
+ghost use Rattle.definitions.specs.Tree.{treeOf, there};
+ghost use Rattle.definitions.specs.Order.{inOrder};
+ghost use Rattle.definitions.specs.Refusals.{lastRefusal};
 ghost use Rattle.table.specs.Answers.{told};
-ghost use Rattle.table.specs.Calls.{sharesAbove, statedWrong, reshared, changeShareRefusal, changeShareTable, changeShareAnswer, changeRateRefusal, changeRateTable, changeRateAnswer};
-ghost use Rattle.sharing.specs.Limits.{shareLimits};
+ghost use Rattle.definitions.specs.Calls.{changeShareLimits, sharesAbove, statedWrong, reshared, changeShareRefusal, changeShareTable, changeShareAnswer};
 use table::Answer;
+use table::Refusal;
 use table::Table;
 
 fn change_share_limits(node: i64, kind: i64, share: i64) -> bool
-    ensures { λ r. ⌜ r ≡ shareLimits node kind share ⌝ }
+    ensures { λ r. ⌜ r ≡ changeShareLimits node kind share ⌝ }
 {
     let node_fits = numbers::within(node, 0, Table::LAST_NODE);
     let kind_fits = numbers::within(kind, Table::FIXED, Table::STATED);
@@ -32,8 +30,8 @@ fn shares_above(table: &[i64], k: usize, kind: u64, share: u64) -> bool
     ensures { λ r. ⌜ r ≡ sharesAbove (reshared (now (table .entry)) k (pos kind) (pos share)) (treeOf (now (table .entry)) .parent k) ⌝ }
 {
     let c = Table::natural(table, k, Table::PARENT) as usize;
-    let old = rating::sums::kind_share(table, Table::FIXED, k);
-    rating::sums::shares_above(table, c, old, kind, share)
+    let old = sums::kind_share(table, Table::FIXED, k);
+    sums::shares_above(table, c, old, kind, share)
 }
 
 // Whether node k would be stated elsewhere than under the root, or the stated rates would be above the disk's.
@@ -42,27 +40,27 @@ fn stated_wrong(table: &[i64], k: usize, kind: u64, share: u64) -> bool
     ensures { λ r. ⌜ r ≡ statedWrong (reshared (now (table .entry)) k (pos kind) (pos share)) ⌝ }
 {
     let c = Table::natural(table, k, Table::PARENT) as usize;
-    let old = rating::sums::kind_share(table, Table::STATED, k);
-    rating::sums::stated_wrong(table, c, old, kind, share)
+    let old = sums::kind_share(table, Table::STATED, k);
+    sums::stated_wrong(table, c, old, kind, share)
 }
 
 // The number of the first cause in the tree that turns change share of node k back, or 0.
 fn tree_refusal(table: &[i64], k: usize, kind: u64, share: u64) -> u64
-    requires { ⌜ (inOrder (now table) ≡ true) × (shareLimits (pos k) (pos kind) (pos share) ≡ true) ⌝ }
+    requires { ⌜ (inOrder (now table) ≡ true) × (changeShareLimits (pos k) (pos kind) (pos share) ≡ true) ⌝ }
     ensures first { λ r. ⌜ r ≡ changeShareRefusal (now (table .entry)) (pos k) (pos kind) (pos share) ⌝ }
     ensures small { λ r. ⌜ r ≤ lastRefusal ⌝ }
 {
-    if !rating::tree::there(table, k) {
-        return 3;
+    if !table::tree::there(table, k) {
+        return Refusal::NOT_THERE;
     }
     if k == 0 {
-        return 5;
+        return Refusal::WRONG_NODE;
     }
     if shares_above(table, k, kind, share) {
-        return 7;
+        return Refusal::SHARES_ABOVE;
     }
     if stated_wrong(table, k, kind, share) {
-        return 16;
+        return Refusal::STATED_WRONG;
     }
     0
 }
@@ -73,10 +71,10 @@ fn change_share_refusal(table: &[i64], node: i64, kind: i64, share: i64) -> u64
     ensures small { λ r. ⌜ r ≤ lastRefusal ⌝ }
 {
     if !order::in_order(table) {
-        return 1;
+        return Refusal::NOT_IN_ORDER;
     }
     if !change_share_limits(node, kind, share) {
-        return 2;
+        return Refusal::OUTSIDE_LIMITS;
     }
     tree_refusal(
         table,
@@ -107,45 +105,6 @@ pub fn change_share(table: &mut [i64], node: i64, kind: i64, share: i64) -> Answ
     let k = numbers::natural(node) as usize;
     let parent = Table::natural(table, k, Table::PARENT) as usize;
     write_share(table, k, kind, share);
-    rating::renewal::renew_below(table, parent);
-    Answer::Accepted(0)
-}
-
-// Whether the stated rates are above a rate of the disk.
-fn stated_above(table: &[i64], rate: u64) -> bool
-    requires { ⌜ inOrder (now table) ≡ true ⌝ }
-    ensures { λ r. ⌜ r ≡ ltb rate (statedSum (treeOf (now (table .entry))) root) ⌝ }
-{
-    rate < rating::sums::sum_under(table, rating::sums::Summand::Shares(Table::STATED), 0)
-}
-
-// The number of the first cause that turns change rate back, or 0.
-fn change_rate_refusal(table: &[i64], rate: i64) -> u64
-    ensures first { λ r. ⌜ r ≡ changeRateRefusal (now (table .entry)) rate ⌝ }
-    ensures small { λ r. ⌜ r ≤ lastRefusal ⌝ }
-{
-    if !order::in_order(table) {
-        return 1;
-    }
-    if !numbers::within(rate, 1, Table::GREATEST_RATE) {
-        return 2;
-    }
-    if stated_above(table, numbers::natural(rate)) {
-        return 16;
-    }
-    0
-}
-
-// Change rate. Document 01, "Calls".
-pub fn change_rate(table: &mut [i64], rate: i64) -> Answer
-    ensures answer { λ r. ⌜ told r ≡ changeRateAnswer (now (table .entry)) rate ⌝ }
-    ensures table { λ _. ⌜ now (table .exit) ≡ changeRateTable (now (table .entry)) rate ⌝ }
-{
-    let cause = change_rate_refusal(table, rate);
-    if cause != 0 {
-        return table::answered(cause, 0);
-    }
-    Table::put(table, 0, Table::RATE, rate);
-    rating::renewal::renew_below(table, 0);
+    renewing::renew_below(table, parent);
     Answer::Accepted(0)
 }

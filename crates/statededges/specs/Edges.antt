@@ -2,8 +2,8 @@
 use Prim.Native.Nat.{suc}
 use mathlib.Core.List.{[], _∷_}
 use lib.IntN.{pos}
-use Rattle.table.specs.Limits.{root, class, client, fixed, weighted, stated, wholeShare, greatestRate}
-use Rattle.table.specs.Refusals.{refused}
+use Rattle.definitions.specs.Limits.{root, class, client, fixed, weighted, stated, wholeShare, greatestRate}
+use Rattle.definitions.specs.Refusals.{refused}
 use Rattle.scenarios.specs.Scenario.{Scenario, disk, join, changeShare, changeRate, look, _gives_, number, seen}
 
 -- The edges by name.

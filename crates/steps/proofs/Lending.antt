@@ -5,12 +5,12 @@ use mathlib.Core.Bool.{true}
 use mathlib.Core.List.{List, []}
 use native.Mathlib.Omega.{arith}
 use lib.IntN.{ℤ}
-use Rattle.table.specs.Limits.{nodes}
-use Rattle.table.specs.Places.{port, waiting}
-use Rattle.table.specs.Tree.{treeOf}
-use Rattle.table.specs.Tick.{nobody, State, dispatched, supplier, supplied, next, lent, allWaiting, portWaiting}
-use Rattle.table.proofs.Facts.{InOrder}
-use Rattle.table.proofs.Choice.{has-supplier, next-found}
+use Rattle.definitions.specs.Limits.{nodes}
+use Rattle.definitions.specs.Places.{port, waiting}
+use Rattle.definitions.specs.Tree.{treeOf}
+use Rattle.definitions.specs.Tick.{nobody, State, dispatched, supplier, supplied, next, lent, allWaiting, portWaiting}
+use Rattle.definitions.proofs.Facts.{InOrder}
+use Rattle.definitions.proofs.Choice.{has-supplier, next-found}
 use Rattle.ticklaws.proofs.Frame.{frame-port}
 use Rattle.ticklaws.proofs.Ports.{port-falls}
 use Rattle.ticklaws.proofs.Cut.{cut-reached, cut-under}
@@ -18,7 +18,8 @@ use Rattle.ticklaws.proofs.Dispatch.{Dispatch}
 use Rattle.ticklaws.proofs.Lent.{Settled, lent-again, lent-done, supplier-at, lent-dispatch, lent-settled, waiting-falls}
 use Rattle.balances.specs.Within.{Within}
 use Rattle.suppliers.proofs.Answer.{Goes}
-use Rattle.dispatch.specs.Entries.{tableAfter, gets}
+use Rattle.ticklaws.specs.Ports.{gets}
+use Rattle.dispatch.specs.Entries.{tableAfter}
 use Rattle.dispatch.proofs.Listed.{next-table}
 use Rattle.steps.specs.Steps.{Lending, was-cut, lent-one, lending}
 use Rattle.steps.proofs.Within.{settled-way, within}
@@ -68,7 +69,6 @@ lent-ports : (u : List ℤ) → Lending u → (k : ℕ) → k < nodes → suppli
 lent-ports u s k hk e = frame-port u (tableAfter u k (supplier u k)) (turn u (lending-level s) k hk e .frame)
 
 lent-fewer : (u : List ℤ) → Lending u → (k : ℕ) → k < nodes → supplied u k ≡ true → (p : ℕ) → portWaiting (tableAfter u k (supplier u k)) p + gets p (port u k) ≡ portWaiting u p
-unfolding gets
 lent-fewer u s k hk e =
     let w = lending-level s in
     port-falls (treeOf (w .from)) u (tableAfter u k (supplier u k)) k (supplier u k) hk (turn u w k hk e)

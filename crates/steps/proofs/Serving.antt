@@ -12,11 +12,11 @@ use Rattle.numbers.proofs.Tests.{by-test}
 use Rattle.numbers.proofs.Every.{head-fails, every-two}
 use Rattle.numbers.proofs.Parts.{zarith, add-parts, one-is-zero, plus-pos}
 use Rattle.numbers.proofs.Steps.{for-keeps}
-use Rattle.table.specs.Limits.{nodes, waitingAt}
-use Rattle.table.specs.Places.{place, rate, balance, waiting, port, size}
-use Rattle.table.specs.Tree.{treeOf, there}
-use Rattle.table.specs.Tick.{State, grains, enough, grown, dispatched, ready, served, allWaiting, portWaiting}
-use Rattle.table.proofs.Facts.{InOrder, facts}
+use Rattle.definitions.specs.Limits.{nodes, waitingAt}
+use Rattle.definitions.specs.Places.{place, rate, balance, waiting, port, size}
+use Rattle.definitions.specs.Tree.{treeOf, there}
+use Rattle.definitions.specs.Tick.{State, grains, enough, grown, dispatched, ready, served, allWaiting, portWaiting}
+use Rattle.definitions.proofs.Facts.{InOrder, facts}
 use Rattle.treelaws.proofs.Floors.{grounds, under-of}
 use Rattle.ticklaws.proofs.Grown.{grown-swept, grown-reached}
 use Rattle.ticklaws.proofs.Dispatch.{Dispatch, dispatch, dispatch-reached, dispatch-falls}
@@ -25,7 +25,8 @@ use Rattle.ticklaws.proofs.Lent.{waiting-falls}
 use Rattle.ticklaws.proofs.Frame.{frame-port}
 use Rattle.ticklaws.proofs.Ports.{port-falls}
 use Rattle.balances.specs.Within.{Within}
-use Rattle.dispatch.specs.Entries.{tableAfter, gets}
+use Rattle.ticklaws.specs.Ports.{gets}
+use Rattle.dispatch.specs.Entries.{tableAfter}
 use Rattle.dispatch.proofs.Listed.{next-table}
 use Rattle.steps.specs.Steps.{Serving, grew, served-one, serving}
 use Rattle.treelaws.proofs.Rounding.{rate-small}
@@ -101,7 +102,6 @@ module _ (u : List ℤ) (s : Serving u) (k : ℕ) (hk : k < nodes) (e : ready u 
   served-ports = frame-port u (tableAfter u k k) (turn u (serving-way s) k hk e .frame)
 
   served-fewer : (p : ℕ) → portWaiting (tableAfter u k k) p + gets p (port u k) ≡ portWaiting u p
-  unfolding gets
   served-fewer = port-falls (treeOf (serving-way s .from)) u (tableAfter u k k) k k hk (turn u (serving-way s) k hk e)
 
 -- Serving a client goes on while it is ready, and then is done.

@@ -9,14 +9,15 @@ use lib.Dec.{eqb}
 use lib.ListN.{length, drop, length-append, length-drop}
 use lib.IntN.{ℤ, pos}
 use Rattle.numbers.proofs.Tests.{by-test, cond-true, cond-false}
-use Rattle.table.specs.Limits.{entryLength, firstPort, secondPort}
-use Rattle.table.specs.Places.{port, tag, size}
-use Rattle.table.specs.Tick.{State, dispatched, ofPort, portWaiting, listed, allWaiting}
-use Rattle.table.proofs.Ports.{whole, whole-of, port-none}
+use Rattle.definitions.specs.Limits.{entryLength, firstPort, secondPort}
+use Rattle.definitions.specs.Places.{port, tag, size}
+use Rattle.definitions.specs.Tick.{State, dispatched, ofPort, portWaiting, listed, allWaiting}
+use Rattle.definitions.proofs.Ports.{whole, whole-of, port-none}
 use Rattle.ticklaws.proofs.Ports.{entry-here, entry-other, entry-length}
 use Rattle.ticklaws.proofs.Dispatch.{dispatch-entry}
-use Rattle.dispatch.specs.declared.PortCounts.{PortCounts}
-use Rattle.dispatch.specs.Entries.{entered, tableAfter, gets, enteredOn, listAfter}
+use Rattle.table.specs.declared.PortCounts.{PortCounts}
+use Rattle.ticklaws.specs.Ports.{gets}
+use Rattle.dispatch.specs.Entries.{entered, tableAfter, enteredOn, listAfter}
 use Rattle.dispatch.proofs.Listed.{listed-entry, next-table}
 use Rattle.steps.specs.Steps.{Room, Lists, Shows, Follows}
 

@@ -5,16 +5,16 @@ use mathlib.Core.Bool.{true}
 use mathlib.Core.List.{List, []}
 use native.Mathlib.Omega.{arith}
 use lib.IntN.{ℤ}
-use Rattle.table.specs.Limits.{nodes, firstPort, secondPort}
-use Rattle.table.specs.Places.{port}
-use Rattle.table.specs.Order.{inOrder}
-use Rattle.table.specs.Tick.{grown, cut, servedAll, portWaiting, stepTwo, stepThree, ticked}
-use Rattle.table.proofs.Facts.{facts}
+use Rattle.definitions.specs.Limits.{nodes, firstPort, secondPort}
+use Rattle.definitions.specs.Places.{port}
+use Rattle.definitions.specs.Order.{inOrder}
+use Rattle.definitions.specs.Tick.{grown, cut, servedAll, portWaiting, stepTwo, stepThree, ticked}
+use Rattle.definitions.proofs.Facts.{facts}
 use Rattle.ticklaws.proofs.Frame.{OnlyBalances}
 use Rattle.ticklaws.proofs.Grown.{grown-swept}
 use Rattle.ticklaws.proofs.Cut.{cut-swept}
 use Rattle.ticklaws.proofs.Ports.{only-ports, only-port-waiting}
-use Rattle.dispatch.specs.declared.PortCounts.{PortCounts}
+use Rattle.table.specs.declared.PortCounts.{PortCounts}
 use Rattle.steps.specs.Steps.{Serving, grew, Lending, was-cut, Room, Lists, Shows, Follows, serving, lending}
 use Rattle.steps.proofs.Serving.{passed, serving-within}
 

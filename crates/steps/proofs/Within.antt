@@ -10,13 +10,13 @@ use lib.IntN.{ℤ}
 use Rattle.numbers.specs.Whole.{plus, minus, withinℤ}
 use Rattle.numbers.proofs.Tests.{by-test}
 use Rattle.numbers.proofs.Parts.{zarith, plus-pos, minus-pos}
-use Rattle.table.specs.Limits.{nodes, lastNode, parentAt, levelAt, depthAt, balanceAt, waitingAt, lastLevel, greatestDepth, mostWaiting}
-use Rattle.table.specs.Places.{place, rate, balance, waiting, port, size}
-use Rattle.table.specs.Tree.{treeOf, there}
-use Rattle.table.specs.Order.{inOrder}
-use Rattle.table.proofs.Facts.{InOrder, facts}
-use Rattle.table.proofs.Ports.{ports-small}
-use Rattle.table.proofs.Cost.{cost-bounds, most-cost}
+use Rattle.definitions.specs.Limits.{nodes, lastNode, parentAt, levelAt, depthAt, balanceAt, waitingAt, lastLevel, greatestDepth, mostWaiting}
+use Rattle.definitions.specs.Places.{place, rate, balance, waiting, port, size}
+use Rattle.definitions.specs.Tree.{treeOf, there}
+use Rattle.definitions.specs.Order.{inOrder}
+use Rattle.definitions.proofs.Facts.{InOrder, facts}
+use Rattle.definitions.proofs.Ports.{ports-small}
+use Rattle.definitions.proofs.Cost.{cost-bounds, most-cost}
 use Rattle.treelaws.proofs.Floors.{floor-of-node, levels, grounds, under-of}
 use Rattle.treelaws.proofs.Rounding.{rate-small}
 use Rattle.ticklaws.proofs.Frame.{frame-rate, frame-port}

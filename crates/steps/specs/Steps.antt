@@ -5,11 +5,11 @@ use mathlib.Core.Bool.{true}
 use mathlib.Core.List.{List}
 use lib.ListN.{length}
 use lib.IntN.{ℤ}
-use Rattle.table.specs.Limits.{nodes, entryLength, firstPort, secondPort}
-use Rattle.table.specs.Places.{port, waiting}
-use Rattle.table.specs.Order.{inOrder}
-use Rattle.table.specs.Tick.{State, grown, ready, served, cut, supplier, supplied, lent, allWaiting, ofPort, portWaiting, listed}
-use Rattle.dispatch.specs.declared.PortCounts.{PortCounts}
+use Rattle.definitions.specs.Limits.{nodes, entryLength, firstPort, secondPort}
+use Rattle.definitions.specs.Places.{port, waiting}
+use Rattle.definitions.specs.Order.{inOrder}
+use Rattle.definitions.specs.Tick.{State, grown, ready, served, cut, supplier, supplied, lent, allWaiting, ofPort, portWaiting, listed}
+use Rattle.table.specs.declared.PortCounts.{PortCounts}
 use Rattle.dispatch.specs.Entries.{tableAfter}
 
 -- A table in step 2: the balances of a table in order have grown, and requests of ready clients were dispatched.

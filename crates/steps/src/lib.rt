@@ -4,33 +4,15 @@ ghost use mathlib.Core.Bool.{true};
 ghost use mathlib.Core.List.{[]};
 ghost use Prim.Native.Nat.{_+_, _*_, _<_, _≤_};
 ghost use lib.ListN.{length};
-ghost use Rattle.table.specs.Limits.{nodes, entryLength, firstPort, secondPort};
-ghost use Rattle.table.specs.Places.{port};
-ghost use Rattle.table.specs.Order.{inOrder};
-ghost use Rattle.table.specs.Tick.{ready, servedAll, ticked, portEntries, listed, portWaiting};
+ghost use Rattle.definitions.specs.Limits.{nodes, entryLength, firstPort, secondPort};
+ghost use Rattle.definitions.specs.Places.{port};
+ghost use Rattle.definitions.specs.Order.{inOrder};
+ghost use Rattle.definitions.specs.Tick.{ready, servedAll, ticked, portEntries, listed, portWaiting};
 ghost use Rattle.balances.specs.Within.{Within};
 ghost use Rattle.steps.specs.Steps.{Serving, Lending, Room, Shows, Follows, serving, lending};
-use dispatch::PortCounts;
 use suppliers::Next;
+use table::PortCounts;
 use table::Table;
-
-// The waiting requests of each port's clients. A port is 0 or 1, so a node's requests times its port are those of the second.
-pub fn waiting_by_port(table: &[i64]) -> PortCounts
-    requires { ⌜ inOrder (now table) ≡ true ⌝ }
-    ensures { λ r. ⌜ (r .first ≡ portWaiting (now (table .entry)) firstPort) × (r .second ≡ portWaiting (now (table .entry)) secondPort) ⌝ }
-{
-    let mut all: u64 = 0;
-    let mut second: u64 = 0;
-    for k in 0..Table::NODES {
-        let waiting = Table::unsigned(table, k, Table::WAITING);
-        all += waiting;
-        second += waiting * Table::unsigned(table, k, Table::PORT);
-    }
-    PortCounts {
-        first: (all - second) as usize,
-        second: second as usize,
-    }
-}
 
 // Whether a request waits at client k that its own balance is enough for.
 fn ready(table: &[i64], k: usize) -> bool

@@ -7,7 +7,7 @@ use lib.Dec.{eqb}
 use lib.IntN.{ℤ}
 use borrow.Author.Tests.{eqb-true, eqb-false, eq-eqb, ne-eqb}
 use Rattle.numbers.proofs.Tests.{by-test, cond-true, cond-false}
-use Rattle.table.specs.Tick.{nobody, supplier, next}
+use Rattle.definitions.specs.Tick.{nobody, supplier, next}
 use Rattle.suppliers.specs.declared.Next.{Next}
 use Rattle.suppliers.specs.declared.Next.the-variants.{Client, Nothing}
 use Rattle.suppliers.specs.Next.{nextIn}

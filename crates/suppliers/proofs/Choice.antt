@@ -12,9 +12,9 @@ use borrow.Author.Tests.{lt-ltb, le-ltb, eq-eqb}
 use Rattle.numbers.specs.Tests.{every}
 use Rattle.numbers.proofs.Tests.{cond-true, cond-false, or-true-left}
 use Rattle.numbers.proofs.Every.{none-left, holds-with, head-fails, rest-fail}
-use Rattle.table.specs.Places.{waiting, arrival}
-use Rattle.table.specs.declared.Supply.the-variants as found
-use Rattle.table.specs.Tick.{nobody, isFound, nodeFound, stepsFound, supply, supplier, stepsAbove, supplied, better, goesBefore, choice}
+use Rattle.definitions.specs.Places.{waiting, arrival}
+use Rattle.definitions.specs.declared.Supply.the-variants as found
+use Rattle.definitions.specs.Tick.{nobody, isFound, nodeFound, stepsFound, supply, supplier, stepsAbove, supplied, better, goesBefore, choice}
 
 -- The best client so far, where there is one, with its supplier, steps and arrival number.
 pub record Held (t : List ℤ) (best s least lowest : ℕ) : Type 0 where

@@ -7,9 +7,9 @@ use mathlib.Core.List.{List}
 use native.Mathlib.Omega.{arith}
 use lib.IntN.{ℤ}
 use Rattle.numbers.proofs.Tests.{cond-true, cond-false}
-use Rattle.table.specs.Tree.{treeOf}
-use Rattle.table.specs.declared.Supply.the-variants.{Node, Nobody}
-use Rattle.table.specs.Tick.{enough, supplierFrom}
+use Rattle.definitions.specs.Tree.{treeOf}
+use Rattle.definitions.specs.declared.Supply.the-variants.{Node, Nobody}
+use Rattle.definitions.specs.Tick.{enough, supplierFrom}
 
 module _ (t : List ℤ) (amount steps : ℕ) where
   pub supplier-here : (l k : ℕ) → enough t amount k ≡ true → supplierFrom t amount steps l k ≡ Node k steps

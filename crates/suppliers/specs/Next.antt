@@ -3,7 +3,7 @@ use mathlib.Core.Bool.{cond}
 use mathlib.Core.List.{List}
 use lib.Dec.{eqb}
 use lib.IntN.{ℤ}
-use Rattle.table.specs.Tick.{nobody, supplier, next}
+use Rattle.definitions.specs.Tick.{nobody, supplier, next}
 use Rattle.suppliers.specs.declared.Next.{Next}
 use Rattle.suppliers.specs.declared.Next.the-variants.{Client, Nothing}
 

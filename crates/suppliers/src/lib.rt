@@ -4,11 +4,11 @@ ghost use mathlib.Core.Bool.{_||_};
 ghost use Prim.Native.Nat.{_<_, _^_};
 ghost use lib.ListN.{length};
 ghost use lib.Dec.{eqb};
-ghost use Rattle.table.specs.Limits.{tableLength, nodes};
-ghost use Rattle.table.specs.Tick.{enough, supply, nobody, better};
+ghost use Rattle.definitions.specs.Limits.{tableLength, nodes};
+ghost use Rattle.definitions.specs.Tick.{enough, supply, nobody, better};
 ghost use Rattle.balances.specs.Within.{Within};
 ghost use Rattle.suppliers.specs.Next.{nextIn};
-use table::Supply;
+use definitions::Supply;
 use table::Table;
 
 // What step 4 dispatches next: a client's oldest request from its supplier, or nothing.

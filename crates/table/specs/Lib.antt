@@ -1,12 +1,1 @@
-pub mod Limits
-pub mod Places
-pub mod Tree
-pub mod Rates
-pub mod Renewal
-pub mod Cost
-pub mod Order
-pub mod Refusals
-pub mod Calls
-pub mod Tick
-pub mod Choice
 pub mod Answers

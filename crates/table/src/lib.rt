@@ -6,11 +6,14 @@ ghost use lib.ListN.{length};
 ghost use lib.IntN.{pos};
 ghost use Rattle.numbers.specs.Whole.{plus, minus, withinℤ};
 ghost use Rattle.numbers.specs.Tests.{every};
-ghost use Rattle.table.specs.Limits.{tableLength, headerLength, recordLength, nodes, depthAt, greatestRate, shareLimit, portLimit, greatestDepth, grainScale};
-ghost use Rattle.table.specs.Places.{place, put, header, putHeader, count, depthGrains};
-ghost use Rattle.table.specs.Refusals.{lastRefusal, outcome, numberTold};
-ghost use Rattle.table.specs.Calls.{blank, opened, openRefusal, openTable, openAnswer};
+ghost use Rattle.definitions.specs.Limits.{tableLength, headerLength, recordLength, nodes, depthAt, greatestRate, shareLimit, portLimit, greatestDepth, grainScale};
+ghost use Rattle.definitions.specs.Places.{place, put, header, putHeader, count, depthGrains};
+ghost use Rattle.definitions.specs.Refusals.{lastRefusal, outcome, numberTold};
+ghost use Rattle.definitions.specs.Calls.{blank, opened, openLimits, openRefusal, openTable, openAnswer};
 ghost use Rattle.table.specs.Answers.{numberOf, told};
+
+pub mod queue;
+pub mod tree;
 
 // The causes of refusal, in the order of their numbers.
 pub enum Refusal {
@@ -32,6 +35,41 @@ pub enum Refusal {
     StatedWrong,
 }
 
+// Their numbers.
+impl Refusal {
+    pub const NOT_IN_ORDER: u64 = 1;
+
+    pub const OUTSIDE_LIMITS: u64 = 2;
+
+    pub const NOT_THERE: u64 = 3;
+
+    pub const IN_USE: u64 = 4;
+
+    pub const WRONG_NODE: u64 = 5;
+
+    pub const LEVEL_TOO_LOW: u64 = 6;
+
+    pub const SHARES_ABOVE: u64 = 7;
+
+    pub const DEPTH_ABOVE: u64 = 8;
+
+    pub const NOT_EMPTY: u64 = 9;
+
+    pub const IN_DEBT: u64 = 10;
+
+    pub const QUEUE_FULL: u64 = 11;
+
+    pub const COUNT_AT_END: u64 = 12;
+
+    pub const BUFFER_SHORT: u64 = 13;
+
+    pub const PLAN_WRONG: u64 = 14;
+
+    pub const PLAN_OUT_OF_ORDER: u64 = 15;
+
+    pub const STATED_WRONG: u64 = 16;
+}
+
 // What a call answers: its number, 0 where it has no other, or why it is refused.
 pub enum Answer {
     Accepted(i64),
@@ -42,6 +80,12 @@ pub enum Answer {
 pub enum Ticked {
     Dispatched { first: i64, second: i64 },
     Refused(Refusal),
+}
+
+// How many there are at the first port and at the second.
+pub struct PortCounts {
+    pub first: usize,
+    pub second: usize,
 }
 
 // What look answers.
@@ -62,22 +106,16 @@ pub enum Compared {
     Refused(Refusal),
 }
 
-// What a search for a supplier answers: a node and how many steps it is above the client, or nobody.
-pub enum Supply {
-    Node { node: usize, steps: usize },
-    Nobody,
-}
-
 pub struct Table {}
 
 impl Table {
-    pub const LENGTH: usize = 2568;
-
     pub const HEADER: usize = 8;
 
     pub const RECORD: usize = 40;
 
     pub const NODES: usize = 64;
+
+    pub const LENGTH: usize = Table::HEADER + Table::NODES * Table::RECORD;
 
     pub const LAST_NODE: u64 = 63;
 
@@ -124,9 +162,9 @@ impl Table {
 
     pub const QUEUE: usize = 16;
 
-    pub const QUEUE_LENGTH: usize = 24;
-
     pub const REQUEST: usize = 3;
+
+    pub const QUEUE_LENGTH: usize = Table::MOST_WAITING as usize * Table::REQUEST;
 
     pub const TAG: usize = 0;
 
@@ -291,7 +329,7 @@ impl Table {
 
     // Whether open's arguments are in their limits.
     fn open_limits(rate: i64, depth: i64) -> bool
-        ensures { λ r. ⌜ r ≡ every (withinℤ 1 greatestRate rate ∷ withinℤ 1 greatestDepth depth ∷ []) ⌝ }
+        ensures { λ r. ⌜ r ≡ openLimits rate depth ⌝ }
     {
         let rate_fits = numbers::within(rate, 1, Table::GREATEST_RATE);
         let depth_fits = numbers::within(depth, 1, Table::GREATEST_DEPTH);
@@ -304,10 +342,10 @@ impl Table {
         ensures small { λ r. ⌜ r ≤ lastRefusal ⌝ }
     {
         if table.len() != Table::LENGTH {
-            return 1;
+            return Refusal::NOT_IN_ORDER;
         }
         if !Table::open_limits(rate, depth) {
-            return 2;
+            return Refusal::OUTSIDE_LIMITS;
         }
         0
     }
@@ -333,21 +371,21 @@ pub fn refusal_of(number: u64) -> Refusal
     ensures { λ r. ⌜ numberOf r ≡ number ⌝ }
 {
     match number {
-        1 => Refusal::NotInOrder,
-        2 => Refusal::OutsideLimits,
-        3 => Refusal::NotThere,
-        4 => Refusal::InUse,
-        5 => Refusal::WrongNode,
-        6 => Refusal::LevelTooLow,
-        7 => Refusal::SharesAbove,
-        8 => Refusal::DepthAbove,
-        9 => Refusal::NotEmpty,
-        10 => Refusal::InDebt,
-        11 => Refusal::QueueFull,
-        12 => Refusal::CountAtEnd,
-        13 => Refusal::BufferShort,
-        14 => Refusal::PlanWrong,
-        15 => Refusal::PlanOutOfOrder,
+        Refusal::NOT_IN_ORDER => Refusal::NotInOrder,
+        Refusal::OUTSIDE_LIMITS => Refusal::OutsideLimits,
+        Refusal::NOT_THERE => Refusal::NotThere,
+        Refusal::IN_USE => Refusal::InUse,
+        Refusal::WRONG_NODE => Refusal::WrongNode,
+        Refusal::LEVEL_TOO_LOW => Refusal::LevelTooLow,
+        Refusal::SHARES_ABOVE => Refusal::SharesAbove,
+        Refusal::DEPTH_ABOVE => Refusal::DepthAbove,
+        Refusal::NOT_EMPTY => Refusal::NotEmpty,
+        Refusal::IN_DEBT => Refusal::InDebt,
+        Refusal::QUEUE_FULL => Refusal::QueueFull,
+        Refusal::COUNT_AT_END => Refusal::CountAtEnd,
+        Refusal::BUFFER_SHORT => Refusal::BufferShort,
+        Refusal::PLAN_WRONG => Refusal::PlanWrong,
+        Refusal::PLAN_OUT_OF_ORDER => Refusal::PlanOutOfOrder,
         _ => Refusal::StatedWrong,
     }
 }
@@ -370,22 +408,22 @@ pub fn number_of(why: Refusal) -> u64
     ensures small { λ r. ⌜ r ≤ lastRefusal ⌝ }
 {
     match why {
-        Refusal::NotInOrder => 1,
-        Refusal::OutsideLimits => 2,
-        Refusal::NotThere => 3,
-        Refusal::InUse => 4,
-        Refusal::WrongNode => 5,
-        Refusal::LevelTooLow => 6,
-        Refusal::SharesAbove => 7,
-        Refusal::DepthAbove => 8,
-        Refusal::NotEmpty => 9,
-        Refusal::InDebt => 10,
-        Refusal::QueueFull => 11,
-        Refusal::CountAtEnd => 12,
-        Refusal::BufferShort => 13,
-        Refusal::PlanWrong => 14,
-        Refusal::PlanOutOfOrder => 15,
-        Refusal::StatedWrong => 16,
+        Refusal::NotInOrder => Refusal::NOT_IN_ORDER,
+        Refusal::OutsideLimits => Refusal::OUTSIDE_LIMITS,
+        Refusal::NotThere => Refusal::NOT_THERE,
+        Refusal::InUse => Refusal::IN_USE,
+        Refusal::WrongNode => Refusal::WRONG_NODE,
+        Refusal::LevelTooLow => Refusal::LEVEL_TOO_LOW,
+        Refusal::SharesAbove => Refusal::SHARES_ABOVE,
+        Refusal::DepthAbove => Refusal::DEPTH_ABOVE,
+        Refusal::NotEmpty => Refusal::NOT_EMPTY,
+        Refusal::InDebt => Refusal::IN_DEBT,
+        Refusal::QueueFull => Refusal::QUEUE_FULL,
+        Refusal::CountAtEnd => Refusal::COUNT_AT_END,
+        Refusal::BufferShort => Refusal::BUFFER_SHORT,
+        Refusal::PlanWrong => Refusal::PLAN_WRONG,
+        Refusal::PlanOutOfOrder => Refusal::PLAN_OUT_OF_ORDER,
+        Refusal::StatedWrong => Refusal::STATED_WRONG,
     }
 }
 

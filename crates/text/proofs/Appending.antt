@@ -7,8 +7,8 @@ use native.Mathlib.Omega.{arith}
 use lib.ListN.{length, take, drop, set, getD, length-append}
 use lib.Seq.{length-take-le, take-suc, take-at}
 use Rattle.io.specs.Counts.{Counts}
-use Rattle.layout.specs.Written.{written}
-use Rattle.layout.proofs.Written.{written-one, written-more, written-none, written-front}
+use Rattle.planformat.specs.Written.{written}
+use Rattle.planformat.proofs.Written.{written-one, written-more, written-none, written-front}
 use Rattle.text.specs.Appended.{Appended}
 
 module _ (b : List ℕ) (a : ℕ) where

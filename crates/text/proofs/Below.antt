@@ -4,8 +4,8 @@ use mathlib.Core.Path.{_≡_, refl, sym}
 use mathlib.Core.List.{List}
 use native.Mathlib.Omega.{arith}
 use lib.ListN.{length, length-append}
-use Rattle.layout.specs.Bytes.{bytesBelow}
-use Rattle.layout.proofs.Shows.{bytes-next}
+use Rattle.planformat.specs.Bytes.{bytesBelow}
+use Rattle.planformat.proofs.Shows.{bytes-next}
 use Rattle.text.specs.Appended.{Appended}
 use Rattle.text.proofs.Appending.{append-as, append-more}
 

@@ -9,12 +9,12 @@ use lib.ListN.{length}
 use lib.IntN.{ℤ}
 use Rattle.numbers.proofs.Sums.{sum-bound}
 use Rattle.numbers.proofs.Tests.{or-false-left, or-false-right}
-use Rattle.table.specs.Limits.{nodes, mostWaiting, entryLength, firstPort, secondPort}
-use Rattle.table.specs.Places.{waiting}
-use Rattle.table.specs.Order.{inOrder}
-use Rattle.table.specs.Tick.{allWaiting, portWaiting, listShort, tickRefusal}
-use Rattle.table.proofs.Facts.{InOrder}
-use Rattle.table.proofs.Refusals.{none-first}
+use Rattle.definitions.specs.Limits.{nodes, mostWaiting, entryLength, firstPort, secondPort}
+use Rattle.definitions.specs.Places.{waiting}
+use Rattle.definitions.specs.Order.{inOrder}
+use Rattle.definitions.specs.Tick.{allWaiting, portWaiting, listShort, tickRefusal}
+use Rattle.definitions.proofs.Facts.{InOrder}
+use Rattle.definitions.proofs.Refusals.{none-first}
 use Rattle.ticklaws.proofs.Ports.{port-most}
 use Rattle.steps.proofs.Within.{waiting-few}
 

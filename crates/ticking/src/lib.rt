@@ -1,11 +1,34 @@
 // Tick: balances grow, and waiting requests go.
 ghost use mathlib.Core.Path.{_≡_};
+ghost use mathlib.Core.Bool.{true};
 ghost use Prim.Native.Nat.{_≤_};
-ghost use Rattle.table.specs.Refusals.{lastRefusal};
+ghost use Rattle.definitions.specs.Limits.{firstPort, secondPort};
+ghost use Rattle.definitions.specs.Order.{inOrder};
+ghost use Rattle.definitions.specs.Refusals.{lastRefusal};
 ghost use Rattle.table.specs.Answers.{toldTicked};
-ghost use Rattle.table.specs.Tick.{tickRefusal, tickTable, tickFirst, tickSecond, tickAnswer};
+ghost use Rattle.definitions.specs.Tick.{portWaiting, tickRefusal, tickTable, tickFirst, tickSecond, tickAnswer};
+use table::PortCounts;
+use table::Refusal;
 use table::Table;
 use table::Ticked;
+
+// The waiting requests of each port's clients. A port is 0 or 1, so a node's requests times its port are those of the second.
+fn waiting_by_port(table: &[i64]) -> PortCounts
+    requires { ⌜ inOrder (now table) ≡ true ⌝ }
+    ensures { λ r. ⌜ (r .first ≡ portWaiting (now (table .entry)) firstPort) × (r .second ≡ portWaiting (now (table .entry)) secondPort) ⌝ }
+{
+    let mut all: u64 = 0;
+    let mut second: u64 = 0;
+    for k in 0..Table::NODES {
+        let waiting = Table::unsigned(table, k, Table::WAITING);
+        all += waiting;
+        second += waiting * Table::unsigned(table, k, Table::PORT);
+    }
+    PortCounts {
+        first: (all - second) as usize,
+        second: second as usize,
+    }
+}
 
 // The number of the first cause that turns a tick back, or 0.
 fn tick_refusal(table: &[i64], first: &[i64], second: &[i64]) -> u64
@@ -13,14 +36,14 @@ fn tick_refusal(table: &[i64], first: &[i64], second: &[i64]) -> u64
     ensures small { λ r. ⌜ r ≤ lastRefusal ⌝ }
 {
     if !order::in_order(table) {
-        return 1;
+        return Refusal::NOT_IN_ORDER;
     }
-    let waiting = steps::waiting_by_port(table);
+    let waiting = waiting_by_port(table);
     if first.len() < Table::ENTRY * waiting.first {
-        return 13;
+        return Refusal::BUFFER_SHORT;
     }
     if second.len() < Table::ENTRY * waiting.second {
-        return 13;
+        return Refusal::BUFFER_SHORT;
     }
     0
 }

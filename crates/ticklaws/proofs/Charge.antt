@@ -13,11 +13,11 @@ use lib.Signed.{leZ}
 use Rattle.numbers.specs.Whole.{plus, minus}
 use Rattle.numbers.proofs.Tests.{true-false}
 use Rattle.numbers.proofs.Parts.{zarith, sub-parts, le-parts}
-use Rattle.table.specs.Limits.{tableLength, nodes, balanceAt}
-use Rattle.table.specs.Places.{place, balance}
-use Rattle.table.specs.Tree.{Tree, treeOf, sumUnder, onWay}
-use Rattle.table.specs.Tick.{lower, charge}
-use Rattle.table.proofs.Places.{place-put-same, place-put-node}
+use Rattle.definitions.specs.Limits.{tableLength, nodes, balanceAt}
+use Rattle.definitions.specs.Places.{place, balance}
+use Rattle.definitions.specs.Tree.{Tree, treeOf, sumUnder, onWay}
+use Rattle.definitions.specs.Tick.{lower, charge}
+use Rattle.definitions.proofs.Places.{place-put-same, place-put-node}
 use Rattle.treelaws.proofs.Children.{ChildOf}
 use Rattle.treelaws.proofs.Children.{under-falls, under-more}
 use Rattle.treelaws.proofs.Floors.{Room, Floor}

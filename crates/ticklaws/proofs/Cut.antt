@@ -12,11 +12,11 @@ use lib.Signed.{leZ}
 use Rattle.numbers.specs.Whole.{plus, minus}
 use Rattle.numbers.proofs.Tests.{by-test, cond-true, cond-false}
 use Rattle.numbers.proofs.Parts.{zarith, one-is-zero}
-use Rattle.table.specs.Limits.{tableLength, nodes, balanceAt, grainScale}
-use Rattle.table.specs.Places.{put, balance, depthGrains}
-use Rattle.table.specs.Tree.{Tree, treeOf}
-use Rattle.table.specs.Tick.{cut}
-use Rattle.table.proofs.Facts.{InOrder}
+use Rattle.definitions.specs.Limits.{tableLength, nodes, balanceAt, grainScale}
+use Rattle.definitions.specs.Places.{put, balance, depthGrains}
+use Rattle.definitions.specs.Tree.{Tree, treeOf}
+use Rattle.definitions.specs.Tick.{cut}
+use Rattle.definitions.proofs.Facts.{InOrder}
 use Rattle.treelaws.proofs.Children.{under-falls}
 use Rattle.treelaws.proofs.Floors.{children-under, Levels, levels, grounds, Room, Floor, Under}
 use Rattle.ticklaws.proofs.Frame.{only-frame, frame-depth, frame-grains}

@@ -14,11 +14,11 @@ use lib.Signed.{leZ}
 use Rattle.numbers.specs.Whole.{plus, minus}
 use Rattle.numbers.proofs.Tests.{by-test, true-false}
 use Rattle.numbers.proofs.Parts.{zarith, sub-parts, one-is-zero}
-use Rattle.table.specs.Limits.{tableLength, nodes, entryLength}
-use Rattle.table.specs.Places.{balance, count, waiting, size}
-use Rattle.table.specs.Tree.{Tree, treeOf, there, atOrAbove}
-use Rattle.table.specs.Tick.{State, grains, charge, takenOut, dispatched}
-use Rattle.table.proofs.Facts.{InOrder}
+use Rattle.definitions.specs.Limits.{tableLength, nodes, entryLength}
+use Rattle.definitions.specs.Places.{balance, count, waiting, size}
+use Rattle.definitions.specs.Tree.{Tree, treeOf, there, atOrAbove}
+use Rattle.definitions.specs.Tick.{State, grains, charge, takenOut, dispatched}
+use Rattle.definitions.proofs.Facts.{InOrder}
 use Rattle.treelaws.proofs.Floors.{Room, Floor, Under}
 use Rattle.treelaws.proofs.Way.{Ways, ways-of, At, above-there}
 use Rattle.ticklaws.proofs.Frame.{Frame, frame-trans, frame-tree, OnlyBalances, only-frame}

@@ -8,10 +8,10 @@ use native.Mathlib.Decide.{decLt, ℕ-discrete}
 use lib.ListN.{length}
 use lib.IntN.{ℤ}
 use Rattle.numbers.specs.Whole.{plus}
-use Rattle.table.specs.Limits.{headerLength, recordLength, depthAt, rateAt, balanceAt, waitingAt, portAt, queueAt, queueLength, grainScale}
-use Rattle.table.specs.Places.{place, put, header, count, rate, port, depthGrains}
-use Rattle.table.specs.Tree.{treeOf}
-use Rattle.table.proofs.Places.{length-put, header-put, place-put-place}
+use Rattle.definitions.specs.Limits.{headerLength, recordLength, depthAt, rateAt, balanceAt, waitingAt, portAt, queueAt, queueLength, grainScale}
+use Rattle.definitions.specs.Places.{place, put, header, count, rate, port, depthGrains}
+use Rattle.definitions.specs.Tree.{treeOf}
+use Rattle.definitions.proofs.Places.{length-put, header-put, place-put-place}
 use Rattle.treelaws.proofs.Renewed.{same-tree}
 
 -- The places of a record by what they hold: tree and rate, balance, waiting count, port and spare places, waiting places.

@@ -9,11 +9,11 @@ use lib.ListN.{length}
 use lib.IntN.{ℤ, pos, _+ℤ_}
 use Rattle.numbers.specs.Whole.{plus, minus}
 use Rattle.numbers.proofs.Parts.{zarith, add-parts, plus-pos}
-use Rattle.table.specs.Limits.{tableLength, nodes, rateAt, balanceAt}
-use Rattle.table.specs.Places.{put, rate, balance}
-use Rattle.table.specs.Tree.{Tree, treeOf, there, isClass, sumUnder}
-use Rattle.table.specs.Tick.{grown}
-use Rattle.table.proofs.Facts.{InOrder}
+use Rattle.definitions.specs.Limits.{tableLength, nodes, rateAt, balanceAt}
+use Rattle.definitions.specs.Places.{put, rate, balance}
+use Rattle.definitions.specs.Tree.{Tree, treeOf, there, isClass, sumUnder}
+use Rattle.definitions.specs.Tick.{grown}
+use Rattle.definitions.proofs.Facts.{InOrder}
 use Rattle.treelaws.proofs.Rounding.{fair-rates}
 use Rattle.treelaws.proofs.Children.{under-le, under-add}
 use Rattle.treelaws.proofs.Floors.{Floor}

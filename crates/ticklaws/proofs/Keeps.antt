@@ -5,11 +5,11 @@ use mathlib.Core.Bool.{true, false}
 use mathlib.Core.List.{List, []}
 use native.Mathlib.Omega.{arith}
 use lib.IntN.{ℤ}
-use Rattle.table.specs.Limits.{nodes}
-use Rattle.table.specs.Order.{inOrder}
-use Rattle.table.specs.Tick.{nobody, grown, ready, supplied, next, allWaiting, stepTwo, stepThree, ticked}
-use Rattle.table.proofs.Facts.{InOrder, facts, from-facts}
-use Rattle.table.proofs.Choice.{next-none}
+use Rattle.definitions.specs.Limits.{nodes}
+use Rattle.definitions.specs.Order.{inOrder}
+use Rattle.definitions.specs.Tick.{nobody, grown, ready, supplied, next, allWaiting, stepTwo, stepThree, ticked}
+use Rattle.definitions.proofs.Facts.{InOrder, facts, from-facts}
+use Rattle.definitions.proofs.Choice.{next-none}
 use Rattle.ticklaws.proofs.Reached.{Reached, in-order-again}
 use Rattle.ticklaws.proofs.Grown.{grown-reached}
 use Rattle.ticklaws.proofs.Cut.{cut-reached, cut-under}

@@ -7,12 +7,12 @@ use native.Mathlib.Omega.{arith}
 use lib.IntN.{ℤ}
 use Rattle.numbers.specs.Whole.{plus, minus}
 use Rattle.numbers.proofs.Parts.{zarith}
-use Rattle.table.specs.Limits.{nodes}
-use Rattle.table.specs.Places.{balance, waiting, size}
-use Rattle.table.specs.Tree.{treeOf, atOrAbove}
-use Rattle.table.specs.Order.{inOrder}
-use Rattle.table.specs.Tick.{grains, enough, ticked}
-use Rattle.table.proofs.Facts.{InOrder, facts}
+use Rattle.definitions.specs.Limits.{nodes}
+use Rattle.definitions.specs.Places.{balance, waiting, size}
+use Rattle.definitions.specs.Tree.{treeOf, atOrAbove}
+use Rattle.definitions.specs.Order.{inOrder}
+use Rattle.definitions.specs.Tick.{grains, enough, ticked}
+use Rattle.definitions.proofs.Facts.{InOrder, facts}
 use Rattle.ticklaws.specs.Laws.{TickLaws}
 use Rattle.ticklaws.proofs.Frame.{frame-tree}
 use Rattle.ticklaws.proofs.Supplier.{not-supplied}

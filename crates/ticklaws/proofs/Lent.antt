@@ -14,13 +14,13 @@ use Rattle.numbers.specs.Whole.{plus, minus}
 use Rattle.numbers.proofs.Tests.{by-test}
 use Rattle.numbers.proofs.Parts.{zarith}
 use Rattle.numbers.proofs.Sums.{sum-changed, term-le-sum}
-use Rattle.table.specs.Limits.{nodes}
-use Rattle.table.specs.Places.{balance, waiting, size}
-use Rattle.table.specs.Tree.{Tree, treeOf}
-use Rattle.table.specs.Tick.{nobody, State, grains, enough, dispatched, supplier, supplied, next, lent, allWaiting}
-use Rattle.table.specs.Choice.{HasSupplier}
-use Rattle.table.proofs.Facts.{InOrder}
-use Rattle.table.proofs.Choice.{has-supplier, next-found, none-next}
+use Rattle.definitions.specs.Limits.{nodes}
+use Rattle.definitions.specs.Places.{balance, waiting, size}
+use Rattle.definitions.specs.Tree.{Tree, treeOf}
+use Rattle.definitions.specs.Tick.{nobody, State, grains, enough, dispatched, supplier, supplied, next, lent, allWaiting}
+use Rattle.definitions.specs.Choice.{HasSupplier}
+use Rattle.definitions.proofs.Facts.{InOrder}
+use Rattle.definitions.proofs.Choice.{has-supplier, next-found, none-next}
 use Rattle.treelaws.proofs.Floors.{children-under, Levels, Room, Under, levels, grounds}
 use Rattle.treelaws.proofs.Way.{ways-of, At, above-there}
 use Rattle.ticklaws.proofs.Frame.{frame-tree}

@@ -13,13 +13,14 @@ use Rattle.numbers.specs.Whole.{plus}
 use Rattle.numbers.specs.Below.{sumBelow}
 use Rattle.numbers.proofs.Tests.{by-test, cond-true, cond-false}
 use Rattle.numbers.proofs.Sums.{sum-zero, sum-cong, sum-mono, sum-add, sum-changed}
-use Rattle.table.specs.Limits.{nodes, entryLength, firstPort, secondPort}
-use Rattle.table.specs.Places.{port, waiting, tag, size}
-use Rattle.table.specs.Tree.{Tree, treeOf, countIf}
-use Rattle.table.specs.Tick.{State, grown, cut, allWaiting, dispatched, stepTwo, stepThree, ticked, ofPort, portEntries, portWaiting}
-use Rattle.table.proofs.Facts.{InOrder}
-use Rattle.table.proofs.Ports.{ports-small, by-port, whole, whole-of, port-none, port-gets, port-stays, ports-all}
+use Rattle.definitions.specs.Limits.{nodes, entryLength, firstPort, secondPort}
+use Rattle.definitions.specs.Places.{port, waiting, tag, size}
+use Rattle.definitions.specs.Tree.{Tree, treeOf, countIf}
+use Rattle.definitions.specs.Tick.{State, grown, cut, allWaiting, dispatched, stepTwo, stepThree, ticked, ofPort, portEntries, portWaiting}
+use Rattle.definitions.proofs.Facts.{InOrder}
+use Rattle.definitions.proofs.Ports.{ports-small, by-port, whole, whole-of, port-none, port-gets, port-stays, ports-all}
 use Rattle.treelaws.proofs.Children.{counted, uncounted}
+use Rattle.ticklaws.specs.Ports.{gets}
 use Rattle.ticklaws.proofs.Frame.{OnlyBalances, only-frame, frame-port}
 use Rattle.ticklaws.proofs.Queues.{only-shifted}
 use Rattle.ticklaws.proofs.Reached.{reached-long}
@@ -79,8 +80,8 @@ pub only-port-waiting : (t u : List ℤ) (p : ℕ) → OnlyBalances t u → port
 only-port-waiting t u p only = same-waiting t u p (only-ports t u only) (λ k. omega (arith, only-shifted t u only k))
 
 -- A dispatch takes one request out at its client's port.
-pub port-falls : (tree : Tree) (t u : List ℤ) (k s : ℕ) → k < nodes → Dispatch tree t u k s → (p : ℕ) → portWaiting u p + cond (eqb (port t k) p) 1 0 ≡ portWaiting t p
-unfolding portWaiting
+pub port-falls : (tree : Tree) (t u : List ℤ) (k s : ℕ) → k < nodes → Dispatch tree t u k s → (p : ℕ) → portWaiting u p + gets p (port t k) ≡ portWaiting t p
+unfolding portWaiting gets
 port-falls tree t u k s hk d p =
     let at : ℕ → ℕ = λ j. countIf (eqb (port t j) p) (waiting t) j in
     let after : ℕ → ℕ = λ j. countIf (eqb (port u j) p) (waiting u) j in
@@ -115,7 +116,8 @@ module _ (portOf : ℕ → ℕ) (p : ℕ) (st : State) (k s : ℕ) (w : whole (s
   unfolding dispatched plus
   entry-other ne = port-stays portOf p _ _ _ _ (st .entries) w ne
 
-  pub entry-length : length (ofPort portOf p (dispatched st k s .entries)) ≡ length (ofPort portOf p (st .entries)) + entryLength * cond (eqb (portOf k) p) 1 0
+  pub entry-length : length (ofPort portOf p (dispatched st k s .entries)) ≡ length (ofPort portOf p (st .entries)) + entryLength * gets p (portOf k)
+  unfolding gets
   entry-length =
       by-test (eqb (portOf k) p)
       (λ e. omega (arith, ap length (entry-here (eqb-true _ p e)), length-append (ofPort portOf p (st .entries)) (pos k ∷ tag (st .table) k 0 ∷ pos (size (st .table) k 0) ∷ pos s ∷ []), cond-true {A = ℕ} (eqb (portOf k) p) 1 0 e))
@@ -136,7 +138,7 @@ one-counted portOf p n t st k s hk d c =
             c .sum,
             entry-length portOf p st k s (c .whole),
             port-falls (treeOf t) (st .table) (dispatched st k s .table) k s hk d p,
-            ap {B = ℕ} (λ (q : ℕ). cond (eqb q p) 1 0) (c .ports k),
+            ap (gets p) (c .ports k),
           );
     }
 

@@ -11,11 +11,11 @@ use lib.IntN.{ℤ, pos}
 use Rattle.numbers.specs.Whole.{plus, minus, withinℤ}
 use Rattle.numbers.proofs.Tests.{by-test, true-false}
 use Rattle.numbers.proofs.Parts.{zarith, plus-pos, one-is-zero}
-use Rattle.table.specs.Limits.{nodes, waitingAt, queueAt, queueLength, requestLength, sizeAt, arrivalAt, mostWaiting}
-use Rattle.table.specs.Places.{queuePlace, place, count, waiting, size, arrival}
-use Rattle.table.specs.Tree.{Tree, treeOf, there, isClient}
-use Rattle.table.specs.Cost.{sizeWithin}
-use Rattle.table.proofs.Facts.{InOrder}
+use Rattle.definitions.specs.Limits.{nodes, waitingAt, queueAt, queueLength, requestLength, sizeAt, arrivalAt, mostWaiting}
+use Rattle.definitions.specs.Places.{queuePlace, place, count, waiting, size, arrival}
+use Rattle.definitions.specs.Tree.{Tree, treeOf, there, isClient}
+use Rattle.definitions.specs.Cost.{sizeWithin}
+use Rattle.definitions.proofs.Facts.{InOrder}
 use Rattle.treelaws.proofs.Sorts.{by-sort}
 use Rattle.ticklaws.proofs.Frame.{OnlyBalances}
 

@@ -9,10 +9,10 @@ use lib.ListN.{length}
 use lib.IntN.{ℤ, pos}
 use Rattle.numbers.specs.Whole.{plus, minus}
 use Rattle.numbers.proofs.Parts.{zarith}
-use Rattle.table.specs.Limits.{tableLength, recordLength, nodes, sortAt, parentAt, levelAt, kindAt, shareAt, depthAt, rateAt, balanceAt, portAt, spareAt, root}
-use Rattle.table.specs.Places.{place, count, balance, waiting, depthGrains, arrival}
-use Rattle.table.specs.Tree.{Tree, treeOf, there, isClass}
-use Rattle.table.proofs.Facts.{InOrder, Limits, Root, Class, Balance, Request, stated-kept}
+use Rattle.definitions.specs.Limits.{tableLength, recordLength, nodes, sortAt, parentAt, levelAt, kindAt, shareAt, depthAt, rateAt, balanceAt, portAt, spareAt, root}
+use Rattle.definitions.specs.Places.{place, count, balance, waiting, depthGrains, arrival}
+use Rattle.definitions.specs.Tree.{Tree, treeOf, there, isClass}
+use Rattle.definitions.proofs.Facts.{InOrder, Limits, Root, Class, Balance, Request, stated-kept}
 use Rattle.treelaws.proofs.Floors.{Floor, Under, grounds, floor-of, room-balance}
 use Rattle.ticklaws.proofs.Frame.{by-place, Frame, OnlyBalances, only-frame, frame-refl, frame-trans, frame-tree, frame-rate, frame-count, frame-depth}
 use Rattle.treelaws.proofs.Sorts.{unused-client, class-client}

@@ -15,11 +15,11 @@ use Rattle.numbers.proofs.Every.{head-holds, rest-hold, holds-with, none-left}
 use Rattle.numbers.proofs.Parts.{zarith}
 use Rattle.numbers.proofs.All.{below-cases}
 use Rattle.numbers.proofs.Steps.{for-keeps, for-reaches}
-use Rattle.table.specs.Limits.{nodes}
-use Rattle.table.specs.Places.{balance, count, waiting, size}
-use Rattle.table.specs.Tree.{treeOf}
-use Rattle.table.specs.Tick.{State, grains, enough, dispatched, ready, served, servedAll}
-use Rattle.table.proofs.Facts.{InOrder}
+use Rattle.definitions.specs.Limits.{nodes}
+use Rattle.definitions.specs.Places.{balance, count, waiting, size}
+use Rattle.definitions.specs.Tree.{treeOf}
+use Rattle.definitions.specs.Tick.{State, grains, enough, dispatched, ready, served, servedAll}
+use Rattle.definitions.proofs.Facts.{InOrder}
 use Rattle.treelaws.proofs.Floors.{Room}
 use Rattle.treelaws.proofs.Sorts.{client-there, client-class}
 use Rattle.treelaws.proofs.Way.{At}

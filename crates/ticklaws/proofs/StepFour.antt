@@ -8,13 +8,13 @@ use native.Mathlib.Omega.{arith}
 use native.Mathlib.Decide.{ℕ-discrete}
 use lib.IntN.{ℤ}
 use Rattle.numbers.proofs.All.{by-order}
-use Rattle.table.specs.Limits.{nodes}
-use Rattle.table.specs.Places.{count, waiting, arrival}
-use Rattle.table.specs.Tree.{treeOf, isClient}
-use Rattle.table.specs.Order.{inOrder}
-use Rattle.table.specs.Tick.{nobody, State, dispatched, supplier, next, lent, stepThree}
-use Rattle.table.proofs.Facts.{InOrder, facts, from-facts}
-use Rattle.table.proofs.Choice.{next-none, next-goes, any-order}
+use Rattle.definitions.specs.Limits.{nodes}
+use Rattle.definitions.specs.Places.{count, waiting, arrival}
+use Rattle.definitions.specs.Tree.{treeOf, isClient}
+use Rattle.definitions.specs.Order.{inOrder}
+use Rattle.definitions.specs.Tick.{nobody, State, dispatched, supplier, next, lent, stepThree}
+use Rattle.definitions.proofs.Facts.{InOrder, facts, from-facts}
+use Rattle.definitions.proofs.Choice.{next-none, next-goes, any-order}
 use Rattle.ticklaws.specs.StepFour.{Choices, StepFour}
 use Rattle.ticklaws.proofs.Reached.{reached-first, in-order-again}
 use Rattle.ticklaws.proofs.Queues.{waiting-client}

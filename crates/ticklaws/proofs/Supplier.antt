@@ -7,10 +7,10 @@ use borrow.Author.Tests.{lt-ltb}
 use lib.IntN.{ℤ}
 use Rattle.numbers.proofs.Tests.{by-test, true-false}
 use Rattle.numbers.proofs.Every.{holds-with, none-left}
-use Rattle.table.specs.Places.{waiting, size}
-use Rattle.table.specs.Tree.{treeOf, onWay, atOrAbove}
-use Rattle.table.specs.Tick.{grains, enough, supplierFrom, supply, isFound, supplier, stepsAbove, supplied}
-use Rattle.table.specs.Choice.{HasSupplier}
+use Rattle.definitions.specs.Places.{waiting, size}
+use Rattle.definitions.specs.Tree.{treeOf, onWay, atOrAbove}
+use Rattle.definitions.specs.Tick.{grains, enough, supplierFrom, supply, isFound, supplier, stepsAbove, supplied}
+use Rattle.definitions.specs.Choice.{HasSupplier}
 use Rattle.treelaws.proofs.Way.{way-top, way-cases, way-above}
 
 pub supplier-way : (t : List ℤ) (k : ℕ) → HasSupplier t k → atOrAbove (treeOf t) k (supplier t k) ≡ true

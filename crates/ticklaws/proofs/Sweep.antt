@@ -9,9 +9,9 @@ use lib.IntN.{ℤ}
 use Rattle.numbers.specs.Below.{forBelow}
 use Rattle.numbers.proofs.All.{below-cases}
 use Rattle.numbers.proofs.Steps.{for-reaches}
-use Rattle.table.specs.Limits.{tableLength, nodes, balanceAt}
-use Rattle.table.specs.Places.{put, balance}
-use Rattle.table.proofs.Places.{place-put-same, place-put-node}
+use Rattle.definitions.specs.Limits.{tableLength, nodes, balanceAt}
+use Rattle.definitions.specs.Places.{put, balance}
+use Rattle.definitions.proofs.Places.{place-put-same, place-put-node}
 use Rattle.ticklaws.proofs.Frame.{OnlyBalances, only-refl, only-put, only-trans}
 
 -- Node k's balance is now z, and nothing else has changed.

@@ -12,10 +12,10 @@ use Rattle.numbers.specs.Below.{forBelow}
 use Rattle.numbers.proofs.Parts.{plus-pos, minus-pos}
 use Rattle.numbers.proofs.All.{below-cases}
 use Rattle.numbers.proofs.Steps.{for-reaches}
-use Rattle.table.specs.Limits.{tableLength, headerLength, recordLength, nodes, balanceAt, waitingAt, queueAt, queueLength, requestLength}
-use Rattle.table.specs.Places.{place, put, header, balance, waiting}
-use Rattle.table.specs.Tick.{takenOut}
-use Rattle.table.proofs.Places.{length-put, header-put, place-put-same, place-put-node, place-put-place}
+use Rattle.definitions.specs.Limits.{tableLength, headerLength, recordLength, nodes, balanceAt, waitingAt, queueAt, queueLength, requestLength}
+use Rattle.definitions.specs.Places.{place, put, header, balance, waiting}
+use Rattle.definitions.specs.Tick.{takenOut}
+use Rattle.definitions.proofs.Places.{length-put, header-put, place-put-same, place-put-node, place-put-place}
 use Rattle.ticklaws.proofs.Frame.{Frame}
 use Rattle.ticklaws.proofs.Queues.{Shifted, same-shifted}
 

@@ -6,11 +6,11 @@ use mathlib.Core.List.{List}
 use lib.ListN.{length}
 use lib.IntN.{ℤ}
 use Rattle.numbers.specs.Whole.{plus, minus}
-use Rattle.table.specs.Limits.{nodes, firstPort, secondPort, entryLength}
-use Rattle.table.specs.Places.{balance, waiting, size}
-use Rattle.table.specs.Tree.{treeOf, atOrAbove}
-use Rattle.table.specs.Order.{inOrder}
-use Rattle.table.specs.Tick.{grains, allWaiting, ticked, portEntries, portWaiting}
+use Rattle.definitions.specs.Limits.{nodes, firstPort, secondPort, entryLength}
+use Rattle.definitions.specs.Places.{balance, waiting, size}
+use Rattle.definitions.specs.Tree.{treeOf, atOrAbove}
+use Rattle.definitions.specs.Order.{inOrder}
+use Rattle.definitions.specs.Tick.{grains, allWaiting, ticked, portEntries, portWaiting}
 
 pub record TickLaws (t : List ℤ) : Type 0 where
   -- The table is in order again.

@@ -5,11 +5,11 @@ use mathlib.Core.Bool.{true, false}
 use mathlib.Core.List.{List}
 use lib.IntN.{ℤ}
 use Rattle.numbers.specs.Below.{forBelow}
-use Rattle.table.specs.Limits.{nodes}
-use Rattle.table.specs.Places.{waiting, arrival}
-use Rattle.table.specs.Order.{inOrder}
-use Rattle.table.specs.Tick.{nobody, State, dispatched, supplier, supplied, choice, next, lent, stepThree}
-use Rattle.table.specs.Choice.{GoesNext, SeenIn}
+use Rattle.definitions.specs.Limits.{nodes}
+use Rattle.definitions.specs.Places.{waiting, arrival}
+use Rattle.definitions.specs.Order.{inOrder}
+use Rattle.definitions.specs.Tick.{nobody, State, dispatched, supplier, supplied, choice, next, lent, stepThree}
+use Rattle.definitions.specs.Choice.{GoesNext, SeenIn}
 
 pub record Choices (t : List ℤ) : Type 0 where
   -- The next client's oldest request goes next, and no request of that client arrived before it.

@@ -16,12 +16,12 @@ use Rattle.numbers.specs.Whole.{plus}
 use Rattle.numbers.proofs.Tests.{by-test, same-truth, true-false, or-cases, or-true-left, or-true-right}
 use Rattle.numbers.proofs.Every.{head-holds, rest-hold, holds-with, none-left}
 use Rattle.numbers.proofs.Parts.{plus-pos}
-use Rattle.table.specs.Limits.{tableLength, headerLength, recordLength, nodes, rateAt, root}
-use Rattle.table.specs.Places.{place, header, rate}
-use Rattle.table.specs.Tree.{Tree, treeOf, there, onWay, atOrAbove}
-use Rattle.table.specs.Rates.{childRate, rateAtLevel, rateIn, renewed}
-use Rattle.table.specs.Renewal.{below, rateBelow, renewedBelow}
-use Rattle.table.proofs.Places.{same-places}
+use Rattle.definitions.specs.Limits.{tableLength, headerLength, recordLength, nodes, rateAt, root}
+use Rattle.definitions.specs.Places.{place, header, rate}
+use Rattle.definitions.specs.Tree.{Tree, treeOf, there, onWay, atOrAbove}
+use Rattle.definitions.specs.Rates.{childRate, rateAtLevel, rateIn, renewed}
+use Rattle.definitions.specs.Renewal.{below, rateBelow, renewedBelow}
+use Rattle.definitions.proofs.Places.{same-places}
 use Rattle.treelaws.specs.Renewal.{RenewedBelow}
 use Rattle.treelaws.proofs.Renewed.{Written, written, renewed-length, renewed-header, renewed-place, renewed-rate, renewed-unused, rate-at-root}
 use Rattle.treelaws.proofs.Rounding.{rate-of-child}

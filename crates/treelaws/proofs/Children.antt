@@ -15,10 +15,10 @@ use Rattle.numbers.proofs.Every.{head-holds, rest-hold, none-left, holds-with}
 use Rattle.numbers.proofs.Parts.{le-parts, plus-pos, minus-pos}
 use Rattle.numbers.proofs.All.{below-cases, all-at}
 use Rattle.numbers.proofs.Sums.{sum-mono, sum-add, sum-scale, sum-cong, sumℤ-parts, term-le-sum}
-use Rattle.table.specs.Limits.{nodes, class}
-use Rattle.table.specs.Tree.{Tree, treeOf, there, isClass, childOf, childless, countIf, sumUnder}
-use Rattle.table.specs.Places.{balance}
-use Rattle.table.specs.Order.{childBalance, childBalances}
+use Rattle.definitions.specs.Limits.{nodes, class}
+use Rattle.definitions.specs.Tree.{Tree, treeOf, there, isClass, childOf, childless, countIf, sumUnder}
+use Rattle.definitions.specs.Places.{balance}
+use Rattle.definitions.specs.Order.{childBalance, childBalances}
 
 -- What a child is: it is there, it is not the root, and its parent is the class.
 pub record ChildOf (tree : Tree) (c k : ℕ) : Type 0 where

@@ -11,10 +11,10 @@ use lib.IntN.{ℤ, pos}
 use Rattle.numbers.specs.Whole.{plus, minus}
 use Rattle.numbers.proofs.Tests.{by-test}
 use Rattle.numbers.proofs.Parts.{zarith, add-parts, one-is-zero}
-use Rattle.table.specs.Limits.{nodes, lastClassLevel, lastLevel, grainScale, entryLength}
-use Rattle.table.specs.Places.{balance, depthGrains}
-use Rattle.table.specs.Tree.{Tree, treeOf, there, isClass, sumUnder}
-use Rattle.table.proofs.Facts.{InOrder, Child, Class, Balance}
+use Rattle.definitions.specs.Limits.{nodes, lastClassLevel, lastLevel, grainScale, entryLength}
+use Rattle.definitions.specs.Places.{balance, depthGrains}
+use Rattle.definitions.specs.Tree.{Tree, treeOf, there, isClass, sumUnder}
+use Rattle.definitions.proofs.Facts.{InOrder, Child, Class, Balance}
 use Rattle.treelaws.proofs.Children.{ChildOf, class-there, under-le, under-scale, balances-parts}
 
 -- What the floor needs of a tree.

@@ -11,16 +11,16 @@ use lib.ListN.{length}
 use lib.IntN.{ℤ, pos}
 use Rattle.numbers.specs.Whole.{plus}
 use Rattle.numbers.proofs.Parts.{plus-pos, zarith}
-use Rattle.table.specs.Limits.{tableLength, headerLength, recordLength, nodes, sortAt, levelAt, rateAt, portAt, root}
-use Rattle.table.specs.Places.{place, header, rate}
-use Rattle.table.specs.Tree.{treeOf, there}
-use Rattle.table.specs.Rates.{rateIn, renewed}
-use Rattle.table.specs.Calls.{joinTable}
+use Rattle.definitions.specs.Limits.{tableLength, headerLength, recordLength, nodes, sortAt, levelAt, rateAt, portAt, root}
+use Rattle.definitions.specs.Places.{place, header, rate}
+use Rattle.definitions.specs.Tree.{treeOf, there}
+use Rattle.definitions.specs.Rates.{rateIn, renewed}
+use Rattle.definitions.specs.Calls.{joinTable}
 use Rattle.treelaws.specs.Joins.{Join, refusalOf, afterJoin, joinedBy}
-use Rattle.table.proofs.Facts.{facts}
-use Rattle.table.proofs.Refusals.{kept-new}
-use Rattle.table.proofs.Edits.{joinedPlace, joined-edit, joined-rest}
-use Rattle.table.proofs.Passed.{JoinPassed, join-passed}
+use Rattle.definitions.proofs.Facts.{facts}
+use Rattle.definitions.proofs.Refusals.{kept-new}
+use Rattle.definitions.proofs.Edits.{joinedPlace, joined-edit, joined-rest}
+use Rattle.definitions.proofs.Passed.{JoinPassed, join-passed}
 use Rattle.treelaws.proofs.Renewed.{renewed-length, renewed-header, renewed-place, renewed-unused, renewed-tree, renewed-disk, renewed-rates}
 
 -- What join j has passed where it is accepted.

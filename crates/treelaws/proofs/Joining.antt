@@ -13,12 +13,12 @@ use lib.IntN.{ℤ, pos}
 use Rattle.numbers.specs.Whole.{plus}
 use Rattle.numbers.proofs.Tests.{by-test, true-false}
 use Rattle.numbers.proofs.Parts.{plus-pos}
-use Rattle.table.specs.Limits.{tableLength, headerLength, recordLength, nodes, sortAt, levelAt, rateAt, portAt, root}
-use Rattle.table.specs.Places.{place, header, rate}
-use Rattle.table.specs.Tree.{treeOf, there}
-use Rattle.table.specs.Rates.{rateIn}
-use Rattle.table.proofs.Places.{same-places}
-use Rattle.table.proofs.Facts.{InOrder, facts}
+use Rattle.definitions.specs.Limits.{tableLength, headerLength, recordLength, nodes, sortAt, levelAt, rateAt, portAt, root}
+use Rattle.definitions.specs.Places.{place, header, rate}
+use Rattle.definitions.specs.Tree.{treeOf, there}
+use Rattle.definitions.specs.Rates.{rateIn}
+use Rattle.definitions.proofs.Places.{same-places}
+use Rattle.definitions.proofs.Facts.{InOrder, facts}
 use Rattle.treelaws.specs.Joins.{Join, refusalOf, afterJoin, afterJoins, AllAccepted, none, next}
 use Rattle.treelaws.proofs.Renewed.{same-tree}
 use Rattle.treelaws.proofs.Joined.{JoinAccepted, join-accepted, Given, of-tree, of-port, givenBy, same-there, level-by-place, JoinLeaves, join-leaves}

@@ -13,15 +13,15 @@ use lib.Signed.{leZ}
 use Rattle.numbers.specs.Whole.{plus, minus}
 use Rattle.numbers.proofs.Tests.{by-test, cond-true}
 use Rattle.numbers.proofs.Parts.{one-is-zero, plus-pos, minus-pos, eq-parts, add-parts, zarith}
-use Rattle.table.specs.Limits.{nodes, weighted as weightedKind, wholeShare}
-use Rattle.table.specs.Places.{rate}
-use Rattle.table.specs.Tree.{treeOf, isClass, childOf, sumUnder}
-use Rattle.table.specs.Rates.{kindShare, kindSum, fixedSum, weightSum, fixedRate, leftRate, weightedRate, unstatedRate}
-use Rattle.table.specs.Calls.{lostGrains}
-use Rattle.table.proofs.Facts.{InOrder}
-use Rattle.table.proofs.Rates.{fixed-rounded, left-rounded, weighted-rounded}
-use Rattle.table.proofs.Look.{class-rate, client-loses}
-use Rattle.table.proofs.ShareKinds.{stated-kind, other-share}
+use Rattle.definitions.specs.Limits.{nodes, weighted as weightedKind, wholeShare}
+use Rattle.definitions.specs.Places.{rate}
+use Rattle.definitions.specs.Tree.{treeOf, isClass, childOf, sumUnder}
+use Rattle.definitions.specs.Rates.{kindShare, kindSum, fixedSum, weightSum, fixedRate, leftRate, weightedRate, unstatedRate}
+use Rattle.definitions.specs.Calls.{lostGrains}
+use Rattle.definitions.proofs.Facts.{InOrder}
+use Rattle.definitions.proofs.Rates.{fixed-rounded, left-rounded, weighted-rounded}
+use Rattle.definitions.proofs.Look.{class-rate, client-loses}
+use Rattle.definitions.proofs.ShareKinds.{stated-kind, other-share}
 use Rattle.treelaws.specs.Shares.{Share, fixed, weighted, stated, fixedPart, weightPart, statedPart, dividedPart, sumOf, shareRate, restOf, ratesOf}
 use Rattle.treelaws.specs.Lost.{Lost, dividedCount, unstatedOf, leftOf, NoneWeighted, AllStated}
 use Rattle.treelaws.proofs.Children.{child-facts, child-of, class-there, no-children, under-zero}

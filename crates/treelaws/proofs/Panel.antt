@@ -12,12 +12,12 @@ use Rattle.numbers.specs.Below.{sumBelow, sumℤBelow}
 use Rattle.numbers.proofs.Tests.{by-test, true-false}
 use Rattle.numbers.proofs.Parts.{one-is-zero, plus-pos, minus-pos, add-parts, zarith}
 use Rattle.numbers.proofs.Sums.{sum-cong, sum-add, sum-swap, sum-zero, sum-changed, sumℤ-parts}
-use Rattle.table.specs.Limits.{nodes, root}
-use Rattle.table.specs.Places.{rate}
-use Rattle.table.specs.Tree.{treeOf, there, isClass, isClient, childOf, countIf, sumUnder}
-use Rattle.table.specs.Calls.{lostGrains}
-use Rattle.table.proofs.Facts.{InOrder, root-there}
-use Rattle.table.proofs.Look.{client-loses}
+use Rattle.definitions.specs.Limits.{nodes, root}
+use Rattle.definitions.specs.Places.{rate}
+use Rattle.definitions.specs.Tree.{treeOf, there, isClass, isClient, childOf, countIf, sumUnder}
+use Rattle.definitions.specs.Calls.{lostGrains}
+use Rattle.definitions.proofs.Facts.{InOrder, root-there}
+use Rattle.definitions.proofs.Look.{client-loses}
 use Rattle.treelaws.specs.Lost.{WholeDisk}
 use Rattle.treelaws.proofs.Sorts.{unused-client, class-client, client-class, client-there, by-sort}
 use Rattle.treelaws.proofs.Children.{child-facts, child-of, class-there, counted, uncounted, under-zero}

@@ -14,11 +14,11 @@ use Rattle.numbers.proofs.Tests.{by-test, true-false, cond-true, cond-false}
 use Rattle.numbers.proofs.Parts.{plus-pos}
 use Rattle.numbers.proofs.All.{below-cases}
 use Rattle.numbers.proofs.Steps.{for-reaches}
-use Rattle.table.specs.Limits.{tableLength, headerLength, recordLength, nodes, sortAt, parentAt, levelAt, kindAt, shareAt, depthAt, rateAt, root}
-use Rattle.table.specs.Places.{place, put, header, rate}
-use Rattle.table.specs.Tree.{Tree, treeOf, there}
-use Rattle.table.specs.Rates.{rateAtLevel, rateIn, writeRates, renewed}
-use Rattle.table.proofs.Places.{length-put, header-put, place-put-same, place-put-node, place-put-place, same-places}
+use Rattle.definitions.specs.Limits.{tableLength, headerLength, recordLength, nodes, sortAt, parentAt, levelAt, kindAt, shareAt, depthAt, rateAt, root}
+use Rattle.definitions.specs.Places.{place, put, header, rate}
+use Rattle.definitions.specs.Tree.{Tree, treeOf, there}
+use Rattle.definitions.specs.Rates.{rateAtLevel, rateIn, writeRates, renewed}
+use Rattle.definitions.proofs.Places.{length-put, header-put, place-put-same, place-put-node, place-put-place, same-places}
 
 -- The table u is t with the rate r k written for each node k below n that is chosen.
 pub record Written (chosen : ℕ → Bool) (r : ℕ → ℕ) (t : List ℤ) (n : ℕ) (u : List ℤ) : Type 0 where

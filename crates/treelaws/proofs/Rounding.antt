@@ -15,12 +15,12 @@ use Rattle.numbers.specs.Whole.{plus, minus}
 use Rattle.numbers.specs.Below.{sumBelow}
 use Rattle.numbers.proofs.Tests.{by-test, cond-true, cond-false}
 use Rattle.numbers.proofs.Parts.{plus-pos, minus-pos, zarith}
-use Rattle.table.specs.Limits.{nodes, root, kindAt, rateAt, fixed as fixedKind, weighted as weightedKind, stated as statedKind, wholeShare, greatestRate, shareLimit}
-use Rattle.table.specs.Tree.{Tree, treeOf, there, isClass, isFixed, isStated, childOf, countIf, sumUnder}
-use Rattle.table.specs.Places.{place, rate}
-use Rattle.table.specs.Rates.{kindShare, kindSum, fixedSum, weightSum, statedSum, fixedRate, leftRate, weightedRate, dividedRate, unstatedRate, childRate, rateAtLevel, rateIn}
-use Rattle.table.proofs.Facts.{InOrder}
-use Rattle.table.proofs.ShareKinds.{stated-kind, unstated-kind, fixed-kind, weighted-kind, own-share, other-share, unstated-share}
+use Rattle.definitions.specs.Limits.{nodes, root, kindAt, rateAt, fixed as fixedKind, weighted as weightedKind, stated as statedKind, wholeShare, greatestRate, shareLimit}
+use Rattle.definitions.specs.Tree.{Tree, treeOf, there, isClass, isFixed, isStated, childOf, countIf, sumUnder}
+use Rattle.definitions.specs.Places.{place, rate}
+use Rattle.definitions.specs.Rates.{kindShare, kindSum, fixedSum, weightSum, statedSum, fixedRate, leftRate, weightedRate, dividedRate, unstatedRate, childRate, rateAtLevel, rateIn}
+use Rattle.definitions.proofs.Facts.{InOrder}
+use Rattle.definitions.proofs.ShareKinds.{stated-kind, unstated-kind, fixed-kind, weighted-kind, own-share, other-share, unstated-share}
 use Rattle.treelaws.proofs.Children.{class-there, child-facts, child-of, child-le-sum, under-cong, under-zero}
 use Rattle.treelaws.specs.Shares.{Share, fixed, weighted, stated, fixedPart, weightPart, statedPart, dividedPart, sumOf, shareRate, restOf, ratesOf}
 use Rattle.treelaws.specs.Lost.{dividedCount}

@@ -9,9 +9,9 @@ use lib.Dec.{eqb}
 use lib.IntN.{ℤ}
 use Rattle.numbers.proofs.Tests.{by-test}
 use Rattle.numbers.proofs.Parts.{zarith}
-use Rattle.table.specs.Limits.{nodes, class, client}
-use Rattle.table.specs.Tree.{Tree, treeOf, there, isClass, isClient}
-use Rattle.table.proofs.Facts.{InOrder}
+use Rattle.definitions.specs.Limits.{nodes, class, client}
+use Rattle.definitions.specs.Tree.{Tree, treeOf, there, isClass, isClient}
+use Rattle.definitions.proofs.Facts.{InOrder}
 
 pub unused-client : (tree : Tree) (k : ℕ) → there tree k ≡ false → isClient tree k ≡ false
 unfolding there isClient

@@ -13,9 +13,9 @@ use lib.IntN.{ℤ}
 use Rattle.numbers.specs.Whole.{plus}
 use Rattle.numbers.proofs.Tests.{by-test, or-cases, or-true-left, or-true-right}
 use Rattle.numbers.proofs.Parts.{zarith, plus-pos}
-use Rattle.table.specs.Limits.{nodes, root}
-use Rattle.table.specs.Tree.{Tree, treeOf, there, isClass, onWay, atOrAbove, nodeAbove}
-use Rattle.table.proofs.Facts.{InOrder, Child}
+use Rattle.definitions.specs.Limits.{nodes, root}
+use Rattle.definitions.specs.Tree.{Tree, treeOf, there, isClass, onWay, atOrAbove, nodeAbove}
+use Rattle.definitions.proofs.Facts.{InOrder, Child}
 use Rattle.treelaws.proofs.Children.{class-there}
 
 pub record Ways (tree : Tree) : Type 0 where

@@ -1,10 +1,11 @@
 -- Joins in turn: the arguments of a join, the table after a list of joins, and that all of them are accepted.
 use Prim.Native.Nat.{ℕ}
 use mathlib.Core.Path.{_≡_}
+use mathlib.Core.Bool.{Bool}
 use mathlib.Core.List.{List, [], _∷_}
 use lib.IntN.{ℤ}
 use Rattle.numbers.specs.Whole.{plus}
-use Rattle.table.specs.Calls.{joined, joinRefusal, joinTable}
+use Rattle.definitions.specs.Calls.{joined, joinLimits, joinRefusal, joinTable}
 
 -- The arguments of a join, any whole numbers.
 pub record Join : Type 0 where
@@ -15,6 +16,10 @@ pub record Join : Type 0 where
   pub share : ℤ
   pub depth : ℤ
   pub port : ℤ
+
+-- Whether they are within their limits.
+unfoldable pub limitsOf : Join → Bool
+limitsOf j = joinLimits (j .node) (j .parent) (j .sort) (j .kind) (j .share) (j .depth) (j .port)
 
 -- The refusal of join j at table t, and the table after it.
 unfoldable pub refusalOf : List ℤ → Join → ℕ

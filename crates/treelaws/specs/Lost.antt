@@ -6,11 +6,11 @@ use mathlib.Core.List.{List}
 use lib.IntN.{ℤ, pos, _+ℤ_}
 use lib.Signed.{leZ, ltZ}
 use Rattle.numbers.specs.Below.{sumBelow, sumℤBelow}
-use Rattle.table.specs.Limits.{nodes, root, rateAt, weighted, wholeShare}
-use Rattle.table.specs.Places.{place, rate}
-use Rattle.table.specs.Tree.{Tree, treeOf, isClient, isStated, childOf, childless, countIf, sumUnder}
-use Rattle.table.specs.Rates.{fixedSum, statedSum, leftRate, unstatedRate}
-use Rattle.table.specs.Calls.{lostGrains}
+use Rattle.definitions.specs.Limits.{nodes, root, rateAt, weighted, wholeShare}
+use Rattle.definitions.specs.Places.{place, rate}
+use Rattle.definitions.specs.Tree.{Tree, treeOf, isClient, isStated, childOf, childless, countIf, sumUnder}
+use Rattle.definitions.specs.Rates.{fixedSum, statedSum, leftRate, unstatedRate}
+use Rattle.definitions.specs.Calls.{lostGrains}
 
 -- The number of class c's fixed and weighted children.
 unfoldable pub dividedCount : Tree → ℕ → ℕ

@@ -5,11 +5,11 @@ use mathlib.Core.Bool.{true, false}
 use mathlib.Core.List.{List}
 use lib.ListN.{length}
 use lib.IntN.{ℤ, pos}
-use Rattle.table.specs.Limits.{headerLength, recordLength, nodes, rateAt, greatestRate}
-use Rattle.table.specs.Places.{place, header, rate}
-use Rattle.table.specs.Tree.{treeOf, there}
-use Rattle.table.specs.Rates.{childRate, renewed}
-use Rattle.table.specs.Renewal.{below, renewedBelow}
+use Rattle.definitions.specs.Limits.{headerLength, recordLength, nodes, rateAt, greatestRate}
+use Rattle.definitions.specs.Places.{place, header, rate}
+use Rattle.definitions.specs.Tree.{treeOf, there}
+use Rattle.definitions.specs.Rates.{childRate, renewed}
+use Rattle.definitions.specs.Renewal.{below, renewedBelow}
 
 -- Table u is t renewed below class c, whatever rates stand in t.
 pub record RenewedBelow (t : List ℤ) (c : ℕ) (u : List ℤ) : Type 0 where

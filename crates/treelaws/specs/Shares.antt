@@ -2,7 +2,7 @@
 -- lost grains.
 use Prim.Native.Nat.{ℕ, _+_}
 use mathlib.Core.List.{List, [], _∷_}
-use Rattle.table.specs.Rates.{fixedRate, leftRate, weightedRate, unstatedRate}
+use Rattle.definitions.specs.Rates.{fixedRate, leftRate, weightedRate, unstatedRate}
 
 -- A share that is fixed, weighted or stated.
 pub data Share : Type 0 where

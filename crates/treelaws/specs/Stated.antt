@@ -4,10 +4,10 @@ use mathlib.Core.Bool.{Bool, not, _&&_, _||_}
 use mathlib.Core.List.{List}
 use lib.Dec.{eqb, ltb}
 use lib.IntN.{ℤ}
-use Rattle.table.specs.Limits.{root, stated}
-use Rattle.table.specs.Places.{rate}
-use Rattle.table.specs.Tree.{treeOf}
-use Rattle.table.specs.Rates.{statedSum}
+use Rattle.definitions.specs.Limits.{root, stated}
+use Rattle.definitions.specs.Places.{rate}
+use Rattle.definitions.specs.Tree.{treeOf}
+use Rattle.definitions.specs.Rates.{statedSum}
 
 -- Whether a share of this kind under class c, in the place of an old stated rate, is stated elsewhere than under the root or
 -- makes the stated rates exceed the disk's.

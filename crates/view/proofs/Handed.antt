@@ -39,10 +39,10 @@ use denote.Triple.Entry.{onEntry}
 use denote.Triple.Spec.{Meets, tripleOf}
 use denote.Triple.Walked.{says, needs, Stays, stay-none, walkOf, goes-none, Walks, ends-at, walked, walk-meets}
 use denote.Exit.{yes}
-use Rattle.layout.specs.declared.Edition.{Edition}
-use Rattle.layout.specs.declared.Edition.the-variants.{First, Second}
-use Rattle.layout.proofs.Edition as Ed
-use Rattle.layout.proofs.Edition.Laws as Ed′
+use Rattle.planformat.specs.declared.Edition.{Edition}
+use Rattle.planformat.specs.declared.Edition.the-variants.{First, Second}
+use Rattle.planformat.proofs.Edition as Ed
+use Rattle.planformat.proofs.Edition.Laws as Ed′
 use Rattle.view.specs.Views.{Views}
 use Rattle.view.specs.declared.View.{View}
 use Rattle.view.proofs.View as T

@@ -6,10 +6,10 @@ use mathlib.Core.List.{List, [], _∷_}
 use lib.IntN.{pos}
 use Rattle.numbers.specs.Tests.{every}
 use Rattle.numbers.specs.Below.{allBelow}
-use Rattle.table.specs.Refusals.{accepted, refused}
-use Rattle.layout.specs.Bytes.{byteAt, le2, le4}
-use Rattle.layout.specs.Format.{startOf, shareLength, lastKind, editionIn, countIn, shareFrom, entryIn, entryFormed, formed}
-use Rattle.layout.proofs.Example.{statedPlan}
+use Rattle.definitions.specs.Refusals.{accepted, refused}
+use Rattle.planformat.specs.Bytes.{byteAt, le2, le4}
+use Rattle.planformat.specs.Format.{startOf, shareLength, lastKind, editionIn, countIn, shareFrom, entryIn, entryFormed, formed}
+use Rattle.planformat.proofs.Example.{statedPlan}
 use Rattle.view.specs.Answer.{bodyValues, listedFrom, bodyAnswer}
 
 abbrev pub sample : List ℕ

@@ -5,10 +5,10 @@ use mathlib.Core.Bool.{true}
 use mathlib.Core.List.{List}
 use native.Mathlib.Omega.{arith}
 use lib.ListN.{length}
-use Rattle.layout.specs.declared.Edition.{Edition}
-use Rattle.layout.specs.Format.{headLength, lastKind, startOf, editionIn, countIn, entryIn, formed}
-use Rattle.layout.specs.Framed.{Framed}
-use Rattle.layout.proofs.Codec.{formed-facts, formed-frame}
+use Rattle.planformat.specs.declared.Edition.{Edition}
+use Rattle.planformat.specs.Format.{headLength, lastKind, startOf, editionIn, countIn, entryIn, formed}
+use Rattle.planformat.specs.Framed.{Framed}
+use Rattle.planformat.proofs.Codec.{formed-facts, formed-frame}
 use Rattle.view.specs.Views.{Views}
 
 -- Well formed bytes have a head, where their edition has it.

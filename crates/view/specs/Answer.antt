@@ -4,11 +4,11 @@ use mathlib.Core.Bool.{cond}
 use mathlib.Core.List.{List, [], _∷_}
 use lib.Dec.{eqb}
 use lib.IntN.{ℤ, pos}
-use Rattle.table.specs.Refusals.{Outcome, accepted, refused}
+use Rattle.definitions.specs.Refusals.{Outcome, accepted, refused}
 use Rattle.table.specs.Answers.{numberOf}
 use Rattle.table.specs.declared.Refusal.the-variants.{PlanWrong}
-use Rattle.layout.specs.Format.{Entry, countIn, entryIn, formed}
-use Rattle.layout.specs.Nodes.{shareIn, heldBy, kindIn}
+use Rattle.planformat.specs.Format.{Entry, countIn, entryIn, formed}
+use Rattle.planformat.specs.Nodes.{shareIn, heldBy, kindIn}
 use Rattle.view.specs.declared.Body.{Body}
 use Rattle.view.specs.declared.Found.{Found}
 use Rattle.view.specs.declared.Found.the-variants as found

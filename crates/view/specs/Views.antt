@@ -3,9 +3,9 @@ use Prim.Native.Nat.{ℕ}
 use mathlib.Core.Path.{_≡_}
 use mathlib.Core.Bool.{true}
 use mathlib.Core.List.{List}
-use Rattle.layout.specs.declared.Edition.{Edition}
-use Rattle.layout.specs.Format.{editionIn, countIn, entryIn, formed}
-use Rattle.layout.specs.Nodes.{shareIn, heldBy, kindIn}
+use Rattle.planformat.specs.declared.Edition.{Edition}
+use Rattle.planformat.specs.Format.{editionIn, countIn, entryIn, formed}
+use Rattle.planformat.specs.Nodes.{shareIn, heldBy, kindIn}
 use Rattle.view.specs.declared.Entry.{Entry}
 use Rattle.view.specs.declared.Body.{Body}
 

@@ -4,7 +4,7 @@
 ghost use mathlib.Core.Path.{_≡_};
 ghost use mathlib.Core.Bool.{true};
 ghost use Prim.Native.Nat.{_<_};
-ghost use Rattle.layout.specs.Format.{editionIn, countIn, formed};
+ghost use Rattle.planformat.specs.Format.{editionIn, countIn, formed};
 ghost use Rattle.view.specs.Views.{Views, EntryAt, BodyAt};
 ghost use Rattle.view.specs.Answer.{bodyAnswer, toldFound};
 
@@ -12,7 +12,6 @@ mod parts;
 
 use layout::Edition;
 use layout::Sort;
-use layout::forms;
 
 // What an entry says: a node and its parent. Where its body stands follows from the edition and the count of entries.
 pub struct Entry {

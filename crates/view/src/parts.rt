@@ -4,7 +4,6 @@ ghost use Rattle.view.specs.Views.{Views, EntryAt, BodyAt};
 use crate::Body;
 use crate::Entry;
 use layout::Edition;
-use layout::forms;
 
 // Entry i of a plan of n entries, of the given edition.
 pub fn entry_in(s: &[u8], edition: Edition, n: usize, i: usize) -> Entry

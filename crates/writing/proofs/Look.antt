@@ -8,12 +8,12 @@ use borrow.Author.Tests.{not-false}
 use lib.IntN.{ℤ, pos}
 use Rattle.numbers.specs.Whole.{plus, withinℤ}
 use Rattle.numbers.proofs.Tests.{by-test}
-use Rattle.table.specs.Limits.{root}
-use Rattle.table.specs.Order.{inOrder}
-use Rattle.table.specs.Refusals.{Outcome, accepted, refused, numberTold}
-use Rattle.table.specs.Calls.{lookRefusal, lookAnswer}
-use Rattle.table.proofs.Facts.{facts, root-there}
-use Rattle.table.proofs.Refusals.{none-first, first-none, first-end, outcome-accepted, number-outcome}
+use Rattle.definitions.specs.Limits.{root}
+use Rattle.definitions.specs.Order.{inOrder}
+use Rattle.definitions.specs.Refusals.{Outcome, accepted, refused, numberTold}
+use Rattle.definitions.specs.Calls.{lookRefusal, lookAnswer}
+use Rattle.definitions.proofs.Facts.{facts, root-there}
+use Rattle.definitions.proofs.Refusals.{none-first, first-none, first-end, outcome-accepted, number-outcome}
 
 pub look-accepted : (t : List ℤ) (values : List ℤ) → lookAnswer t (pos root) ≡ accepted values → inOrder t ≡ true
 unfolding lookAnswer lookRefusal numberTold

@@ -9,13 +9,13 @@ use lib.ListN.{length}
 use lib.IntN.{ℤ, pos}
 use Rattle.numbers.specs.Whole.{withinℤ}
 use Rattle.numbers.proofs.Tests.{cond-false}
-use Rattle.table.specs.Tree.{treeOf}
-use Rattle.table.specs.Order.{inOrder}
-use Rattle.table.specs.Refusals.{accepted, outcome}
-use Rattle.table.proofs.Refusals.{first-here, first-past, outcome-accepted, outcome-refused}
-use Rattle.layout.specs.Format.{firstEdition, secondEdition}
-use Rattle.layout.specs.Written.{written}
-use Rattle.layout.proofs.Written.{written-front}
+use Rattle.definitions.specs.Tree.{treeOf}
+use Rattle.definitions.specs.Order.{inOrder}
+use Rattle.definitions.specs.Refusals.{accepted, outcome}
+use Rattle.definitions.proofs.Refusals.{first-here, first-past, outcome-accepted, outcome-refused}
+use Rattle.planformat.specs.Format.{firstEdition, secondEdition}
+use Rattle.planformat.specs.Written.{written}
+use Rattle.planformat.proofs.Written.{written-front}
 use Rattle.planlaws.specs.Writing.{planBytes, unwritable, editionTold, writeRefusal, writeBuffer, writeAnswer}
 use Rattle.planlaws.proofs.RoundTrips.{WritePassed, passed-write, write-leaves}
 

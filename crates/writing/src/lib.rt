@@ -1,15 +1,11 @@
 // Writing the plan of a table. Document 01, "Same tree, and the plan file", and document 02, (f).
 ghost use mathlib.Core.Path.{_≡_};
-ghost use Rattle.table.specs.Order.{inOrder};
+ghost use Rattle.definitions.specs.Order.{inOrder};
 ghost use Rattle.table.specs.Answers.{told};
 ghost use Rattle.planlaws.specs.Writing.{writeBuffer, writeAnswer};
-
-mod nodes;
-mod parts;
-
 use layout::Format;
-use layout::forms;
 use table::Answer;
+use table::Refusal;
 use table::Seen;
 
 // Whether the table is in order: exactly then look finds the root.
@@ -30,21 +26,21 @@ pub fn write(table: &[i64], edition: i64, buffer: &mut [u8]) -> Answer
     ensures buffer { λ _. ⌜ now (buffer .exit) ≡ writeBuffer (now (table .entry)) edition (now (buffer .entry)) ⌝ }
 {
     if !in_order(table) {
-        return table::answered(1, 0);
+        return table::answered(Refusal::NOT_IN_ORDER, 0);
     }
     if !numbers::within(edition, Format::FIRST_EDITION, Format::SECOND_EDITION) {
-        return table::answered(2, 0);
+        return table::answered(Refusal::OUTSIDE_LIMITS, 0);
     }
     let told = forms::edition_of(numbers::natural(edition));
-    let listing = nodes::list_nodes(table);
+    let listing = listing::list_nodes(table);
     let length = forms::plan_length(told, listing.count);
     if buffer.len() < length {
-        return table::answered(13, 0);
+        return table::answered(Refusal::BUFFER_SHORT, 0);
     }
-    if nodes::unwritable(table, told) {
-        return table::answered(16, 0);
+    if listing::unwritable(table, told) {
+        return table::answered(Refusal::STATED_WRONG, 0);
     }
     let listed = listing.nodes;
-    parts::put_plan(table, told, &listed, listing.count, buffer);
+    planparts::put_plan(table, told, &listed, listing.count, buffer);
     Answer::Accepted(numbers::whole(length as u64))
 }

@@ -8,8 +8,8 @@ use mir.ValLaws.{toZ-ofZ}
 use borrow.Author.Needs.{needs, sfits-of}
 use lib.ListN.{length, getD}
 use lib.IntN.{pos}
-use Rattle.table.specs.Limits.{greatestDepth}
-use Rattle.table.proofs.Facts.{facts}
+use Rattle.definitions.specs.Limits.{greatestDepth}
+use Rattle.definitions.proofs.Facts.{facts}
 use Rattle.draws.specs.Draws.{upper}
 use Rattle.asking.proofs.Listing.{Picked, picked, few-clients}
 use Rattle.asking.proofs.Drawn.{picked-depth, asked-none, limits-kept, asked-request}

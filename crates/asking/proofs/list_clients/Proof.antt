@@ -5,8 +5,8 @@ use mathlib.Core.Path.{_≡_, refl, sym, _∙_}
 use native.Mathlib.Omega.{arith}
 use borrow.Author.Needs.{needs}
 use lib.ListN.{length, length-set}
-use Rattle.table.specs.Limits.{nodes}
-use Rattle.table.specs.Tree.{treeOf}
+use Rattle.definitions.specs.Limits.{nodes}
+use Rattle.definitions.specs.Tree.{treeOf}
 use Rattle.asking.specs.Asking.{clientsBelow}
 use Rattle.asking.proofs.Listing.{Lists, lists-room, lists-more, lists-stay, lists-all}
 use Rattle.asking.proofs.list_clients.Statement.{statement}

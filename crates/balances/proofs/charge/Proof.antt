@@ -6,9 +6,9 @@ use mathlib.Core.List.{List}
 use native.Mathlib.Omega.{arith}
 use borrow.Author.Needs.{needs}
 use lib.IntN.{ℤ}
-use Rattle.table.specs.Limits.{nodes}
-use Rattle.table.specs.Tree.{treeOf}
-use Rattle.table.specs.Tick.{charge}
+use Rattle.definitions.specs.Limits.{nodes}
+use Rattle.definitions.specs.Tree.{treeOf}
+use Rattle.definitions.specs.Tick.{charge}
 use Rattle.balances.proofs.Charged.{Chargeable, chargeable-first, chargeable-next, chargeable-here, chargeable-parent, charge-last, charge-above}
 use Rattle.balances.proofs.charge.Statement.{statement}
 use Rattle.balances.proofs.charge.Tie as tie

@@ -1,9 +1,9 @@
 -- `balances::cut` meets its contract. The invariant: the nodes so far are cut.
 use Prim.Native.Nat.{_-_}
 use native.Mathlib.Omega.{arith}
-use Rattle.table.specs.Limits.{nodes}
-use Rattle.table.specs.Tick.{cut}
-use Rattle.table.proofs.Turns.{Turns, turns-first, turns-next, turns-all}
+use Rattle.definitions.specs.Limits.{nodes}
+use Rattle.definitions.specs.Tick.{cut}
+use Rattle.definitions.proofs.Turns.{Turns, turns-first, turns-next, turns-all}
 use Rattle.balances.proofs.Sweeps.{cutting, cutting-fits}
 use Rattle.balances.proofs.cut.Statement.{statement}
 use Rattle.balances.proofs.cut.Tie as tie

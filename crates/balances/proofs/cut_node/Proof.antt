@@ -7,8 +7,8 @@ use lib.Signed.{leZ}
 use mir.Syntax.{w64}
 use mir.ValLaws.{toZ-ofZ}
 use borrow.Author.Needs.{needs, sfits-of}
-use Rattle.table.specs.Places.{put, balance, depthGrains}
-use Rattle.table.specs.Tree.{treeOf}
+use Rattle.definitions.specs.Places.{put, balance, depthGrains}
+use Rattle.definitions.specs.Tree.{treeOf}
 use Rattle.balances.proofs.Limits.{depth-grains-small}
 use Rattle.balances.proofs.Sweeps.{cut-stays, cut-falls}
 use Rattle.balances.proofs.cut_node.Statement.{statement}

@@ -1,9 +1,9 @@
 -- `balances::grow` meets its contract. The invariant: the nodes so far have grown.
 use Prim.Native.Nat.{_-_}
 use native.Mathlib.Omega.{arith}
-use Rattle.table.specs.Limits.{nodes}
-use Rattle.table.specs.Tick.{grown}
-use Rattle.table.proofs.Turns.{Turns, turns-first, turns-next, turns-all}
+use Rattle.definitions.specs.Limits.{nodes}
+use Rattle.definitions.specs.Tick.{grown}
+use Rattle.definitions.proofs.Turns.{Turns, turns-first, turns-next, turns-all}
 use Rattle.balances.proofs.Sweeps.{growth, growth-fits}
 use Rattle.balances.proofs.grow.Statement.{statement}
 use Rattle.balances.proofs.grow.Tie as tie

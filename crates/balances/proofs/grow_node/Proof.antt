@@ -6,7 +6,7 @@ use mir.Syntax.{w64}
 use mir.ValLaws.{toZ-ofZ}
 use borrow.Author.Needs.{needs, sfits-of}
 use Rattle.numbers.specs.Whole.{plus}
-use Rattle.table.specs.Places.{put, rate, balance}
+use Rattle.definitions.specs.Places.{put, rate, balance}
 use Rattle.balances.proofs.grow_node.Statement.{statement}
 use Rattle.balances.proofs.grow_node.Tie as tie
 

@@ -6,8 +6,8 @@ use mir.ValLaws.{toZ-ofZ}
 use native.Mathlib.Omega.{arith}
 use borrow.Author.Needs.{needs, sfits-of}
 use Rattle.numbers.specs.Whole.{minus}
-use Rattle.table.specs.Places.{put, balance}
-use Rattle.table.specs.Tick.{lower}
+use Rattle.definitions.specs.Places.{put, balance}
+use Rattle.definitions.specs.Tick.{lower}
 use Rattle.balances.proofs.lower.Statement.{statement}
 use Rattle.balances.proofs.lower.Tie as tie
 

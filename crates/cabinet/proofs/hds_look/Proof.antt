@@ -6,8 +6,8 @@ use lib.IntN.{ℤ}
 use mir.Syntax.{w64}
 use mir.ValLaws.{toZ-ofZ}
 use Rattle.table.specs.Answers.{numberOf, toldSeen}
-use Rattle.table.specs.Calls.{lookAnswer}
-use Rattle.table.specs.Refusals.{Outcome, accepted, refused}
+use Rattle.definitions.specs.Calls.{lookAnswer}
+use Rattle.definitions.specs.Refusals.{Outcome, accepted, refused}
 use Rattle.table.specs.declared.Refusal.{Refusal}
 use Rattle.table.specs.declared.Seen.{Seen}
 use Rattle.table.specs.declared.Seen.the-variants.{Node, Refused}

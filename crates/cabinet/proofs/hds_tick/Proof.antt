@@ -6,7 +6,7 @@ use lib.IntN.{ℤ}
 use mir.Syntax.{w64}
 use mir.ValLaws.{toZ-ofZ}
 use Rattle.table.specs.Answers.{numberOf, toldTicked}
-use Rattle.table.specs.Refusals.{Outcome, accepted, refused}
+use Rattle.definitions.specs.Refusals.{Outcome, accepted, refused}
 use Rattle.table.specs.declared.Refusal.{Refusal}
 use Rattle.table.specs.declared.Ticked.{Ticked}
 use Rattle.table.specs.declared.Ticked.the-variants.{Dispatched, Refused}

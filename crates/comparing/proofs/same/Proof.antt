@@ -9,12 +9,12 @@ use borrow.Author.Tests.{not-true, not-false}
 use Rattle.numbers.specs.Tests.{every}
 use Rattle.numbers.proofs.Every.{head-fails, rest-fail, holds-with, none-left}
 use Rattle.numbers.proofs.Tests.{cond-true, cond-false}
-use Rattle.table.specs.Order.{inOrder}
+use Rattle.definitions.specs.Order.{inOrder}
 use Rattle.table.specs.Answers.{toldCompared}
-use Rattle.table.specs.Refusals.{accepted, refused}
-use Rattle.table.specs.Calls.{sameTree, sameRefusal, sameAnswer}
-use Rattle.table.proofs.Refusals.{first-here, first-past, first-end, outcome-accepted, outcome-refused}
-use Rattle.table.proofs.Passed.{long}
+use Rattle.definitions.specs.Refusals.{accepted, refused}
+use Rattle.definitions.specs.Calls.{sameTree, sameRefusal, sameAnswer}
+use Rattle.definitions.proofs.Refusals.{first-here, first-past, first-end, outcome-accepted, outcome-refused}
+use Rattle.definitions.proofs.Passed.{long}
 use Rattle.comparing.proofs.same.Statement.{statement}
 use Rattle.comparing.proofs.same.Tie as tie
 

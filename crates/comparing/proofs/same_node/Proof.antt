@@ -5,8 +5,8 @@ use native.Mathlib.Omega.{arith}
 use Rattle.numbers.specs.Whole.{sameℤ}
 use Rattle.numbers.specs.Below.{allBelow}
 use Rattle.numbers.proofs.All.{all-grows, all-done}
-use Rattle.table.specs.Limits.{rateAt}
-use Rattle.table.specs.Places.{place}
+use Rattle.definitions.specs.Limits.{rateAt}
+use Rattle.definitions.specs.Places.{place}
 use Rattle.comparing.proofs.same_node.Statement.{statement}
 use Rattle.comparing.proofs.same_node.Tie as tie
 

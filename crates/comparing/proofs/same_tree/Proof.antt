@@ -1,6 +1,6 @@
 -- `comparing::same_tree` meets its contract: both tests together.
 use Rattle.numbers.proofs.Every.{joined-as, same-tests, last-test}
-use Rattle.table.specs.Calls.{sameTree}
+use Rattle.definitions.specs.Calls.{sameTree}
 use borrow.Author.Needs.{needs}
 use Rattle.comparing.proofs.same_tree.Statement.{statement}
 use Rattle.comparing.proofs.same_tree.Tie as tie

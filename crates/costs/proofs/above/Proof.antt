@@ -5,8 +5,8 @@ use borrow.Author.Needs.{needs}
 use borrow.Author.Tests.{lt-ltb, ltb-true}
 use lib.Dec.{ltb}
 use Rattle.numbers.proofs.Tests.{same-truth}
-use Rattle.table.specs.Cost.{cost}
-use Rattle.table.proofs.Cost.{cost-bounds}
+use Rattle.definitions.specs.Cost.{cost}
+use Rattle.definitions.proofs.Cost.{cost-bounds}
 use Rattle.costs.proofs.above.Statement.{statement}
 use Rattle.costs.proofs.above.Tie as tie
 

@@ -2,7 +2,7 @@
 use mathlib.Core.Path.{sym}
 use native.Mathlib.Omega.{arith}
 use borrow.Author.Needs.{needs}
-use Rattle.table.proofs.Cost.{cost-to-7, cost-to-63, cost-to-511, cost-above-511}
+use Rattle.definitions.proofs.Cost.{cost-to-7, cost-to-63, cost-to-511, cost-above-511}
 use Rattle.costs.proofs.cost.Statement.{statement}
 use Rattle.costs.proofs.cost.Tie as tie
 

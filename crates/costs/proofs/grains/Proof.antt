@@ -3,9 +3,9 @@ use Prim.Native.Nat.{ℕ, _*_}
 use mathlib.Core.Path.{ap, _∙_}
 use native.Mathlib.Omega.{arith}
 use borrow.Author.Needs.{needs}
-use Rattle.table.specs.Limits.{grainScale}
-use Rattle.table.specs.Tick.{grains}
-use Rattle.table.proofs.Cost.{cost-bounds}
+use Rattle.definitions.specs.Limits.{grainScale}
+use Rattle.definitions.specs.Tick.{grains}
+use Rattle.definitions.proofs.Cost.{cost-bounds}
 use Rattle.costs.proofs.grains.Statement.{statement}
 use Rattle.costs.proofs.grains.Tie as tie
 

@@ -13,9 +13,9 @@ use Rattle.numbers.specs.Whole.{plus}
 use Rattle.numbers.proofs.Tests.{by-test, same-truth}
 use Rattle.numbers.proofs.Every.{joined-as, same-tests, last-test, every-two}
 use Rattle.numbers.proofs.Parts.{zarith, one-is-zero, plus-pos, minus-pos, parts-fit}
-use Rattle.table.specs.Cost.{cost, sizeWithin}
-use Rattle.table.proofs.Refusals.{natural-of}
-use Rattle.table.proofs.Cost.{cost-bounds}
+use Rattle.definitions.specs.Cost.{cost, sizeWithin}
+use Rattle.definitions.proofs.Refusals.{natural-of}
+use Rattle.definitions.proofs.Cost.{cost-bounds}
 use Rattle.costs.proofs.within.Statement.{statement}
 use Rattle.costs.proofs.within.Tie as tie
 

@@ -9,11 +9,12 @@ use mir.Syntax.{w64}
 use mir.ValLaws.{toZ-ofZ}
 use borrow.Author.Needs.{needs, sfits-of}
 use Rattle.numbers.specs.Whole.{plus}
-use Rattle.table.specs.Limits.{waitingAt, portAt, queueAt, sizeAt, greatestDepth, firstPort, secondPort}
-use Rattle.table.specs.Places.{place, waiting, port, tag, size}
-use Rattle.table.specs.Tree.{treeOf}
-use Rattle.table.specs.Tick.{grains, charge, takenOut, dispatched}
-use Rattle.dispatch.specs.Entries.{tableAfter, gets, enteredOn, listAfter}
+use Rattle.definitions.specs.Limits.{waitingAt, portAt, queueAt, sizeAt, greatestDepth, firstPort, secondPort}
+use Rattle.definitions.specs.Places.{place, waiting, port, tag, size}
+use Rattle.definitions.specs.Tree.{treeOf}
+use Rattle.definitions.specs.Tick.{grains, charge, takenOut, dispatched}
+use Rattle.ticklaws.specs.Ports.{gets}
+use Rattle.dispatch.specs.Entries.{tableAfter, enteredOn, listAfter}
 use Rattle.balances.proofs.Limits.{size-at, grains-at}
 use Rattle.balances.proofs.Charged.{charge-place}
 use Rattle.dispatch.proofs.dispatch.Statement.{statement}

@@ -5,9 +5,9 @@ use mathlib.Core.List.{List}
 use native.Mathlib.Omega.{arith}
 use lib.ListN.{length}
 use lib.IntN.{ℤ}
-use Rattle.layout.specs.Format.{lastKind, planIn}
+use Rattle.planformat.specs.Format.{lastKind, planIn}
 use Rattle.planlaws.specs.Reading.{entryRefusal, afterEntry, afterEntries, entriesRefusal}
-use Rattle.layout.proofs.Codec.{formed-facts}
+use Rattle.planformat.proofs.Codec.{formed-facts}
 use Rattle.planlaws.proofs.Accepted.{after-none, after-next, entries-none, entries-next, entries-stay}
 use borrow.Author.Needs.{needs}
 use Rattle.entering.proofs.join_entries.Statement.{statement}

@@ -1,8 +1,8 @@
 -- `entering::join_entry` meets its contract.
 use mathlib.Core.Path.{ap, _∙_}
 use native.Mathlib.Omega.{arith}
-use Rattle.layout.specs.Format.{planIn}
-use Rattle.layout.proofs.Editions.{share-values-small}
+use Rattle.planformat.specs.Format.{planIn}
+use Rattle.planformat.proofs.Editions.{share-values-small}
 use Rattle.planlaws.specs.Reading.{entryRefusal, afterEntry}
 use borrow.Author.Needs.{needs}
 use Rattle.entering.proofs.join_entry.Statement.{statement}

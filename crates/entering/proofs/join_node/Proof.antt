@@ -1,8 +1,8 @@
 -- `entering::join_node` meets its contract.
 use mathlib.Core.Path.{_≡_, sym, ap, _∙_}
 use native.Mathlib.Omega.{arith}
-use Rattle.layout.specs.Nodes.{shareIn, shareKindIn, heldBy, entryBy}
-use Rattle.layout.proofs.EachKind.{sort-in-kind, share-in-kind}
+use Rattle.planformat.specs.Nodes.{shareIn, shareKindIn, heldBy, entryBy}
+use Rattle.planformat.proofs.EachKind.{sort-in-kind, share-in-kind}
 use Rattle.planlaws.proofs.Accepted.{join-by}
 use borrow.Author.Needs.{needs}
 use Rattle.entering.proofs.join_node.Statement.{statement}

@@ -2,9 +2,9 @@
 use mathlib.Core.Path.{ap, _∙_}
 use mir.Syntax.{w64}
 use mir.ValLaws.{toZ-ofZ}
-use Rattle.table.specs.Calls.{done, joinAnswer}
-use Rattle.table.specs.Refusals.{numberTold}
-use Rattle.table.proofs.Refusals.{number-outcome}
+use Rattle.definitions.specs.Calls.{done, joinAnswer}
+use Rattle.definitions.specs.Refusals.{numberTold}
+use Rattle.definitions.proofs.Refusals.{number-outcome}
 use borrow.Author.Needs.{needs, sfits-of}
 use Rattle.entering.proofs.join_numbers.Statement.{statement}
 use Rattle.entering.proofs.join_numbers.Tie as tie

@@ -9,8 +9,8 @@ use lib.Dec.{ltb}
 use lib.IntN.{ℤ}
 use Rattle.numbers.specs.Below.{allBelow}
 use Rattle.numbers.proofs.All.{all-grows}
-use Rattle.table.specs.Tree.{treeOf}
-use Rattle.layout.specs.Format.{countIn, planIn}
+use Rattle.definitions.specs.Tree.{treeOf}
+use Rattle.planformat.specs.Format.{countIn, planIn}
 use Rattle.planlaws.specs.Reading.{standing, rising}
 use borrow.Author.Needs.{needs}
 use Rattle.entering.proofs.rising.Statement.{statement}

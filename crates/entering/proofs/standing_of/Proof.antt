@@ -2,10 +2,10 @@
 use Prim.Native.Nat.{ℕ}
 use mathlib.Core.Path.{_≡_, ap, _∙_}
 use native.Mathlib.Omega.{arith}
-use Rattle.table.specs.Tree.{treeOf}
-use Rattle.layout.specs.Bytes.{byteAt}
-use Rattle.layout.specs.Format.{entryAt, entryIn, planIn}
-use Rattle.layout.specs.declared.Edition.{Edition}
+use Rattle.definitions.specs.Tree.{treeOf}
+use Rattle.planformat.specs.Bytes.{byteAt}
+use Rattle.planformat.specs.Format.{entryAt, entryIn, planIn}
+use Rattle.planformat.specs.declared.Edition.{Edition}
 use Rattle.planlaws.specs.Reading.{standing}
 use borrow.Author.Needs.{needs}
 use Rattle.entering.proofs.standing_of.Statement.{statement}

@@ -10,18 +10,18 @@ use mir.Syntax.{w64}
 use mir.ValLaws.{toZ-ofZ}
 use Rattle.numbers.specs.Whole.{plus}
 use Rattle.table.specs.Answers.{told}
-use Rattle.table.specs.Refusals.{outcome}
-use Rattle.table.specs.Order.{inOrder}
-use Rattle.table.specs.Rates.{renewed}
-use Rattle.table.specs.Renewal.{renewedBelow}
-use Rattle.table.specs.Calls.{done, joinTable, joinAnswer}
-use Rattle.table.proofs.Refusals.{kept-new, kept-old, outcome-accepted, natural-of}
+use Rattle.definitions.specs.Refusals.{outcome}
+use Rattle.definitions.specs.Order.{inOrder}
+use Rattle.definitions.specs.Rates.{renewed}
+use Rattle.definitions.specs.Renewal.{renewedBelow}
+use Rattle.definitions.specs.Calls.{done, joinTable, joinAnswer}
+use Rattle.definitions.proofs.Refusals.{kept-new, kept-old, outcome-accepted, natural-of}
 use Rattle.treelaws.specs.Joins.{Join, refusalOf, joinedBy}
 use Rattle.treelaws.specs.Renewal.{RenewsAll}
 use Rattle.calllaws.proofs.Join.{join-keeps, join-renews-below}
-use Rattle.rating.proofs.Rated.{rated-before}
-use Rattle.joining.specs.NewNodes.{asked, Natural}
-use Rattle.joining.proofs.Limits.{as-asked, accepted-limits, writable}
+use Rattle.sums.proofs.Rated.{rated-before}
+use Rattle.admission.specs.NewNodes.{asked, Natural}
+use Rattle.admission.proofs.Limits.{as-asked, accepted-limits, writable}
 use Rattle.joining.proofs.join.Statement.{statement}
 use Rattle.joining.proofs.join.Tie as tie
 

@@ -5,12 +5,12 @@ use mathlib.Core.Bool.{true}
 use native.Mathlib.Omega.{arith}
 use mir.Syntax.{w64}
 use mir.ValLaws.{toZ-ofZ}
-use Rattle.table.specs.Order.{inOrder}
-use Rattle.table.specs.Calls.{joinRefusal}
-use Rattle.table.proofs.Refusals.{causes, found, holds}
-use Rattle.treelaws.specs.Joins.{Join, refusalOf}
-use Rattle.joining.specs.NewNodes.{asked, joinLimits, Natural}
-use Rattle.joining.proofs.Limits.{as-asked, judged}
+use Rattle.definitions.specs.Order.{inOrder}
+use Rattle.definitions.specs.Calls.{joinRefusal}
+use Rattle.definitions.proofs.Refusals.{causes, found, holds}
+use Rattle.treelaws.specs.Joins.{Join, limitsOf, refusalOf}
+use Rattle.admission.specs.NewNodes.{asked, Natural}
+use Rattle.admission.proofs.Limits.{as-asked, judged}
 use Rattle.joining.proofs.join_refusal.Statement.{statement}
 use Rattle.joining.proofs.join_refusal.Tie as tie
 
@@ -23,12 +23,13 @@ start c = c .before .before .before .before
 order : (c : tie.Else1) → inOrder (c .before .before .args .table .now) ≡ true
 order c = holds (c .before .in-order .ensures) (c .if1 .left)
 
-fits : (c : tie.After-join-limits) → c .join-limits .result ≡ joinLimits (join (c .before .before .before))
+fits : (c : tie.After-join-limits) → c .join-limits .result ≡ limitsOf (join (c .before .before .before))
+unfolding limitsOf
 fits c =
     let s = c .before .before .before .fits in
     rw (toZ-ofZ w64 _ (s .node), toZ-ofZ w64 _ (s .parent), toZ-ofZ w64 _ (s .sort), toZ-ofZ w64 _ (s .kind), toZ-ofZ w64 _ (s .share), toZ-ofZ w64 _ (s .depth), toZ-ofZ w64 _ (s .port)) at (c .join-limits .ensures)
 
-within : (c : tie.Else2) → joinLimits (join (start c)) ≡ true
+within : (c : tie.Else2) → limitsOf (join (start c)) ≡ true
 within c = holds (fits (c .before)) (c .if2 .left)
 
 natural : (c : tie.After-new-node) → Natural (c .new-node .result) (join (start (c .before)))
@@ -45,7 +46,7 @@ returns-3 c =
     (e .0 ∙ ap (refusalOf _) (as-asked _ _ (natural (c .before)) (within (c .before .before))), e .1)
 
 pub join-refusal-spec : {M : Type 1} → statement M
-unfolding refusalOf joinRefusal joinLimits
+unfolding refusalOf joinRefusal limitsOf
 join-refusal-spec =
     tie.close
     (tie.spec

@@ -7,13 +7,13 @@ use native.Mathlib.Numerals.{add-one}
 use borrow.Author.Needs.{needs}
 use lib.IntN.{ℤ, pos}
 use Rattle.numbers.specs.Whole.{plus}
-use Rattle.table.specs.Limits.{sortAt, parentAt, levelAt, kindAt, shareAt, depthAt, portAt, balanceAt}
-use Rattle.table.specs.Places.{place, put}
-use Rattle.table.specs.Tree.{treeOf}
-use Rattle.table.specs.Calls.{joined}
-use Rattle.table.proofs.Places.{put-then, put-same}
+use Rattle.definitions.specs.Limits.{sortAt, parentAt, levelAt, kindAt, shareAt, depthAt, portAt, balanceAt}
+use Rattle.definitions.specs.Places.{place, put}
+use Rattle.definitions.specs.Tree.{treeOf}
+use Rattle.definitions.specs.Calls.{joined}
+use Rattle.definitions.proofs.Places.{put-then, put-same}
 use Rattle.treelaws.specs.Joins.{joinedBy}
-use Rattle.joining.specs.NewNodes.{joinOf}
+use Rattle.admission.specs.NewNodes.{joinOf}
 use Rattle.joining.proofs.write_node.Statement.{statement}
 use Rattle.joining.proofs.write_node.Tie as tie
 

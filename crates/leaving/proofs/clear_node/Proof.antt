@@ -3,10 +3,10 @@ use Prim.Native.Nat.{ℕ, _-_}
 use mathlib.Core.List.{List}
 use native.Mathlib.Omega.{arith}
 use lib.IntN.{ℤ, pos}
-use Rattle.table.specs.Limits.{recordLength}
-use Rattle.table.specs.Places.{put}
-use Rattle.table.specs.Calls.{cleared}
-use Rattle.table.proofs.Turns.{Turns, turns-first, turns-next, turns-all}
+use Rattle.definitions.specs.Limits.{recordLength}
+use Rattle.definitions.specs.Places.{put}
+use Rattle.definitions.specs.Calls.{cleared}
+use Rattle.definitions.proofs.Turns.{Turns, turns-first, turns-next, turns-all}
 use Rattle.leaving.proofs.clear_node.Statement.{statement}
 use Rattle.leaving.proofs.clear_node.Tie as tie
 

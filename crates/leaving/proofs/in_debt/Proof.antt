@@ -5,7 +5,7 @@ use lib.Dec.{ltb}
 use mir.Facts.{toZ-ofZ}
 use Rattle.numbers.specs.Whole.{minus}
 use Rattle.numbers.proofs.Every.{joined-as, same-tests, last-test}
-use Rattle.table.specs.Places.{balance}
+use Rattle.definitions.specs.Places.{balance}
 use Rattle.leaving.proofs.Debt.{below-zero}
 use Rattle.leaving.proofs.in_debt.Statement.{statement}
 use Rattle.leaving.proofs.in_debt.Tie as tie

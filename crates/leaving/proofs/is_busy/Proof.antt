@@ -4,7 +4,7 @@ use mathlib.Core.Path.{ap₂}
 use mathlib.Core.Bool.{Bool, not, _||_}
 use borrow.Author.Needs.{needs}
 use lib.Dec.{ltb}
-use Rattle.table.specs.Places.{waiting}
+use Rattle.definitions.specs.Places.{waiting}
 use Rattle.leaving.proofs.is_busy.Statement.{statement}
 use Rattle.leaving.proofs.is_busy.Tie as tie
 

@@ -11,17 +11,17 @@ use mir.Syntax.{w64}
 use mir.ValLaws.{toZ-ofZ}
 use Rattle.numbers.specs.Whole.{plus}
 use Rattle.table.specs.Answers.{told}
-use Rattle.table.specs.Refusals.{outcome}
-use Rattle.table.specs.Order.{inOrder}
-use Rattle.table.specs.Tree.{treeOf}
-use Rattle.table.specs.Rates.{renewed}
-use Rattle.table.specs.Renewal.{renewedBelow}
-use Rattle.table.specs.Calls.{done, leaveRefusal, leaveTable, leaveAnswer, cleared}
-use Rattle.table.proofs.Refusals.{kept-new, kept-old, outcome-accepted, natural-of}
-use Rattle.table.proofs.Passed.{leave-passed, long}
+use Rattle.definitions.specs.Refusals.{outcome}
+use Rattle.definitions.specs.Order.{inOrder}
+use Rattle.definitions.specs.Tree.{treeOf}
+use Rattle.definitions.specs.Rates.{renewed}
+use Rattle.definitions.specs.Renewal.{renewedBelow}
+use Rattle.definitions.specs.Calls.{done, leaveRefusal, leaveTable, leaveAnswer, cleared}
+use Rattle.definitions.proofs.Refusals.{kept-new, kept-old, outcome-accepted, natural-of}
+use Rattle.definitions.proofs.Passed.{leave-passed, long}
 use Rattle.treelaws.specs.Renewal.{RenewsAll}
 use Rattle.calllaws.proofs.Leave.{leave-keeps, leave-renews-below}
-use Rattle.rating.proofs.Rated.{rated-before}
+use Rattle.sums.proofs.Rated.{rated-before}
 use Rattle.leaving.proofs.leave.Statement.{statement}
 use Rattle.leaving.proofs.leave.Tie as tie
 

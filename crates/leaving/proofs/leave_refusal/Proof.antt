@@ -6,9 +6,9 @@ use native.Mathlib.Omega.{arith}
 use lib.IntN.{pos}
 use mir.Facts.{toZ-ofZ}
 use Rattle.numbers.specs.Whole.{withinℤ}
-use Rattle.table.specs.Limits.{lastNode}
-use Rattle.table.specs.Calls.{leaveRefusal}
-use Rattle.table.proofs.Refusals.{causes, found, holds, number-of}
+use Rattle.definitions.specs.Limits.{lastNode}
+use Rattle.definitions.specs.Calls.{leaveRefusal}
+use Rattle.definitions.proofs.Refusals.{causes, found, holds, number-of}
 use Rattle.leaving.proofs.leave_refusal.Statement.{statement}
 use Rattle.leaving.proofs.leave_refusal.Tie as tie
 

@@ -7,10 +7,10 @@ use native.Mathlib.Omega.{arith}
 use borrow.Author.Needs.{needs}
 use lib.IntN.{pos}
 use Rattle.numbers.specs.Whole.{plus, withinℤ}
-use Rattle.table.specs.Limits.{nodes, lastNode}
-use Rattle.table.specs.Calls.{leaveRefusal}
-use Rattle.table.proofs.Refusals.{causes, found}
-use Rattle.table.proofs.Passed.{long, below}
+use Rattle.definitions.specs.Limits.{nodes, lastNode}
+use Rattle.definitions.specs.Calls.{leaveRefusal}
+use Rattle.definitions.proofs.Refusals.{causes, found}
+use Rattle.definitions.proofs.Passed.{long, below}
 use Rattle.leaving.proofs.tree_refusal.Statement.{statement}
 use Rattle.leaving.proofs.tree_refusal.Tie as tie
 

@@ -6,12 +6,12 @@ use borrow.Author.Needs.{needs}
 use borrow.Author.Tests.{ltb-true, ltb-false, not-false}
 use Rattle.numbers.proofs.Tests.{true-false}
 use lib.ListN.{length}
-use Rattle.table.specs.Limits.{tableLength}
-use Rattle.table.specs.Calls.{blank}
+use Rattle.definitions.specs.Limits.{tableLength}
+use Rattle.definitions.specs.Calls.{blank}
 use Rattle.text.proofs.Appending.{appended-front}
 use Rattle.asking.specs.Asking.{loadOf}
-use Rattle.loadtext.specs.Parts.{partLength, ticksAllowed}
-use Rattle.loadtext.proofs.Whole.{UnderWay, begins-way, goes-way, part-stands}
+use Rattle.loadformat.specs.Parts.{partLength, ticksAllowed}
+use Rattle.loadformat.proofs.Whole.{UnderWay, begins-way, goes-way, part-stands}
 use Rattle.load.proofs.send.Statement.{statement}
 use Rattle.load.proofs.send.Tie as tie
 

@@ -1,7 +1,7 @@
 -- `loadtext::go_on` meets its contract: the clients are listed, and the ticks are put.
 use native.Mathlib.Omega.{arith}
 use borrow.Author.Needs.{needs}
-use Rattle.table.proofs.Facts.{facts}
+use Rattle.definitions.proofs.Facts.{facts}
 use Rattle.text.proofs.Appending.{appended-counts}
 use Rattle.loadtext.proofs.go_on.Statement.{statement}
 use Rattle.loadtext.proofs.go_on.Tie as tie

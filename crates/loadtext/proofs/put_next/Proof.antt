@@ -2,8 +2,8 @@
 use mathlib.Core.Path.{refl, ap}
 use borrow.Author.Needs.{needs}
 use Rattle.text.proofs.Appending.{append-as}
-use Rattle.loadtext.specs.Text.{tickLines}
-use Rattle.loadtext.proofs.Seams.{request-loaded, next-entries, next-load}
+use Rattle.loadformat.specs.Text.{tickLines}
+use Rattle.loadformat.proofs.Seams.{request-loaded, next-entries, next-load}
 use Rattle.loadtext.proofs.put_next.Statement.{statement}
 use Rattle.loadtext.proofs.put_next.Tie as tie
 

@@ -5,11 +5,11 @@ use native.Mathlib.Omega.{arith}
 use borrow.Author.Needs.{needs}
 use borrow.Author.Tests.{leb-true, leb-false}
 use lib.ListN.{length}
-use Rattle.table.specs.Limits.{entryLength}
+use Rattle.definitions.specs.Limits.{entryLength}
 use Rattle.asking.specs.Asking.{clients, Load, loadOf}
-use Rattle.loadtext.specs.Parts.{mostDispatches, lastPlace, GoesOn}
-use Rattle.loadtext.proofs.Going.{goes-none, goes-next, goes-some}
-use Rattle.loadtext.proofs.Seams.{after-clients}
+use Rattle.loadformat.specs.Parts.{mostDispatches, lastPlace, GoesOn}
+use Rattle.loadformat.proofs.Going.{goes-none, goes-next, goes-some}
+use Rattle.loadformat.proofs.Seams.{after-clients}
 use Rattle.loadtext.proofs.put_ticks.Statement.{statement}
 use Rattle.loadtext.proofs.put_ticks.Tie as tie
 

@@ -10,13 +10,13 @@ use lib.IntN.{ℤ}
 use mir.Syntax.{w64}
 use mir.ValLaws.{toZ-ofZ}
 use Rattle.numbers.specs.Whole.{plus}
-use Rattle.table.specs.Limits.{nodes}
-use Rattle.table.specs.Order.{inOrder}
+use Rattle.definitions.specs.Limits.{nodes}
+use Rattle.definitions.specs.Order.{inOrder}
 use Rattle.table.specs.Answers.{toldSeen}
-use Rattle.table.specs.Refusals.{accepted, refused}
-use Rattle.table.specs.Calls.{lookRefusal, lookAnswer}
-use Rattle.table.proofs.Refusals.{none-first, outcome-accepted, outcome-refused, natural-of}
-use Rattle.table.proofs.Passed.{long, below}
+use Rattle.definitions.specs.Refusals.{accepted, refused}
+use Rattle.definitions.specs.Calls.{lookRefusal, lookAnswer}
+use Rattle.definitions.proofs.Refusals.{none-first, outcome-accepted, outcome-refused, natural-of}
+use Rattle.definitions.proofs.Passed.{long, below}
 use Rattle.looking.proofs.look.Statement.{statement}
 use Rattle.looking.proofs.look.Tie as tie
 

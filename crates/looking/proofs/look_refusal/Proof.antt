@@ -4,11 +4,11 @@ use mathlib.Core.Path.{_≡_, ap, _∙_}
 use native.Mathlib.Omega.{arith}
 use mir.Facts.{toZ-ofZ}
 use Rattle.numbers.specs.Whole.{plus, withinℤ}
-use Rattle.table.specs.Limits.{lastNode}
-use Rattle.table.specs.Tree.{treeOf, there}
-use Rattle.table.specs.Calls.{lookRefusal}
-use Rattle.table.proofs.Refusals.{causes, found, holds, natural-of}
-use Rattle.table.proofs.Passed.{long, below}
+use Rattle.definitions.specs.Limits.{lastNode}
+use Rattle.definitions.specs.Tree.{treeOf, there}
+use Rattle.definitions.specs.Calls.{lookRefusal}
+use Rattle.definitions.proofs.Refusals.{causes, found, holds, natural-of}
+use Rattle.definitions.proofs.Passed.{long, below}
 use Rattle.looking.proofs.look_refusal.Statement.{statement}
 use Rattle.looking.proofs.look_refusal.Tie as tie
 

@@ -13,16 +13,16 @@ use mir.Val.{ofZ, toZ}
 use mir.ValLaws.{toZ-ofZ}
 use Rattle.numbers.specs.Whole.{minus}
 use Rattle.numbers.proofs.Tests.{cond-true, cond-false}
-use Rattle.table.specs.Limits.{nodes, rateAt, greatestRate}
-use Rattle.table.specs.Places.{place, rate}
-use Rattle.table.specs.Tree.{treeOf, isClass, sumUnder}
-use Rattle.table.specs.Order.{inOrder}
-use Rattle.table.specs.Calls.{lostGrains}
-use Rattle.table.proofs.Facts.{facts}
+use Rattle.definitions.specs.Limits.{nodes, rateAt, greatestRate}
+use Rattle.definitions.specs.Places.{place, rate}
+use Rattle.definitions.specs.Tree.{treeOf, isClass, sumUnder}
+use Rattle.definitions.specs.Order.{inOrder}
+use Rattle.definitions.specs.Calls.{lostGrains}
+use Rattle.definitions.proofs.Facts.{facts}
 use Rattle.treelaws.proofs.Children.{class-there}
 use Rattle.treelaws.proofs.Rounding.{fair-rates, rate-natural, rate-small}
-use Rattle.rating.specs.Sums.{term}
-use Rattle.rating.proofs.Summable.{in-order-summable}
+use Rattle.sums.specs.Sums.{term}
+use Rattle.sums.proofs.Summable.{in-order-summable}
 use Rattle.looking.proofs.lost_grains.Statement.{statement}
 use Rattle.looking.proofs.lost_grains.Tie as tie
 

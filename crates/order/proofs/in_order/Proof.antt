@@ -7,12 +7,12 @@ use lib.ListN.{length}
 use lib.Dec.{eqb}
 use lib.IntN.{ℤ}
 use Rattle.numbers.proofs.Tests.{same-truth, and-true, and-left, and-right}
-use Rattle.table.specs.Limits.{tableLength}
-use Rattle.table.specs.Tree.{treeOf, eachClass}
-use Rattle.table.specs.Order.{headerInOrder, rootInOrder, inOrder}
+use Rattle.definitions.specs.Limits.{tableLength}
+use Rattle.definitions.specs.Tree.{treeOf, eachClass}
+use Rattle.definitions.specs.Order.{headerInOrder, rootInOrder, inOrder}
 use Rattle.records.specs.Record.{recordsInOrder}
-use Rattle.order.specs.Cover.{classCovers}
-use Rattle.order.proofs.Small.{totals-start}
+use Rattle.covering.specs.Cover.{classCovers}
+use Rattle.covering.proofs.Small.{totals-start}
 use Rattle.order.proofs.Verdict.{stages, from-stages, out-of-order, testable, waiting-small, depth-small}
 use borrow.Author.Needs.{needs}
 use Rattle.order.proofs.in_order.Statement.{statement}

@@ -5,8 +5,8 @@ use mir.Syntax.{w64}
 use mir.ValLaws.{toZ-ofZ}
 use Rattle.numbers.specs.Whole.{withinℤ}
 use Rattle.numbers.proofs.Every.{joined-as, same-tests, last-test}
-use Rattle.table.specs.Limits.{greatestCount}
-use Rattle.table.specs.Order.{headerInOrder}
+use Rattle.definitions.specs.Limits.{greatestCount}
+use Rattle.definitions.specs.Order.{headerInOrder}
 use Rattle.places.proofs.Spans.{header-zeros}
 use borrow.Author.Needs.{needs}
 use Rattle.places.proofs.header_in_order.Statement.{statement}

@@ -5,9 +5,9 @@ use mathlib.Core.Bool.{Bool}
 use lib.IntN.{ℤ}
 use Rattle.numbers.specs.Whole.{plus, withinℤ}
 use Rattle.numbers.proofs.Every.{joined-as, same-tests, last-test}
-use Rattle.table.specs.Limits.{sortAt, kindAt, shareAt, portAt, shareLimit, portLimit}
-use Rattle.table.specs.Places.{place}
-use Rattle.table.specs.Order.{limitsKept}
+use Rattle.definitions.specs.Limits.{sortAt, kindAt, shareAt, portAt, shareLimit, portLimit}
+use Rattle.definitions.specs.Places.{place}
+use Rattle.definitions.specs.Order.{limitsKept}
 use borrow.Author.Needs.{needs}
 use Rattle.places.proofs.limits_kept.Statement.{statement}
 use Rattle.places.proofs.limits_kept.Tie as tie

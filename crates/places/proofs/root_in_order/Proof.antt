@@ -1,6 +1,6 @@
 -- `places::root_in_order` meets its contract: six tests together.
 use Rattle.numbers.proofs.Every.{joined-as, same-tests, last-test}
-use Rattle.table.specs.Order.{rootInOrder}
+use Rattle.definitions.specs.Order.{rootInOrder}
 use borrow.Author.Needs.{needs}
 use Rattle.places.proofs.root_in_order.Statement.{statement}
 use Rattle.places.proofs.root_in_order.Tie as tie

@@ -5,9 +5,9 @@ use mathlib.Core.Bool.{Bool, _&&_}
 use native.Mathlib.Omega.{arith}
 use Rattle.numbers.specs.Whole.{plus}
 use Rattle.numbers.proofs.Every.{joined-as, same-tests, last-test}
-use Rattle.table.specs.Limits.{headerLength, recordLength, waitingAt, spareAt, spareLength, queueAt, queueLength, requestLength}
-use Rattle.table.specs.Places.{place, waiting}
-use Rattle.table.specs.Order.{spareInOrder}
+use Rattle.definitions.specs.Limits.{headerLength, recordLength, waitingAt, spareAt, spareLength, queueAt, queueLength, requestLength}
+use Rattle.definitions.specs.Places.{place, waiting}
+use Rattle.definitions.specs.Order.{spareInOrder}
 use Rattle.places.specs.Zeros.{zeros}
 use Rattle.places.proofs.Spans.{spare-zeros, both-zeros, queue-zeros}
 use borrow.Author.Needs.{needs}

@@ -11,7 +11,7 @@ use mir.Facts.{toZ-ofZ}
 use Rattle.numbers.specs.Whole.{sameℤ}
 use Rattle.numbers.specs.Below.{allBelow}
 use Rattle.numbers.proofs.All.{all-grows}
-use Rattle.table.specs.Order.{isZero}
+use Rattle.definitions.specs.Order.{isZero}
 use Rattle.places.specs.Zeros.{zeros}
 use Rattle.places.proofs.zeros.Statement.{statement}
 use Rattle.places.proofs.zeros.Tie as tie

@@ -5,8 +5,8 @@ use native.Mathlib.Omega.{arith}
 use borrow.Author.Needs.{needs}
 use Rattle.numbers.specs.Below.{allBelow}
 use Rattle.numbers.proofs.All.{all-grows, all-done}
-use Rattle.table.specs.Places.{arrival}
-use Rattle.table.specs.Order.{differsAt, arrivalsDiffer}
+use Rattle.definitions.specs.Places.{arrival}
+use Rattle.definitions.specs.Order.{differsAt, arrivalsDiffer}
 use Rattle.queues.specs.Marks.{markOf}
 use Rattle.queues.proofs.Marks.{Marking, marking-start, marking-next, marking-end}
 use Rattle.queues.proofs.arrivals_differ.Statement.{statement}

@@ -4,7 +4,7 @@ use mathlib.Core.Path.{_≡_, refl}
 use native.Mathlib.Omega.{arith}
 use Rattle.numbers.specs.Below.{allBelow}
 use Rattle.numbers.proofs.All.{all-grows, all-done}
-use Rattle.table.specs.Order.{requestInOrder, queueInOrder}
+use Rattle.definitions.specs.Order.{requestInOrder, queueInOrder}
 use Rattle.queues.proofs.queue_in_order.Statement.{statement}
 use Rattle.queues.proofs.queue_in_order.Tie as tie
 

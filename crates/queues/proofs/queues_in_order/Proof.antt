@@ -6,7 +6,7 @@ use Rattle.numbers.specs.Tests.{every}
 use Rattle.numbers.specs.Below.{allBelow}
 use Rattle.numbers.proofs.All.{all-next, all-done}
 use Rattle.numbers.proofs.Every.{joined-as, same-tests, last-test}
-use Rattle.table.specs.Limits.{nodes}
+use Rattle.definitions.specs.Limits.{nodes}
 use Rattle.queues.specs.Waiting.{waitingInOrder}
 use Rattle.queues.specs.Marks.{MarkedBelow}
 use Rattle.queues.proofs.Marks.{none-below}

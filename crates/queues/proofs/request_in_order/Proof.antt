@@ -7,9 +7,9 @@ use mir.Syntax.{w64}
 use mir.ValLaws.{toZ-ofZ}
 use Rattle.numbers.specs.Whole.{withinℤ}
 use Rattle.numbers.proofs.Every.{joined-as, same-tests, last-test}
-use Rattle.table.specs.Tree.{treeOf}
-use Rattle.table.specs.Cost.{sizeWithin}
-use Rattle.table.specs.Order.{requestInOrder}
+use Rattle.definitions.specs.Tree.{treeOf}
+use Rattle.definitions.specs.Cost.{sizeWithin}
+use Rattle.definitions.specs.Order.{requestInOrder}
 use borrow.Author.Needs.{needs, sfits-of}
 use Rattle.queues.proofs.request_in_order.Statement.{statement}
 use Rattle.queues.proofs.request_in_order.Tie as tie

@@ -5,7 +5,7 @@ use mathlib.Core.Bool.{Bool, false, _||_}
 use borrow.Author.Tests.{eq-eqb, ne-eqb}
 use lib.Dec.{eqb, ltb}
 use Rattle.numbers.proofs.Tests.{or-true-left}
-use Rattle.table.specs.Places.{arrival}
+use Rattle.definitions.specs.Places.{arrival}
 use borrow.Author.Needs.{needs}
 use Rattle.queues.proofs.rising.Statement.{statement}
 use Rattle.queues.proofs.rising.Tie as tie

@@ -4,11 +4,11 @@ use mathlib.Core.Bool.{true}
 use native.Mathlib.Omega.{arith}
 use borrow.Author.Tests.{not-true, not-false}
 use lib.IntN.{pos}
-use Rattle.table.specs.Calls.{openRefusal}
-use Rattle.layout.specs.Format.{startOf, planLength, planIn, formed}
-use Rattle.layout.specs.Framed.{Framed}
+use Rattle.definitions.specs.Calls.{openRefusal}
+use Rattle.planformat.specs.Format.{startOf, planLength, planIn, formed}
+use Rattle.planformat.specs.Framed.{Framed}
 use Rattle.planlaws.specs.Reading.{openedFor, entriesRefusal, rising}
-use Rattle.layout.proofs.Codec.{formed-facts}
+use Rattle.planformat.proofs.Codec.{formed-facts}
 use Rattle.planlaws.proofs.Accepted.{accepted-plan}
 use Rattle.planlaws.proofs.Stages.{plan-count, wrong-form, wrong-open, wrong-join, wrong-order, joined-for, joined-entries}
 use borrow.Author.Needs.{needs}

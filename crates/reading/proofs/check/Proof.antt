@@ -1,5 +1,5 @@
 -- `reading::check` meets its contract: the plan is built in a table of zeros.
-use Rattle.table.specs.Calls.{blank}
+use Rattle.definitions.specs.Calls.{blank}
 use Rattle.planlaws.specs.Reading.{checkAnswer}
 use borrow.Author.Needs.{needs}
 use Rattle.reading.proofs.check.Statement.{statement}

@@ -5,12 +5,12 @@ use native.Mathlib.Omega.{arith}
 use lib.IntN.{pos}
 use mir.Syntax.{w64}
 use mir.ValLaws.{toZ-ofZ}
-use Rattle.table.specs.Calls.{done, openAnswer}
-use Rattle.layout.specs.Format.{startOf, diskRateAt, rootDepthAt, editionIn, planIn}
-use Rattle.layout.specs.Bytes.{le4}
+use Rattle.definitions.specs.Calls.{done, openAnswer}
+use Rattle.planformat.specs.Format.{startOf, diskRateAt, rootDepthAt, editionIn, planIn}
+use Rattle.planformat.specs.Bytes.{le4}
 use Rattle.planlaws.specs.Reading.{openedFor}
-use Rattle.table.specs.Refusals.{numberTold}
-use Rattle.table.proofs.Refusals.{number-outcome}
+use Rattle.definitions.specs.Refusals.{numberTold}
+use Rattle.definitions.proofs.Refusals.{number-outcome}
 use borrow.Author.Needs.{needs, sfits-of}
 use Rattle.reading.proofs.open_plan.Statement.{statement}
 use Rattle.reading.proofs.open_plan.Tie as tie

@@ -8,12 +8,12 @@ use lib.IntN.{ℤ, pos}
 use mir.Syntax.{w64}
 use mir.ValLaws.{toZ-ofZ}
 use borrow.Author.Needs.{needs, sfits-of}
-use Rattle.table.specs.Limits.{tableLength}
+use Rattle.definitions.specs.Limits.{tableLength}
 use Rattle.table.specs.Answers.{told}
-use Rattle.table.specs.Refusals.{outcome, accepted as accepted-with}
-use Rattle.table.specs.Calls.{blank}
-use Rattle.table.proofs.Refusals.{kept-old, outcome-accepted, outcome-refused}
-use Rattle.layout.specs.Format.{editionNumber}
+use Rattle.definitions.specs.Refusals.{outcome, accepted as accepted-with}
+use Rattle.definitions.specs.Calls.{blank}
+use Rattle.definitions.proofs.Refusals.{kept-old, outcome-accepted, outcome-refused}
+use Rattle.planformat.specs.Format.{editionNumber}
 use Rattle.planlaws.specs.Reading.{planRefusal, planTable, planAnswer, checkAnswer}
 use Rattle.planlaws.proofs.Accepted.{plan-table, plan-table-any}
 use Rattle.planlaws.proofs.Stages.{wrong-length, check-any}

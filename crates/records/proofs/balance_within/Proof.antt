@@ -5,9 +5,9 @@ use mathlib.Core.Bool.{Bool, _||_}
 use native.Mathlib.Omega.{arith}
 use lib.Dec.{eqb, leb}
 use Rattle.numbers.proofs.Every.{joined-as, same-tests, last-test}
-use Rattle.table.specs.Limits.{lastLevel}
-use Rattle.table.specs.Places.{balance, depthGrains}
-use Rattle.table.specs.Tree.{treeOf}
+use Rattle.definitions.specs.Limits.{lastLevel}
+use Rattle.definitions.specs.Places.{balance, depthGrains}
+use Rattle.definitions.specs.Tree.{treeOf}
 use Rattle.records.specs.Record.{balanceWithin}
 use borrow.Author.Needs.{needs}
 use Rattle.records.proofs.balance_within.Statement.{statement}

@@ -4,9 +4,9 @@ use mathlib.Core.Path.{sym, ap, ap₂, _∙_}
 use mathlib.Core.Bool.{Bool, not, _||_}
 use lib.Dec.{eqb, leb}
 use Rattle.numbers.proofs.Every.{joined-as, same-tests, last-test}
-use Rattle.table.specs.Limits.{lastClassLevel}
-use Rattle.table.specs.Places.{waiting}
-use Rattle.table.specs.Tree.{treeOf, isClass}
+use Rattle.definitions.specs.Limits.{lastClassLevel}
+use Rattle.definitions.specs.Places.{waiting}
+use Rattle.definitions.specs.Tree.{treeOf, isClass}
 use Rattle.records.specs.Record.{classPlaced}
 use Rattle.records.proofs.Joined.{test-or}
 use borrow.Author.Needs.{needs}

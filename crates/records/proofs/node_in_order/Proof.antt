@@ -4,7 +4,7 @@ use mathlib.Core.Bool.{true}
 use native.Mathlib.Omega.{arith}
 use borrow.Author.Tests.{not-true, not-false}
 use Rattle.numbers.proofs.Every.{head-fails, joined-as, same-tests, last-test}
-use Rattle.table.specs.Order.{limitsKept}
+use Rattle.definitions.specs.Order.{limitsKept}
 use Rattle.records.specs.Record.{nodeInOrder}
 use Rattle.records.proofs.Bounds.{bounds}
 use Rattle.records.proofs.Joined.{every-past}

@@ -6,10 +6,10 @@ use native.Mathlib.Omega.{arith}
 use lib.Dec.{eqb}
 use Rattle.numbers.specs.Whole.{plus}
 use Rattle.numbers.proofs.Every.{joined-as, same-tests, last-test}
-use Rattle.table.specs.Limits.{levelAt}
-use Rattle.table.specs.Places.{place}
-use Rattle.table.specs.Tree.{treeOf, isClass}
-use Rattle.table.specs.Order.{parentInOrder}
+use Rattle.definitions.specs.Limits.{levelAt}
+use Rattle.definitions.specs.Places.{place}
+use Rattle.definitions.specs.Tree.{treeOf, isClass}
+use Rattle.definitions.specs.Order.{parentInOrder}
 use borrow.Author.Needs.{needs}
 use Rattle.records.proofs.parent_in_order.Statement.{statement}
 use Rattle.records.proofs.parent_in_order.Tie as tie

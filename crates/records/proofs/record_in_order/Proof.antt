@@ -2,7 +2,7 @@
 use mathlib.Core.Path.{sym, _∙_}
 use borrow.Author.Tests.{not-true, not-false}
 use Rattle.numbers.proofs.Tests.{cond-true, cond-false}
-use Rattle.table.specs.Tree.{treeOf, there}
+use Rattle.definitions.specs.Tree.{treeOf, there}
 use Rattle.records.specs.Record.{recordInOrder}
 use Rattle.places.proofs.Spans.{record-zeros}
 use borrow.Author.Needs.{needs}

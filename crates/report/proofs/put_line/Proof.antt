@@ -1,7 +1,7 @@
 -- `report::put_line` meets its contract: the node's line, or nothing.
 use mathlib.Core.Path.{sym, _∙_}
 use borrow.Author.Tests.{not-true, not-false}
-use Rattle.table.specs.Places.{rate}
+use Rattle.definitions.specs.Places.{rate}
 use Rattle.text.proofs.Appending.{append-as, append-none}
 use Rattle.report.proofs.Lines.{line-of, line-none}
 use borrow.Author.Needs.{needs}

@@ -4,8 +4,8 @@ use mathlib.Core.Path.{_≡_, refl, ap}
 use native.Mathlib.Omega.{arith}
 use borrow.Author.Needs.{needs}
 use lib.ListN.{length}
-use Rattle.table.specs.Limits.{nodes}
-use Rattle.layout.specs.Bytes.{bytesBelow}
+use Rattle.definitions.specs.Limits.{nodes}
+use Rattle.planformat.specs.Bytes.{bytesBelow}
 use Rattle.text.specs.Appended.{Appended}
 use Rattle.report.specs.Text.{line, linesOf}
 use Rattle.text.proofs.Appending.{append-as, append-none}

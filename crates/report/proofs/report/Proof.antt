@@ -2,8 +2,8 @@
 use mathlib.Core.Path.{_≡_, sym, ap, _∙_}
 use native.Mathlib.Nat.{zero-add}
 use borrow.Author.Needs.{needs}
-use Rattle.table.specs.Refusals.{numberTold}
-use Rattle.table.specs.Calls.{blank}
+use Rattle.definitions.specs.Refusals.{numberTold}
+use Rattle.definitions.specs.Calls.{blank}
 use Rattle.planlaws.specs.Reading.{checkAnswer}
 use Rattle.text.specs.Text.{refusedLine}
 use Rattle.report.specs.Text.{linesOf}

@@ -10,11 +10,11 @@ use lib.IntN.{ℤ, pos}
 use mir.Syntax.{w64}
 use mir.ValLaws.{toZ-ofZ}
 use Rattle.numbers.specs.Whole.{plus}
-use Rattle.table.specs.Places.{count}
+use Rattle.definitions.specs.Places.{count}
 use Rattle.table.specs.Answers.{told}
-use Rattle.table.specs.Refusals.{accepted, refused}
-use Rattle.table.specs.Calls.{requestRefusal, requestTable, requestAnswer}
-use Rattle.table.proofs.Refusals.{kept-new, kept-old, outcome-accepted, outcome-refused, natural-of}
+use Rattle.definitions.specs.Refusals.{accepted, refused}
+use Rattle.definitions.specs.Calls.{requestRefusal, requestTable, requestAnswer}
+use Rattle.definitions.proofs.Refusals.{kept-new, kept-old, outcome-accepted, outcome-refused, natural-of}
 use Rattle.requesting.proofs.Room.{Room, accepted-room}
 use Rattle.requesting.proofs.request.Statement.{statement}
 use Rattle.requesting.proofs.request.Tie as tie

@@ -5,8 +5,8 @@ use lib.IntN.{pos}
 use mir.Syntax.{w64}
 use mir.ValLaws.{toZ-ofZ}
 use Rattle.numbers.specs.Whole.{plus}
-use Rattle.table.specs.Calls.{requestRefusal, requestTable}
-use Rattle.table.proofs.Refusals.{kept-new, kept-old}
+use Rattle.definitions.specs.Calls.{requestRefusal, requestTable}
+use Rattle.definitions.proofs.Refusals.{kept-new, kept-old}
 use Rattle.requesting.proofs.Room.{Room, accepted-room}
 use Rattle.requesting.proofs.request_in_order.Statement.{statement}
 use Rattle.requesting.proofs.request_in_order.Tie as tie

@@ -1,6 +1,6 @@
 -- `requesting::request_limits` meets its contract: the tests together.
-use Rattle.table.proofs.Refusals.{limits, tested}
-use Rattle.requesting.specs.Limits.{requestLimits}
+use Rattle.definitions.specs.Calls.{requestLimits}
+use Rattle.definitions.proofs.Refusals.{limits, tested}
 use Rattle.requesting.proofs.request_limits.Statement.{statement}
 use Rattle.requesting.proofs.request_limits.Tie as tie
 

@@ -7,10 +7,9 @@ use lib.IntN.{ℤ, pos}
 use mir.Syntax.{w64}
 use mir.ValLaws.{toZ-ofZ}
 use Rattle.numbers.proofs.Every.{head-holds, rest-hold}
-use Rattle.table.specs.Limits.{lastNode}
-use Rattle.table.specs.Calls.{requestRefusal}
-use Rattle.table.proofs.Refusals.{causes, found, holds, number-of, least-of}
-use Rattle.requesting.specs.Limits.{requestLimits}
+use Rattle.definitions.specs.Limits.{lastNode}
+use Rattle.definitions.specs.Calls.{requestLimits, requestRefusal}
+use Rattle.definitions.proofs.Refusals.{causes, found, holds, number-of, least-of}
 use Rattle.requesting.proofs.request_refusal.Statement.{statement}
 use Rattle.requesting.proofs.request_refusal.Tie as tie
 

@@ -11,16 +11,15 @@ use lib.IntN.{ℤ, pos}
 use Rattle.numbers.specs.Whole.{plus}
 use Rattle.numbers.proofs.Every.{head-holds}
 use Rattle.numbers.proofs.Parts.{zarith}
-use Rattle.table.specs.Limits.{nodes, depthAt, greatestDepth}
-use Rattle.table.specs.Places.{place, waiting}
-use Rattle.table.specs.Tree.{treeOf, there}
-use Rattle.table.specs.Cost.{cost}
-use Rattle.table.specs.Order.{inOrder}
-use Rattle.table.specs.Calls.{requestRefusal}
-use Rattle.table.proofs.Facts.{facts}
-use Rattle.table.proofs.Refusals.{causes, found, holds}
-use Rattle.table.proofs.Passed.{long, below}
-use Rattle.requesting.specs.Limits.{requestLimits}
+use Rattle.definitions.specs.Limits.{nodes, depthAt, greatestDepth}
+use Rattle.definitions.specs.Places.{place, waiting}
+use Rattle.definitions.specs.Tree.{treeOf, there}
+use Rattle.definitions.specs.Cost.{cost}
+use Rattle.definitions.specs.Order.{inOrder}
+use Rattle.definitions.specs.Calls.{requestLimits, requestRefusal}
+use Rattle.definitions.proofs.Facts.{facts}
+use Rattle.definitions.proofs.Refusals.{causes, found, holds}
+use Rattle.definitions.proofs.Passed.{long, below}
 use Rattle.requesting.proofs.tree_refusal.Statement.{statement}
 use Rattle.requesting.proofs.tree_refusal.Tie as tie
 

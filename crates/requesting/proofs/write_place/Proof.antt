@@ -3,9 +3,9 @@ use Prim.Native.Nat.{_+_}
 use mathlib.Core.Path.{refl}
 use borrow.Author.Needs.{needs}
 use mir.Facts.{toZ-ofZ}
-use Rattle.table.specs.Limits.{tagAt, sizeAt, arrivalAt}
-use Rattle.table.specs.Places.{queuePlace}
-use Rattle.table.proofs.Places.{put-then}
+use Rattle.definitions.specs.Limits.{tagAt, sizeAt, arrivalAt}
+use Rattle.definitions.specs.Places.{queuePlace}
+use Rattle.definitions.proofs.Places.{put-then}
 use Rattle.requesting.proofs.write_place.Statement.{statement}
 use Rattle.requesting.proofs.write_place.Tie as tie
 

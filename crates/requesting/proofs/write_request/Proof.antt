@@ -9,9 +9,9 @@ use lib.IntN.{ℤ, pos}
 use mir.Syntax.{w64}
 use mir.ValLaws.{toZ-ofZ}
 use Rattle.numbers.specs.Whole.{plus}
-use Rattle.table.specs.Limits.{waitingAt, tagAt, sizeAt, arrivalAt}
-use Rattle.table.specs.Places.{place, put, putHeader, queuePlace, count, waiting}
-use Rattle.table.specs.Calls.{requested}
+use Rattle.definitions.specs.Limits.{waitingAt, tagAt, sizeAt, arrivalAt}
+use Rattle.definitions.specs.Places.{place, put, putHeader, queuePlace, count, waiting}
+use Rattle.definitions.specs.Calls.{requested}
 use Rattle.requesting.proofs.write_request.Statement.{statement}
 use Rattle.requesting.proofs.write_request.Tie as tie
 

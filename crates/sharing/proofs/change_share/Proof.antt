@@ -11,25 +11,25 @@ use mir.Syntax.{w64}
 use mir.ValLaws.{toZ-ofZ}
 use Rattle.numbers.specs.Whole.{plus}
 use Rattle.table.specs.Answers.{told}
-use Rattle.table.specs.Refusals.{outcome}
-use Rattle.table.specs.Order.{inOrder}
-use Rattle.table.specs.Limits.{nodes, sortAt, rateAt}
-use Rattle.table.specs.Places.{rate}
-use Rattle.table.specs.Tree.{treeOf, there, isClass}
-use Rattle.table.specs.Rates.{renewed}
-use Rattle.table.specs.Renewal.{renewedBelow}
-use Rattle.table.specs.Calls.{done, changeShareRefusal, changeShareTable, changeShareAnswer, reshared}
-use Rattle.table.proofs.Refusals.{kept-new, kept-old, outcome-accepted, natural-of}
-use Rattle.table.proofs.Facts.{facts}
-use Rattle.table.proofs.Edits.{reshared-rest}
-use Rattle.table.proofs.Passed.{change-share-passed, long}
+use Rattle.definitions.specs.Refusals.{outcome}
+use Rattle.definitions.specs.Order.{inOrder}
+use Rattle.definitions.specs.Limits.{nodes, sortAt, rateAt}
+use Rattle.definitions.specs.Places.{rate}
+use Rattle.definitions.specs.Tree.{treeOf, there, isClass}
+use Rattle.definitions.specs.Rates.{renewed}
+use Rattle.definitions.specs.Renewal.{renewedBelow}
+use Rattle.definitions.specs.Calls.{done, changeShareRefusal, changeShareTable, changeShareAnswer, reshared}
+use Rattle.definitions.proofs.Refusals.{kept-new, kept-old, outcome-accepted, natural-of}
+use Rattle.definitions.proofs.Facts.{facts}
+use Rattle.definitions.proofs.Edits.{reshared-rest}
+use Rattle.definitions.proofs.Passed.{change-share-passed, long}
 use Rattle.treelaws.specs.Renewal.{RenewsAll}
 use Rattle.treelaws.proofs.Children.{class-there}
 use Rattle.treelaws.proofs.Rounding.{rate-small}
 use Rattle.treelaws.proofs.Joined.{same-there}
 use Rattle.calllaws.proofs.ChangeShare.{change-share-keeps, change-share-renews-below}
-use Rattle.rating.specs.Rated.{Rated}
-use Rattle.rating.proofs.Rated.{rated-before}
+use Rattle.sums.specs.Rated.{Rated}
+use Rattle.sums.proofs.Rated.{rated-before}
 use Rattle.sharing.proofs.change_share.Statement.{statement}
 use Rattle.sharing.proofs.change_share.Tie as tie
 

@@ -8,27 +8,26 @@ use mir.Syntax.{w64}
 use mir.ValLaws.{toZ-ofZ}
 use Rattle.numbers.specs.Whole.{plus}
 use Rattle.numbers.proofs.Every.{head-holds, rest-hold}
-use Rattle.table.specs.Limits.{lastNode, fixed, stated, shareLimit}
-use Rattle.table.specs.Calls.{changeShareRefusal}
-use Rattle.table.proofs.Refusals.{causes, found, holds, number-of}
-use Rattle.sharing.specs.Limits.{shareLimits}
+use Rattle.definitions.specs.Limits.{lastNode, fixed, stated, shareLimit}
+use Rattle.definitions.specs.Calls.{changeShareLimits, changeShareRefusal}
+use Rattle.definitions.proofs.Refusals.{causes, found, holds, number-of}
 use Rattle.sharing.proofs.change_share_refusal.Statement.{statement}
 use Rattle.sharing.proofs.change_share_refusal.Tie as tie
 
 abbrev start : tie.Else2 → tie.Start
 start c = c .before .before .before .before
 
-fits : (c : tie.After-change-share-limits) → let a = c .before .before .before .args in c .change-share-limits .result ≡ shareLimits (a .node) (a .kind) (a .share)
+fits : (c : tie.After-change-share-limits) → let a = c .before .before .before .args in c .change-share-limits .result ≡ changeShareLimits (a .node) (a .kind) (a .share)
 fits c =
     let s = c .before .before .before .fits in
     rw (toZ-ofZ w64 _ (s .node), toZ-ofZ w64 _ (s .kind), toZ-ofZ w64 _ (s .share)) at (c .change-share-limits .ensures)
 
-within : (c : tie.Else2) → let a = start c .args in shareLimits (a .node) (a .kind) (a .share) ≡ true
+within : (c : tie.Else2) → let a = start c .args in changeShareLimits (a .node) (a .kind) (a .share) ≡ true
 within c = holds (fits (c .before)) (c .if2 .left)
 
 -- The numbers that the code goes on with are the arguments.
 same : (c : tie.After-natural3) → let a = start (c .before .before .before) .args in (pos (c .before .before .natural .result) ≡ a .node) × (pos (c .before .natural2 .result) ≡ a .kind) × (pos (c .natural3 .result) ≡ a .share)
-unfolding shareLimits
+unfolding changeShareLimits
 same c =
     let second = c .before .before .before in
     let s = start second .fits in
@@ -52,7 +51,7 @@ returns-3 c =
     (rw (p .0, p .1, p .2) at (e .0), e .1)
 
 pub change-share-refusal-spec : {M : Type 1} → statement M
-unfolding changeShareRefusal shareLimits
+unfolding changeShareRefusal changeShareLimits
 change-share-refusal-spec =
     tie.close
     (tie.spec

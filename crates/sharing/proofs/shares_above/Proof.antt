@@ -2,13 +2,13 @@
 use mathlib.Core.Path.{_≡_, sym, ap, _∙_}
 use native.Mathlib.Omega.{arith}
 use borrow.Author.Needs.{needs}
-use Rattle.table.specs.Tree.{treeOf}
-use Rattle.table.specs.Limits.{fixed}
-use Rattle.table.specs.Rates.{fixedSum}
-use Rattle.table.proofs.Facts.{facts}
-use Rattle.table.proofs.Passed.{long}
-use Rattle.rating.specs.declared.sums.Summand.the-variants.{Shares}
-use Rattle.rating.proofs.Summable.{in-order-summable}
+use Rattle.definitions.specs.Tree.{treeOf}
+use Rattle.definitions.specs.Limits.{fixed}
+use Rattle.definitions.specs.Rates.{fixedSum}
+use Rattle.definitions.proofs.Facts.{facts}
+use Rattle.definitions.proofs.Passed.{long}
+use Rattle.sums.specs.declared.Summand.the-variants.{Shares}
+use Rattle.sums.proofs.Summable.{in-order-summable}
 use Rattle.sharing.proofs.Sums.{own-fixed, shares-with}
 use Rattle.sharing.proofs.shares_above.Statement.{statement}
 use Rattle.sharing.proofs.shares_above.Tie as tie

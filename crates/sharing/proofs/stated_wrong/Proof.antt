@@ -3,13 +3,13 @@ use Prim.Native.Nat.{ℕ}
 use mathlib.Core.Path.{_≡_, sym, ap₂, _∙_}
 use native.Mathlib.Omega.{arith}
 use borrow.Author.Needs.{needs}
-use Rattle.table.specs.Tree.{treeOf}
-use Rattle.table.specs.Limits.{stated}
-use Rattle.table.proofs.Facts.{facts}
-use Rattle.table.proofs.Passed.{long}
+use Rattle.definitions.specs.Tree.{treeOf}
+use Rattle.definitions.specs.Limits.{stated}
+use Rattle.definitions.proofs.Facts.{facts}
+use Rattle.definitions.proofs.Passed.{long}
 use Rattle.treelaws.specs.Stated.{statedWrongWith}
-use Rattle.rating.specs.declared.sums.Summand.the-variants.{Shares}
-use Rattle.rating.proofs.Summable.{in-order-summable}
+use Rattle.sums.specs.declared.Summand.the-variants.{Shares}
+use Rattle.sums.proofs.Summable.{in-order-summable}
 use Rattle.sharing.proofs.Sums.{own-stated, stated-with}
 use Rattle.sharing.proofs.stated_wrong.Statement.{statement}
 use Rattle.sharing.proofs.stated_wrong.Tie as tie

@@ -8,22 +8,21 @@ use lib.IntN.{pos}
 use Rattle.numbers.specs.Whole.{plus}
 use Rattle.numbers.proofs.Every.{head-holds, rest-hold}
 use Rattle.numbers.proofs.Parts.{within-parts}
-use Rattle.table.specs.Limits.{nodes, greatestRate, shareLimit}
-use Rattle.table.specs.Calls.{changeShareRefusal}
-use Rattle.table.proofs.ShareKinds.{limit-le}
-use Rattle.table.proofs.Refusals.{causes, found, holds}
-use Rattle.table.proofs.Passed.{long, below}
-use Rattle.sharing.specs.Limits.{shareLimits}
+use Rattle.definitions.specs.Limits.{nodes, greatestRate, shareLimit}
+use Rattle.definitions.specs.Calls.{changeShareLimits, changeShareRefusal}
+use Rattle.definitions.proofs.ShareKinds.{limit-le}
+use Rattle.definitions.proofs.Refusals.{causes, found, holds}
+use Rattle.definitions.proofs.Passed.{long, below}
 use Rattle.sharing.proofs.tree_refusal.Statement.{statement}
 use Rattle.sharing.proofs.tree_refusal.Tie as tie
 
 -- What the limits say of node and share.
-low : (k kind share : ℕ) → shareLimits (pos k) (pos kind) (pos share) ≡ true → k < nodes
-unfolding shareLimits plus
+low : (k kind share : ℕ) → changeShareLimits (pos k) (pos kind) (pos share) ≡ true → k < nodes
+unfolding changeShareLimits plus
 low k kind share h = below 0 (pos k) (head-holds _ _ h)
 
-small : (k kind share : ℕ) → shareLimits (pos k) (pos kind) (pos share) ≡ true → share ≤ greatestRate
-unfolding shareLimits plus
+small : (k kind share : ℕ) → changeShareLimits (pos k) (pos kind) (pos share) ≡ true → share ≤ greatestRate
+unfolding changeShareLimits plus
 small k kind share h = omega (arith, within-parts 1 (shareLimit kind) (pos share) (head-holds _ _ (rest-hold _ _ (rest-hold _ _ h))) .2, limit-le kind)
 
 there-requires : tie.Need-there-requires
@@ -43,7 +42,7 @@ stated-wrong-requires c κs =
     (pre .0, low _ _ _ (pre .1), holds (first .before .there .ensures) (first .if1 .left), second .if2 .left, small _ _ _ (pre .1))
 
 pub tree-refusal-spec : {M : Type 1} → statement M
-unfolding changeShareRefusal shareLimits plus
+unfolding changeShareRefusal changeShareLimits plus
 tree-refusal-spec =
     tie.close
     (tie.spec

@@ -2,9 +2,9 @@
 use mathlib.Core.Path.{refl}
 use borrow.Author.Needs.{needs}
 use mir.Facts.{toZ-ofZ}
-use Rattle.table.specs.Limits.{kindAt, shareAt}
-use Rattle.table.specs.Calls.{reshared}
-use Rattle.table.proofs.Places.{put-then}
+use Rattle.definitions.specs.Limits.{kindAt, shareAt}
+use Rattle.definitions.specs.Calls.{reshared}
+use Rattle.definitions.proofs.Places.{put-then}
 use Rattle.sharing.proofs.write_share.Statement.{statement}
 use Rattle.sharing.proofs.write_share.Tie as tie
 

@@ -4,8 +4,8 @@ use mathlib.Core.Path.{_≡_, refl, sym, ap, _∙_}
 use native.Mathlib.Omega.{arith}
 use borrow.Author.Needs.{needs}
 use lib.ListN.{length}
-use Rattle.table.specs.Limits.{firstPort, secondPort}
-use Rattle.table.specs.Tick.{allWaiting}
+use Rattle.definitions.specs.Limits.{firstPort, secondPort}
+use Rattle.definitions.specs.Tick.{allWaiting}
 use Rattle.suppliers.proofs.Answer.{Goes, client-answer, nothing-answer}
 use Rattle.steps.specs.Steps.{Lending, lending}
 use Rattle.steps.proofs.Shows.{Going, going-first, going-next, going-done, Turn, entry-room}

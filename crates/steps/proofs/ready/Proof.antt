@@ -3,8 +3,8 @@ use Prim.Native.Nat.{ℕ}
 use mathlib.Core.Path.{_≡_, sym, ap, _∙_}
 use native.Mathlib.Omega.{arith}
 use borrow.Author.Needs.{needs}
-use Rattle.table.specs.Places.{size}
-use Rattle.table.specs.Tick.{grains, enough}
+use Rattle.definitions.specs.Places.{size}
+use Rattle.definitions.specs.Tick.{grains, enough}
 use Rattle.balances.proofs.Limits.{size-at, grains-at}
 use Rattle.steps.proofs.Serving.{not-waiting, is-waiting}
 use Rattle.steps.proofs.ready.Statement.{statement}

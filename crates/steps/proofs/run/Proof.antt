@@ -1,8 +1,8 @@
 -- `steps::run` meets its contract: the table and the lists show the state after each of the four steps.
 use native.Mathlib.Omega.{arith}
 use borrow.Author.Needs.{needs}
-use Rattle.table.specs.Limits.{firstPort, secondPort}
-use Rattle.table.specs.Tick.{portEntries}
+use Rattle.definitions.specs.Limits.{firstPort, secondPort}
+use Rattle.definitions.specs.Tick.{portEntries}
 use Rattle.steps.specs.Steps.{Room}
 use Rattle.steps.proofs.Within.{order-within}
 use Rattle.steps.proofs.Serving.{serving-within}

@@ -6,9 +6,9 @@ use mathlib.Core.List.{List}
 use native.Mathlib.Omega.{arith}
 use lib.ListN.{length}
 use lib.IntN.{ℤ}
-use Rattle.table.specs.Limits.{firstPort, secondPort}
-use Rattle.table.specs.Places.{waiting}
-use Rattle.table.specs.Tick.{ready}
+use Rattle.definitions.specs.Limits.{firstPort, secondPort}
+use Rattle.definitions.specs.Places.{waiting}
+use Rattle.definitions.specs.Tick.{ready}
 use Rattle.ticklaws.proofs.Served.{ready-facts}
 use Rattle.steps.specs.Steps.{Serving, serving}
 use Rattle.steps.proofs.Shows.{Going, going-first, going-next, going-done, Turn, entry-room}

@@ -7,9 +7,9 @@ use native.Mathlib.Omega.{arith}
 use lib.ListN.{length}
 use Rattle.numbers.specs.Below.{forBelow}
 use Rattle.numbers.proofs.Steps.{for-next}
-use Rattle.table.specs.Limits.{nodes}
-use Rattle.table.specs.Places.{port}
-use Rattle.table.specs.Tick.{servedAll}
+use Rattle.definitions.specs.Limits.{nodes}
+use Rattle.definitions.specs.Places.{port}
+use Rattle.definitions.specs.Tick.{servedAll}
 use Rattle.steps.specs.Steps.{Shows, serving}
 use Rattle.steps.proofs.Shows.{shows-first}
 use Rattle.steps.proofs.Serving.{passed}

@@ -4,8 +4,8 @@ use lib.Signed.{leZ}
 use mir.Syntax.{w64}
 use mir.ValLaws.{toZ-ofZ}
 use borrow.Author.Needs.{needs, sfits-of}
-use Rattle.table.specs.Places.{balance}
-use Rattle.table.specs.Tick.{enough}
+use Rattle.definitions.specs.Places.{balance}
+use Rattle.definitions.specs.Tick.{enough}
 use Rattle.suppliers.proofs.enough.Statement.{statement}
 use Rattle.suppliers.proofs.enough.Tie as tie
 

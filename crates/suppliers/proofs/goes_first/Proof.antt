@@ -2,8 +2,8 @@
 -- else the steps.
 use mathlib.Core.Path.{refl, sym}
 use borrow.Author.Tests.{eq-eqb, ne-eqb}
-use Rattle.table.specs.Tick.{nobody}
-use Rattle.table.proofs.Choice.{as-many, not-as-many}
+use Rattle.definitions.specs.Tick.{nobody}
+use Rattle.definitions.proofs.Choice.{as-many, not-as-many}
 use Rattle.suppliers.proofs.goes_first.Statement.{statement}
 use Rattle.suppliers.proofs.goes_first.Tie as tie
 

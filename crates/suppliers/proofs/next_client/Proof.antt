@@ -7,9 +7,9 @@ use borrow.Author.Tests.{not-true, not-false}
 use borrow.Author.Needs.{needs}
 use Rattle.numbers.specs.Below.{forBelow}
 use Rattle.numbers.proofs.Steps.{turned}
-use Rattle.table.specs.Limits.{nodes}
-use Rattle.table.specs.Places.{waiting, arrival}
-use Rattle.table.specs.Tick.{nobody, supply, choice, next}
+use Rattle.definitions.specs.Limits.{nodes}
+use Rattle.definitions.specs.Places.{waiting, arrival}
+use Rattle.definitions.specs.Tick.{nobody, supply, choice, next}
 use Rattle.suppliers.proofs.Choice.{Held, held-first, held-next, Met, idle, unsupplied, later, taken}
 use Rattle.suppliers.proofs.Answer.{answer-nothing, answer-client}
 use Rattle.suppliers.proofs.next_client.Statement.{statement}

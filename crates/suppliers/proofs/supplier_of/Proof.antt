@@ -3,10 +3,10 @@
 use Prim.Native.Nat.{ℕ, _+_, _-_, _≤_, _<_}
 use mathlib.Core.Path.{_≡_, sym, ap, ap₂, _∙_}
 use native.Mathlib.Omega.{arith}
-use Rattle.table.specs.Limits.{nodes, lastLevel}
-use Rattle.table.specs.Places.{size}
-use Rattle.table.specs.Tree.{treeOf}
-use Rattle.table.specs.Tick.{grains, supplierFrom, supply}
+use Rattle.definitions.specs.Limits.{nodes, lastLevel}
+use Rattle.definitions.specs.Places.{size}
+use Rattle.definitions.specs.Tree.{treeOf}
+use Rattle.definitions.specs.Tick.{grains, supplierFrom, supply}
 use Rattle.balances.proofs.Limits.{parent-at, size-at, grains-at}
 use Rattle.suppliers.proofs.Way.{supplier-here, supplier-none, supplier-above}
 use Rattle.suppliers.proofs.supplier_of.Statement.{statement}

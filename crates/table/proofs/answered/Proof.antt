@@ -7,7 +7,7 @@ use mir.ValLaws.{toZ-ofZ}
 use mathlib.Core.List.{[], _∷_}
 use Rattle.numbers.proofs.Tests.{cond-true, cond-false}
 use Rattle.table.specs.Answers.{told}
-use Rattle.table.specs.Refusals.{outcome, accepted, refused}
+use Rattle.definitions.specs.Refusals.{outcome, accepted, refused}
 use borrow.Author.Needs.{needs}
 use Rattle.table.proofs.answered.Statement.{statement}
 use Rattle.table.proofs.answered.Tie as tie

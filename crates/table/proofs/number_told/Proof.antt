@@ -1,6 +1,6 @@
 -- `table::number_told` meets its contract, case by case.
 use Rattle.table.specs.Answers.{told}
-use Rattle.table.specs.Refusals.{numberTold}
+use Rattle.definitions.specs.Refusals.{numberTold}
 use borrow.Author.Needs.{needs}
 use Rattle.table.proofs.number_told.Statement.{statement}
 use Rattle.table.proofs.number_told.Tie as tie

@@ -4,8 +4,8 @@ use mathlib.Core.Path.{_≡_, refl, sym, ap, _∙_}
 use native.Mathlib.Omega.{arith}
 use lib.ListN.{length, take, length-set}
 use lib.Seq.{take-all}
-use Rattle.layout.specs.Written.{written}
-use Rattle.layout.proofs.Written.{written-none}
+use Rattle.planformat.specs.Written.{written}
+use Rattle.planformat.proofs.Written.{written-none}
 use Rattle.text.proofs.Appending.{copied-next}
 use Rattle.text.proofs.put_text.Statement.{statement}
 use Rattle.text.proofs.put_text.Tie as tie

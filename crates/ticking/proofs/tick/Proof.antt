@@ -8,12 +8,12 @@ use lib.ListN.{length}
 use lib.IntN.{ℤ, pos}
 use mir.Syntax.{w64}
 use mir.ValLaws.{toZ-ofZ}
-use Rattle.table.specs.Limits.{nodes, mostWaiting, entryLength, firstPort, secondPort}
+use Rattle.definitions.specs.Limits.{nodes, mostWaiting, entryLength, firstPort, secondPort}
 use Rattle.table.specs.Answers.{toldTicked}
-use Rattle.table.specs.Refusals.{accepted, refused}
-use Rattle.table.specs.Tick.{portEntries, portCount, tickRefusal, tickTable, tickFirst, tickSecond, tickAnswer}
-use Rattle.table.proofs.Facts.{InOrder, facts}
-use Rattle.table.proofs.Refusals.{kept-new, kept-old, outcome-accepted, outcome-refused}
+use Rattle.definitions.specs.Refusals.{accepted, refused}
+use Rattle.definitions.specs.Tick.{portEntries, portCount, tickRefusal, tickTable, tickFirst, tickSecond, tickAnswer}
+use Rattle.definitions.proofs.Facts.{InOrder, facts}
+use Rattle.definitions.proofs.Refusals.{kept-new, kept-old, outcome-accepted, outcome-refused}
 use Rattle.ticklaws.proofs.Ports.{port-entries}
 use Rattle.ticking.proofs.Waiting.{few, tick-passed}
 use Rattle.ticking.proofs.tick.Statement.{statement}

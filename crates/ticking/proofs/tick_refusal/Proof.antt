@@ -6,11 +6,11 @@ use native.Mathlib.Omega.{arith}
 use borrow.Author.Needs.{needs}
 use borrow.Author.Tests.{not-false, lt-ltb, le-ltb}
 use lib.ListN.{length}
-use Rattle.table.specs.Limits.{nodes, mostWaiting, entryLength, firstPort, secondPort}
-use Rattle.table.specs.Order.{inOrder}
-use Rattle.table.specs.Tick.{portWaiting, listShort, tickRefusal}
-use Rattle.table.proofs.Facts.{facts}
-use Rattle.table.proofs.Refusals.{first-here, first-past, first-end}
+use Rattle.definitions.specs.Limits.{nodes, mostWaiting, entryLength, firstPort, secondPort}
+use Rattle.definitions.specs.Order.{inOrder}
+use Rattle.definitions.specs.Tick.{portWaiting, listShort, tickRefusal}
+use Rattle.definitions.proofs.Facts.{facts}
+use Rattle.definitions.proofs.Refusals.{first-here, first-past, first-end}
 use Rattle.ticking.proofs.Waiting.{few}
 use Rattle.ticking.proofs.tick_refusal.Statement.{statement}
 use Rattle.ticking.proofs.tick_refusal.Tie as tie

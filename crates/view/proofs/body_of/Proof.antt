@@ -5,8 +5,8 @@ use mathlib.Core.Bool.{true}
 use native.Mathlib.Omega.{arith}
 use borrow.Author.Needs.{needs}
 use borrow.Author.Tests.{not-true, not-false}
-use Rattle.table.specs.Refusals.{accepted}
-use Rattle.layout.specs.Format.{formed}
+use Rattle.definitions.specs.Refusals.{accepted}
+use Rattle.planformat.specs.Format.{formed}
 use Rattle.view.specs.Answer.{listedFrom, bodyAnswer, toldFound}
 use Rattle.view.proofs.Viewed.{headed}
 use Rattle.view.proofs.Listing.{listed-here, listed-later, listed-none, answer-plan, answer-no-plan, body-told}

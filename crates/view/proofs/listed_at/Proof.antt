@@ -39,7 +39,7 @@ use denote.Triple.Spec.{Meets, tripleOf}
 use denote.Triple.Table.{entered, cited}
 use denote.Triple.Walked.{says, needs, Stays, stay-none, stay-none-slice, walkOf, goes-none, goes-none-slice, Walks, ends-at, walked, walk-meets}
 use denote.Exit.{yes}
-use Rattle.layout.specs.Format.{editionIn, countIn, formed}
+use Rattle.planformat.specs.Format.{editionIn, countIn, formed}
 use Rattle.view.specs.Views.{Views, EntryAt, BodyAt}
 use Rattle.view.specs.declared.View.{View}
 use Rattle.view.specs.declared.Entry.{Entry}

@@ -10,15 +10,15 @@ use lib.IntN.{ℤ, pos}
 use mir.Syntax.{w64}
 use mir.ValLaws.{toZ-ofZ}
 use Rattle.numbers.specs.Whole.{withinℤ}
-use Rattle.table.specs.Tree.{treeOf}
-use Rattle.table.specs.Order.{inOrder}
+use Rattle.definitions.specs.Tree.{treeOf}
+use Rattle.definitions.specs.Order.{inOrder}
 use Rattle.table.specs.Answers.{told}
-use Rattle.table.specs.Refusals.{accepted}
-use Rattle.table.proofs.Facts.{facts}
-use Rattle.table.proofs.Refusals.{natural-of}
-use Rattle.layout.specs.declared.Edition.{Edition}
-use Rattle.layout.specs.Format.{firstEdition, secondEdition, editionOf, planLength}
-use Rattle.layout.specs.Written.{written}
+use Rattle.definitions.specs.Refusals.{accepted}
+use Rattle.definitions.proofs.Facts.{facts}
+use Rattle.definitions.proofs.Refusals.{natural-of}
+use Rattle.planformat.specs.declared.Edition.{Edition}
+use Rattle.planformat.specs.Format.{firstEdition, secondEdition, editionOf, planLength}
+use Rattle.planformat.specs.Written.{written}
 use Rattle.planlaws.specs.Writing.{planBytes, unwritable, editionTold}
 use Rattle.planlaws.proofs.Listing.{order-short}
 use Rattle.planlaws.proofs.RoundTrips.{WritePassed, length-plan}

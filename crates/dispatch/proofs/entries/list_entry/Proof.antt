@@ -4,7 +4,7 @@ use native.Mathlib.Omega.{arith}
 use borrow.Author.Needs.{needs}
 use mir.Syntax.{w64}
 use mir.ValLaws.{toZ-ofZ}
-use Rattle.table.specs.Limits.{firstPort, secondPort}
+use Rattle.definitions.specs.Limits.{firstPort, secondPort}
 use Rattle.dispatch.proofs.Gets.{gets-here, gets-other, entered-here, entered-other}
 use Rattle.dispatch.proofs.entries.list_entry.Statement.{statement}
 use Rattle.dispatch.proofs.entries.list_entry.Tie as tie

@@ -3,7 +3,7 @@ use mathlib.Core.Path.{ap, _∙_}
 use mir.Syntax.{w64}
 use mir.ValLaws.{toZ-ofZ}
 use borrow.Author.Needs.{needs, sfits-of}
-use Rattle.table.specs.Places.{put}
+use Rattle.definitions.specs.Places.{put}
 use Rattle.dispatch.proofs.queue.move_one.Statement.{statement}
 use Rattle.dispatch.proofs.queue.move_one.Tie as tie
 

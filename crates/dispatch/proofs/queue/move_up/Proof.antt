@@ -3,9 +3,9 @@ use Prim.Native.Nat.{ℕ, _+_, _-_}
 use mathlib.Core.List.{List}
 use native.Mathlib.Omega.{arith}
 use lib.IntN.{ℤ}
-use Rattle.table.specs.Limits.{queueAt, queueLength, requestLength}
-use Rattle.table.specs.Places.{place, put}
-use Rattle.table.proofs.Turns.{Turns, turns-first, turns-next, turns-all}
+use Rattle.definitions.specs.Limits.{queueAt, queueLength, requestLength}
+use Rattle.definitions.specs.Places.{place, put}
+use Rattle.definitions.proofs.Turns.{Turns, turns-first, turns-next, turns-all}
 use Rattle.dispatch.specs.Queue.{movedUp}
 use Rattle.dispatch.proofs.queue.move_up.Statement.{statement}
 use Rattle.dispatch.proofs.queue.move_up.Tie as tie

@@ -4,10 +4,10 @@ use mathlib.Core.Path.{ap, _∙_}
 use mathlib.Core.List.{List}
 use native.Mathlib.Omega.{arith}
 use lib.IntN.{ℤ, pos}
-use Rattle.table.specs.Limits.{waitingAt}
-use Rattle.table.specs.Places.{waiting}
-use Rattle.table.specs.Tick.{takenOut}
-use Rattle.table.proofs.Places.{put-then}
+use Rattle.definitions.specs.Limits.{waitingAt}
+use Rattle.definitions.specs.Places.{waiting}
+use Rattle.definitions.specs.Tick.{takenOut}
+use Rattle.definitions.proofs.Places.{put-then}
 use Rattle.dispatch.specs.Queue.{movedUp, lastCleared}
 use borrow.Author.Needs.{needs}
 use Rattle.dispatch.proofs.queue.take_out.Statement.{statement}

@@ -1,5 +1,5 @@
 -- `layout::bodies::held_by` meets its contract, case by case.
-use Rattle.layout.specs.Nodes.{heldBy}
+use Rattle.planformat.specs.Nodes.{heldBy}
 use borrow.Author.Needs.{needs}
 use Rattle.layout.proofs.bodies.held_by.Statement.{statement}
 use Rattle.layout.proofs.bodies.held_by.Tie as tie

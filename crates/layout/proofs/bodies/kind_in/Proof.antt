@@ -2,11 +2,11 @@
 use borrow.Author.Needs.{needs}
 use mathlib.Core.Path.{_≡_, sym, ap, _∙_}
 use native.Mathlib.Omega.{arith}
-use Rattle.layout.specs.declared.Share.{Share}
-use Rattle.layout.specs.declared.Sort.{Sort}
-use Rattle.layout.specs.declared.Sort.the-variants.{Class, Client}
-use Rattle.layout.specs.Kinds.{kindOf}
-use Rattle.layout.specs.Nodes.{shareKindIn, heldBy, sortIn, kindIn}
+use Rattle.planformat.specs.declared.Share.{Share}
+use Rattle.planformat.specs.declared.Sort.{Sort}
+use Rattle.planformat.specs.declared.Sort.the-variants.{Class, Client}
+use Rattle.planformat.specs.Kinds.{kindOf}
+use Rattle.planformat.specs.Nodes.{shareKindIn, heldBy, sortIn, kindIn}
 use Rattle.layout.proofs.bodies.kind_in.Statement.{statement}
 use Rattle.layout.proofs.bodies.kind_in.Tie as tie
 

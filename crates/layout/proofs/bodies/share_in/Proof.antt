@@ -1,5 +1,5 @@
 -- `layout::bodies::share_in` meets its contract, case by case.
-use Rattle.layout.specs.Nodes.{shareIn}
+use Rattle.planformat.specs.Nodes.{shareIn}
 use borrow.Author.Needs.{needs}
 use Rattle.layout.proofs.bodies.share_in.Statement.{statement}
 use Rattle.layout.proofs.bodies.share_in.Tie as tie

@@ -1,5 +1,5 @@
 -- `layout::bodies::share_kind_in` meets its contract, case by case.
-use Rattle.layout.specs.Nodes.{shareKindIn}
+use Rattle.planformat.specs.Nodes.{shareKindIn}
 use borrow.Author.Needs.{needs}
 use Rattle.layout.proofs.bodies.share_kind_in.Statement.{statement}
 use Rattle.layout.proofs.bodies.share_kind_in.Tie as tie

@@ -1,5 +1,5 @@
 -- `layout::bodies::sort_number` meets its contract, case by case.
-use Rattle.layout.specs.Nodes.{sortIn}
+use Rattle.planformat.specs.Nodes.{sortIn}
 use borrow.Author.Needs.{needs}
 use Rattle.layout.proofs.bodies.sort_number.Statement.{statement}
 use Rattle.layout.proofs.bodies.sort_number.Tie as tie

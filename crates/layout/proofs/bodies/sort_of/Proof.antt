@@ -1,6 +1,6 @@
 -- `layout::bodies::sort_of` meets its contract, kind by kind.
-use Rattle.layout.specs.Kinds.{kindOf}
-use Rattle.layout.specs.Nodes.{shareIn, shareKindIn, heldBy, sortIn, kindIn}
+use Rattle.planformat.specs.Kinds.{kindOf}
+use Rattle.planformat.specs.Nodes.{shareIn, shareKindIn, heldBy, sortIn, kindIn}
 use borrow.Author.Needs.{needs}
 use Rattle.layout.proofs.bodies.sort_of.Statement.{statement}
 use Rattle.layout.proofs.bodies.sort_of.Tie as tie

@@ -1,6 +1,6 @@
 -- `layout::bytes::byte` meets its contract.
 use native.Mathlib.Omega.{arith}
-use Rattle.layout.specs.Bytes.{byteAt}
+use Rattle.planformat.specs.Bytes.{byteAt}
 use borrow.Author.Needs.{needs}
 use Rattle.layout.proofs.bytes.byte.Statement.{statement}
 use Rattle.layout.proofs.bytes.byte.Tie as tie

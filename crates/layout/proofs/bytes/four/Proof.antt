@@ -1,6 +1,6 @@
 -- `layout::bytes::four` meets its contract.
 use native.Mathlib.Omega.{arith}
-use Rattle.layout.specs.Bytes.{le4}
+use Rattle.planformat.specs.Bytes.{le4}
 use borrow.Author.Needs.{needs}
 use Rattle.layout.proofs.bytes.four.Statement.{statement}
 use Rattle.layout.proofs.bytes.four.Tie as tie

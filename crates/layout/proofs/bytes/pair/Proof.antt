@@ -1,6 +1,6 @@
 -- `layout::bytes::pair` meets its contract.
 use native.Mathlib.Omega.{arith}
-use Rattle.layout.specs.Bytes.{le2}
+use Rattle.planformat.specs.Bytes.{le2}
 use borrow.Author.Needs.{needs}
 use Rattle.layout.proofs.bytes.pair.Statement.{statement}
 use Rattle.layout.proofs.bytes.pair.Tie as tie

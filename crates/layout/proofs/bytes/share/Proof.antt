@@ -1,7 +1,7 @@
 -- `layout::bytes::share` meets its contract, case by case.
 use mathlib.Core.Path.{ap}
 use native.Mathlib.Omega.{arith}
-use Rattle.layout.specs.Format.{shareLength, shareValues, shareFrom}
+use Rattle.planformat.specs.Format.{shareLength, shareValues, shareFrom}
 use borrow.Author.Needs.{needs}
 use Rattle.layout.proofs.bytes.share.Statement.{statement}
 use Rattle.layout.proofs.bytes.share.Tie as tie

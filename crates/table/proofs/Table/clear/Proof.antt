@@ -7,8 +7,8 @@ use lib.ListN.{length, length-set, replicate, drop, set}
 use lib.Seq.{drop-length}
 use lib.IntN.{ℤ, pos}
 use borrow.Author.Needs.{needs}
-use Rattle.table.specs.Calls.{blank}
-use Rattle.table.proofs.Zeros.{fill-next}
+use Rattle.definitions.specs.Calls.{blank}
+use Rattle.definitions.proofs.Zeros.{fill-next}
 use Rattle.table.proofs.Table.clear.Statement.{statement}
 use Rattle.table.proofs.Table.clear.Tie as tie
 

@@ -4,7 +4,7 @@ use mir.Syntax.{w64}
 use mir.ValLaws.{toZ-ofZ}
 use borrow.Author.Needs.{sfits-of}
 use Rattle.numbers.specs.Whole.{plus}
-use Rattle.table.specs.Places.{count}
+use Rattle.definitions.specs.Places.{count}
 use borrow.Author.Needs.{needs}
 use Rattle.table.proofs.Table.count.Statement.{statement}
 use Rattle.table.proofs.Table.count.Tie as tie

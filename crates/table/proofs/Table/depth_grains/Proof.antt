@@ -2,8 +2,8 @@
 use Prim.Native.Nat.{ℕ, _*_}
 use mathlib.Core.Path.{ap, _∙_}
 use borrow.Author.Needs.{needs}
-use Rattle.table.specs.Limits.{grainScale}
-use Rattle.table.specs.Places.{depthGrains}
+use Rattle.definitions.specs.Limits.{grainScale}
+use Rattle.definitions.specs.Places.{depthGrains}
 use Rattle.table.proofs.Table.depth_grains.Statement.{statement}
 use Rattle.table.proofs.Table.depth_grains.Tie as tie
 

@@ -1,5 +1,5 @@
 -- `table::Table::get` meets its contract: the index is that of the place.
-use Rattle.table.specs.Places.{place}
+use Rattle.definitions.specs.Places.{place}
 use borrow.Author.Needs.{needs}
 use Rattle.table.proofs.Table.get.Statement.{statement}
 use Rattle.table.proofs.Table.get.Tie as tie

@@ -1,5 +1,5 @@
 -- `table::Table::heading` meets its contract: the index is that of the place.
-use Rattle.table.specs.Places.{header}
+use Rattle.definitions.specs.Places.{header}
 use borrow.Author.Needs.{needs}
 use Rattle.table.proofs.Table.heading.Statement.{statement}
 use Rattle.table.proofs.Table.heading.Tie as tie

@@ -4,10 +4,10 @@ use mathlib.Core.Path.{_≡_, sym, ap, _∙_}
 use mir.Syntax.{w64}
 use mir.ValLaws.{toZ-ofZ}
 use Rattle.table.specs.Answers.{told}
-use Rattle.table.specs.Calls.{done, openRefusal, openTable, openAnswer}
-use Rattle.table.specs.Refusals.{outcome}
-use Rattle.table.proofs.Refusals.{kept-new, kept-old, outcome-accepted}
-use Rattle.table.proofs.Open.{open-long}
+use Rattle.definitions.specs.Calls.{done, openRefusal, openTable, openAnswer}
+use Rattle.definitions.specs.Refusals.{outcome}
+use Rattle.definitions.proofs.Refusals.{kept-new, kept-old, outcome-accepted}
+use Rattle.definitions.proofs.Open.{open-long}
 use borrow.Author.Needs.{needs}
 use Rattle.table.proofs.Table.open.Statement.{statement}
 use Rattle.table.proofs.Table.open.Tie as tie

@@ -4,7 +4,8 @@ use mir.Facts.{toZ-ofZ}
 use Rattle.numbers.specs.Whole.{withinℤ}
 use Rattle.numbers.proofs.Every.{joined-as, same-tests, last-test}
 use borrow.Author.Needs.{needs}
-use Rattle.table.specs.Limits.{greatestDepth, greatestRate}
+use Rattle.definitions.specs.Limits.{greatestDepth, greatestRate}
+use Rattle.definitions.specs.Calls.{openLimits}
 use Rattle.table.proofs.Table.open_limits.Statement.{statement}
 use Rattle.table.proofs.Table.open_limits.Tie as tie
 
@@ -15,6 +16,7 @@ within-requires-2 : tie.Need-within-requires-2
 within-requires-2 c κs = search needs
 
 returns : tie.Need-returns
+unfolding openLimits
 returns c =
     let start = c .before .before in
     joined-as

@@ -5,8 +5,8 @@ use native.Mathlib.Omega.{arith}
 use borrow.Author.Tests.{eq-eqb, ne-eqb, not-true, not-false}
 use mir.Syntax.{w64}
 use mir.ValLaws.{toZ-ofZ}
-use Rattle.table.specs.Calls.{openRefusal}
-use Rattle.table.proofs.Refusals.{first-here, first-past, first-end}
+use Rattle.definitions.specs.Calls.{openRefusal}
+use Rattle.definitions.proofs.Refusals.{first-here, first-past, first-end}
 use borrow.Author.Needs.{needs}
 use Rattle.table.proofs.Table.open_refusal.Statement.{statement}
 use Rattle.table.proofs.Table.open_refusal.Tie as tie

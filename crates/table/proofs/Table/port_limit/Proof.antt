@@ -2,7 +2,7 @@
 use mathlib.Core.Path.{sym}
 use borrow.Author.Tests.{eq-eqb, ne-eqb}
 use Rattle.numbers.proofs.Tests.{cond-true, cond-false}
-use Rattle.table.specs.Limits.{client, secondPort, portLimit}
+use Rattle.definitions.specs.Limits.{client, secondPort, portLimit}
 use Rattle.table.proofs.Table.port_limit.Statement.{statement}
 use Rattle.table.proofs.Table.port_limit.Tie as tie
 

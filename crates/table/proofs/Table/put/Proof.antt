@@ -1,5 +1,5 @@
 -- `table::Table::put` meets its contract: the index is that of the place.
-use Rattle.table.specs.Places.{put}
+use Rattle.definitions.specs.Places.{put}
 use borrow.Author.Needs.{needs}
 use Rattle.table.proofs.Table.put.Statement.{statement}
 use Rattle.table.proofs.Table.put.Tie as tie

@@ -3,7 +3,7 @@ use mathlib.Core.Path.{ap, _∙_}
 use lib.ListN.{set}
 use mir.Facts.{toZ-ofZ}
 use borrow.Author.Needs.{sfits-of}
-use Rattle.table.specs.Places.{putHeader}
+use Rattle.definitions.specs.Places.{putHeader}
 use borrow.Author.Needs.{needs}
 use Rattle.table.proofs.Table.put_count.Statement.{statement}
 use Rattle.table.proofs.Table.put_count.Tie as tie

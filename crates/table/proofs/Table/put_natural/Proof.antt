@@ -3,7 +3,7 @@ use mathlib.Core.Path.{ap, _∙_}
 use mir.Syntax.{w64}
 use mir.ValLaws.{toZ-ofZ}
 use borrow.Author.Needs.{sfits-of}
-use Rattle.table.specs.Places.{put}
+use Rattle.definitions.specs.Places.{put}
 use borrow.Author.Needs.{needs}
 use Rattle.table.proofs.Table.put_natural.Statement.{statement}
 use Rattle.table.proofs.Table.put_natural.Tie as tie

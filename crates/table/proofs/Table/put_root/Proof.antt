@@ -1,9 +1,9 @@
 -- `table::Table::put_root` meets its contract: four writes into a table of zeros.
 use mathlib.Core.Path.{refl}
 use mir.Facts.{toZ-ofZ}
-use Rattle.table.specs.Limits.{sortAt, shareAt, depthAt, rateAt, root}
-use Rattle.table.specs.Calls.{opened}
-use Rattle.table.proofs.Places.{put-then}
+use Rattle.definitions.specs.Limits.{sortAt, shareAt, depthAt, rateAt, root}
+use Rattle.definitions.specs.Calls.{opened}
+use Rattle.definitions.proofs.Places.{put-then}
 use borrow.Author.Needs.{needs}
 use Rattle.table.proofs.Table.put_root.Statement.{statement}
 use Rattle.table.proofs.Table.put_root.Tie as tie

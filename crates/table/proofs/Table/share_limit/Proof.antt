@@ -2,7 +2,7 @@
 use mathlib.Core.Path.{sym}
 use borrow.Author.Tests.{eq-eqb, ne-eqb}
 use Rattle.numbers.proofs.Tests.{cond-true, cond-false}
-use Rattle.table.specs.Limits.{stated, wholeShare, greatestRate, shareLimit}
+use Rattle.definitions.specs.Limits.{stated, wholeShare, greatestRate, shareLimit}
 use Rattle.table.proofs.Table.share_limit.Statement.{statement}
 use Rattle.table.proofs.Table.share_limit.Tie as tie
 

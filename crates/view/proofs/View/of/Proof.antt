@@ -1,4 +1,4 @@
--- `view::View::of` meets its contract: a walk of its MIR, by hand. The edition and the count are taken by `layout::forms::edition_in` and `count_in`, of which the proof knows only that each meets its contract, and the view is made of the bytes and of them, in the result's local.
+-- `view::View::of` meets its contract: a walk of its MIR, by hand. The edition and the count are taken by `forms::edition_in` and `count_in`, of which the proof knows only that each meets its contract, and the view is made of the bytes and of them, in the result's local.
 -- A `&[u8]` is Copy, so what it owns is had more than once: for each call, for the exit, and inside the result, beside the facts of the edition and the count.
 use mathlib.Core.Path.{_≡_, refl, ap}
 use mathlib.Core.Bool.{true}
@@ -40,18 +40,18 @@ use denote.Triple.Spec.{Meets, tripleOf}
 use denote.Triple.Table.{entered, cited}
 use denote.Triple.Walked.{says, needs, Stays, stay-none-slice, walkOf, goes-none-slice, Walks, ends-at, walked, walk-meets}
 use denote.Exit.{yes}
-use Rattle.layout.specs.declared.Edition.{Edition}
-use Rattle.layout.specs.Format.{editionIn, countIn, formed}
-use Rattle.layout.proofs.Edition as Ed
-use Rattle.layout.proofs.Edition.Laws as Ed′
-use Rattle.layout.proofs.forms.edition_in as edition-in
-use Rattle.layout.proofs.forms.edition_in.Symbol as edition-in-def
-use Rattle.layout.proofs.forms.edition_in.Symbol.{name as #layout·forms·edition-in}
-use Rattle.layout.proofs.forms.edition_in.Met as edition-in-thm
-use Rattle.layout.proofs.forms.count_in as count-in
-use Rattle.layout.proofs.forms.count_in.Symbol as count-in-def
-use Rattle.layout.proofs.forms.count_in.Symbol.{name as #layout·forms·count-in}
-use Rattle.layout.proofs.forms.count_in.Met as count-in-thm
+use Rattle.planformat.specs.declared.Edition.{Edition}
+use Rattle.planformat.specs.Format.{editionIn, countIn, formed}
+use Rattle.planformat.proofs.Edition as Ed
+use Rattle.planformat.proofs.Edition.Laws as Ed′
+use Rattle.forms.proofs.edition_in as edition-in
+use Rattle.forms.proofs.edition_in.Symbol as edition-in-def
+use Rattle.forms.proofs.edition_in.Symbol.{name as #forms·edition-in}
+use Rattle.forms.proofs.edition_in.Met as edition-in-thm
+use Rattle.forms.proofs.count_in as count-in
+use Rattle.forms.proofs.count_in.Symbol as count-in-def
+use Rattle.forms.proofs.count_in.Symbol.{name as #forms·count-in}
+use Rattle.forms.proofs.count_in.Met as count-in-thm
 use Rattle.view.specs.declared.View.{View}
 use Rattle.view.proofs.Viewed.{headed}
 use Rattle.view.proofs.Handed.{valᵉ, edition-is}
@@ -142,7 +142,7 @@ module _ {M : Type 1} (𝓤 : URA M) (H : Heap 𝓤) (A : Atoms 𝓤) (W : Given
       nothing ! $ owned ! usize (Is usize) (uint-makes 𝓤 H A W w64) n _ (refl, fits) $ fjoin ! $
       owned ! Ed.the-row (Is Ed.the-row) (EL.makes Ed.the-type Ed′.the-plain 𝓤 H A) e _ (edition-is e) $ fjoin ! $ move ! (1 ∷ 0 ∷ []) $ fjoin ! $ by ! (own-shut 𝓤 H A W (T.the-type α) (T′.the-laws α) (s, (e, (n, tt))))
 
-  module _ (C : Calls 𝓤 H) (Λ : Loops 𝓤 H) (fm : FmC 𝓤 H (W .laws) C) (known-edition : Triple 𝓤 (C #layout·forms·edition-in) (EditionIn 𝓤 H A mem run)) (known-count : Triple 𝓤 (C #layout·forms·count-in) (CountIn 𝓤 H A mem run)) where
+  module _ (C : Calls 𝓤 H) (Λ : Loops 𝓤 H) (fm : FmC 𝓤 H (W .laws) C) (known-edition : Triple 𝓤 (C #forms·edition-in) (EditionIn 𝓤 H A mem run)) (known-count : Triple 𝓤 (C #forms·count-in) (CountIn 𝓤 H A mem run)) where
     walk : Is (ShrSlice (named 0) κ u8) s (v ∷ []) → ent 𝓤 (onEntry 𝓤 H A of.signature (κ, tt) (q, tt) (s, tt) at) (WpFn 𝓤 H C Λ code.function (v ∷ []) Post)
     walk p =
         qed W (raw (onEntry 𝓤 H A of.signature (κ, tt) (q, tt) (s, tt) at) ∷ []) ∵ enter ! C Λ code.function (v ∷ []) _ $
@@ -168,13 +168,13 @@ module _ {M : Type 1} (𝓤 : URA M) (H : Heap 𝓤) (A : Atoms 𝓤) (W : Given
         move ! (8 ∷ 9 ∷ []) $ free1 ! $ move ! (6 ∷ 7 ∷ []) $ free1 ! $ move ! (4 ∷ 5 ∷ []) $ free1 ! $ move ! (2 ∷ 3 ∷ []) $ free1 ! $ free0 ! $ by ! (exits e n (is₁ .1) same counted)))))))))))))
 
 module _ {M : Type 1} (𝓤 : URA M) (H : Heap 𝓤) (A : Atoms 𝓤) (W : Given 𝓤 H A) (mem : Memory → SProp 𝓤) (run : Routine → Fun 𝓤) where
-  of-walks : (C : Calls 𝓤 H) (Λ : Loops 𝓤 H) → FmC 𝓤 H (W .laws) C → Triple 𝓤 (C #layout·forms·edition-in) (EditionIn 𝓤 H A mem run) → Triple 𝓤 (C #layout·forms·count-in) (CountIn 𝓤 H A mem run)
+  of-walks : (C : Calls 𝓤 H) (Λ : Loops 𝓤 H) → FmC 𝓤 H (W .laws) C → Triple 𝓤 (C #forms·edition-in) (EditionIn 𝓤 H A mem run) → Triple 𝓤 (C #forms·count-in) (CountIn 𝓤 H A mem run)
       → Walks 𝓤 H A of.ended stayed (WpFn 𝓤 H C Λ code.function) (of.clauses 𝓤 H A mem run)
   of-walks C Λ fm known-edition known-count = walked 𝓤 H A of.ended stayed (of.clauses 𝓤 H A mem run) (WpFn 𝓤 H C Λ code.function) (λ κs. (slice-vals, tt)) (λ κs. (shr-slice-tells (named 0) (κs .0) u8, tt))
       (λ κs qs bounds a g are. needs 𝓤 _ _ (λ right. walk 𝓤 H A W mem run (κs .0) (qs .0) (a .0) right C Λ fm known-edition known-count (are .0)))
 
 of-meets : {M : Type 1} (𝓤 : URA M) (H : Heap 𝓤) (A : Atoms 𝓤) → (W : Given 𝓤 H A) → (mem : Memory → SProp 𝓤) (run : Routine → Fun 𝓤) (𝓣 : Tables 𝓤 H)
-    → Triple 𝓤 (𝓣 .C #layout·forms·edition-in) (EditionIn 𝓤 H A mem run) → Triple 𝓤 (𝓣 .C #layout·forms·count-in) (CountIn 𝓤 H A mem run)
+    → Triple 𝓤 (𝓣 .C #forms·edition-in) (EditionIn 𝓤 H A mem run) → Triple 𝓤 (𝓣 .C #forms·count-in) (CountIn 𝓤 H A mem run)
     → Meets 𝓤 H A of.signature (WpFn 𝓤 H (𝓣 .C) (𝓣 .Λ) code.function) (of.spec 𝓤 H A mem run)
 of-meets 𝓤 H A W mem run 𝓣 known-edition known-count = walk-meets 𝓤 H A of.ended stayed W (goes-none-slice 𝓤 H A W 1 (0 ∷ []) tt (plain (λ _. u8)) yes, tt) (of.clauses 𝓤 H A mem run) (WpFn 𝓤 H (𝓣 .C) (𝓣 .Λ) code.function) (WpFn-mono 𝓤 H (W .laws) 𝓣 code.function)
     (of-walks 𝓤 H A W mem run (𝓣 .C) (𝓣 .Λ) (fmOf 𝓤 H (W .laws) 𝓣) known-edition known-count)
@@ -185,5 +185,5 @@ of-spec 𝓤 H 𝓜 𝓖 𝓡 =
     entered 𝓤 H (tripleOf 𝓤 H (𝓖 .A) of.signature (of.spec 𝓤 H (𝓖 .A) (𝓜 .mem) (𝓡 .run)))
     (tables 𝓤 H 𝓜 𝓡 code.env .C) (tables 𝓤 H 𝓜 𝓡 code.env .Λ) #view·View·of code.function (code.unfolded 𝓤 H 𝓜 𝓡)
     (of-meets 𝓤 H (𝓖 .A) (givenOf 𝓤 H 𝓜 𝓖) (𝓜 .mem) (𝓡 .run) (tablesOf 𝓤 H 𝓜 (tables 𝓤 H 𝓜 𝓡 code.env))
-    (cited 𝓤 H (EditionIn 𝓤 H (𝓖 .A) (𝓜 .mem) (𝓡 .run)) 𝓜 𝓡 code.env #layout·forms·edition-in edition-in-def.routine code.calls-layout·forms·edition-in (edition-in-thm.met 𝓤 H 𝓜 𝓖 𝓡))
-    (cited 𝓤 H (CountIn 𝓤 H (𝓖 .A) (𝓜 .mem) (𝓡 .run)) 𝓜 𝓡 code.env #layout·forms·count-in count-in-def.routine code.calls-layout·forms·count-in (count-in-thm.met 𝓤 H 𝓜 𝓖 𝓡)))
+    (cited 𝓤 H (EditionIn 𝓤 H (𝓖 .A) (𝓜 .mem) (𝓡 .run)) 𝓜 𝓡 code.env #forms·edition-in edition-in-def.routine code.calls-forms·edition-in (edition-in-thm.met 𝓤 H 𝓜 𝓖 𝓡))
+    (cited 𝓤 H (CountIn 𝓤 H (𝓖 .A) (𝓜 .mem) (𝓡 .run)) 𝓜 𝓡 code.env #forms·count-in count-in-def.routine code.calls-forms·count-in (count-in-thm.met 𝓤 H 𝓜 𝓖 𝓡)))

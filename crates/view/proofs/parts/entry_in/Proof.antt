@@ -1,8 +1,8 @@
 -- `view::parts::entry_in` meets its contract: the number and the parent of the node that stands there.
 use mathlib.Core.Path.{ap}
 use native.Mathlib.Omega.{arith}
-use Rattle.layout.specs.Format.{Entry}
-use Rattle.layout.specs.Nodes.{entryBy}
+use Rattle.planformat.specs.Format.{Entry}
+use Rattle.planformat.specs.Nodes.{entryBy}
 use Rattle.view.proofs.Viewed.{viewed}
 use Rattle.view.proofs.parts.entry_in.Statement.{statement}
 use Rattle.view.proofs.parts.entry_in.Tie as tie

@@ -1,0 +1,3 @@
+// What each class covers, and the sums for it, in one pass.
+pub mod classes;
+pub mod totals;

@@ -1,0 +1,5 @@
+// What a search for a supplier answers: a node and how many steps it is above the client, or nobody.
+pub enum Supply {
+    Node { node: usize, steps: usize },
+    Nobody,
+}

@@ -1,2 +1,0 @@
-mod Limits
-mod Sums

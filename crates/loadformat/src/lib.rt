@@ -1,0 +1,7 @@
+// How far a load is: the state of the draws, the ticks made and asked for, and how long the part in the buffer is.
+pub struct Progress {
+    pub state: u32,
+    pub made: u64,
+    pub ticks: u64,
+    pub length: usize,
+}

@@ -1,4 +1,0 @@
-pub mod Under
-pub mod Rated
-pub mod Descent
-pub mod Summable

@@ -1,4 +1,0 @@
-pub mod Sums
-pub mod Rated
-pub mod Divisions
-pub mod Renewal

@@ -1,0 +1,3 @@
+pub mod NodeByNode
+pub mod Rated
+pub mod Summable
