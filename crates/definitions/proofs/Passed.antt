@@ -207,7 +207,7 @@ request-passed t node tag size h =
     let p8 = none-first 8 _ _ (omega arith) (p5 .1) in
     let p11 = none-first 11 _ _ (omega arith) (p8 .1) in
     let p12 = none-first 12 _ _ (omega arith) (p11 .1) in
-    let limits = not-false _ (p2 .0) in
+    let limits : requestLimits node size ≡ true = not-false _ (p2 .0) in
     record {
       order = not-false _ (p1 .0);
       node = omega (arith, zarith, head-holds _ _ limits);

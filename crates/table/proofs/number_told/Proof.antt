@@ -1,27 +1,19 @@
 -- `table::number_told` meets its contract, case by case.
-use Rattle.table.specs.Answers.{told}
-use Rattle.definitions.specs.Refusals.{numberTold}
+use mathlib.Core.Path.{sym, ap, _∙_}
 use borrow.Author.Needs.{needs}
+use Rattle.definitions.specs.Refusals.{numberTold}
+use Rattle.table.specs.declared.Answer.{Answer}
+use Rattle.table.specs.Answers.{told}
 use Rattle.table.proofs.number_told.Statement.{statement}
 use Rattle.table.proofs.number_told.Tie as tie
 
-enum-told : tie.Need-enum-told
-enum-told c = search needs
-
-enum-known-answer : tie.Need-enum-known-answer
-enum-known-answer c = search needs
-
-number-of-requires : tie.Need-number-of-requires
-number-of-requires c κs = search needs
-
-returns : tie.Need-returns
+-- The number of the refusal is the one that the answer tells.
+refused : tie.Need-returns-2
 unfolding numberTold told
-returns c = search needs
-
-returns-2 : tie.Need-returns-2
-unfolding numberTold told
-returns-2 c = search needs
+refused c =
+    let e = c .number-of .ensures in
+    (e .0 ∙ sym (ap (λ (a : Answer). numberTold (told a)) (c .before .before .answer .given .1)), e .1)
 
 pub number-told-spec : {M : Type 1} → statement M
-number-told-spec =
-    tie.close (tie.spec enum-told enum-known-answer number-of-requires returns returns-2)
+unfolding numberTold told
+number-told-spec = tie.close (tie.spec (λ c. search needs) (λ c. search needs) (λ c κs. search needs) (λ c. search needs) refused)
