@@ -14,9 +14,8 @@ use Rattle.definitions.specs.Calls.{changeRateRefusal, changeRateTable}
 use Rattle.definitions.proofs.Facts.{facts}
 use Rattle.definitions.proofs.Places.{place-put-same, place-put-place}
 use Rattle.calllaws.proofs.ChangeRate.{change-rate-keeps, rerated-tree}
-use Rattle.bounds.specs.Events.{changeRate}
+use Rattle.runs.specs.Runs.{changeRate, leaves}
 use Rattle.bounds.specs.Observer.{Observer, afterAccepted}
-use Rattle.bounds.specs.Counts.{leaves}
 use Rattle.bounds.proofs.Simulation.{Agrees}
 use Rattle.bounds.proofs.Changes.{Change, all-same}
 use Rattle.bounds.proofs.Renewing.{kept-order, renewed-agrees, renewed-same}
@@ -24,9 +23,9 @@ use Rattle.bounds.proofs.Renewing.{kept-order, renewed-agrees, renewed-
 pub rate-change :
     (t : List ℤ) (o : Observer) (rate : ℤ) → Agrees t o → changeRateRefusal t rate ≡ 0
     → Change t (renewed (put t root rateAt rate)) o (afterAccepted o (changeRate rate) []) (λ c. leaves c (changeRate rate))
-unfolding changeRateTable afterAccepted rateOf balance waiting
+unfolding changeRateTable afterAccepted rateOf balance waiting leaves
 rate-change t o rate a h =
-    all-same t (renewed u) o p _
+    all-same t (renewed u) o p _ refl
     (renewed-agrees u order p (rerated-tree t rate ∙ a .tree) (ap plus (place-put-same t root rateAt rate (facts t (a .order) .long) (omega arith) (omega arith)))
     (λ j e. a .queue j e ∙ ap (λ (w : ℕ). o .sent j + w) (sym (ap plus (rest j waitingAt (omega arith) (omega arith))))))
     (λ j. renewed-same u order t o p j (record { sort = refl; depth = refl; balance = rest j balanceAt (omega arith) (omega arith) }))

@@ -16,9 +16,8 @@ use Rattle.definitions.proofs.Facts.{InOrder, facts}
 use Rattle.definitions.proofs.Edits.{reshared-node, reshared-others, reshared-rest}
 use Rattle.definitions.proofs.Passed.{ChangeSharePassed, change-share-passed}
 use Rattle.calllaws.proofs.ChangeShare.{change-share-keeps}
-use Rattle.bounds.specs.Events.{changeShare}
+use Rattle.runs.specs.Runs.{changeShare, leaves}
 use Rattle.bounds.specs.Observer.{Observer, withShare, afterAccepted}
-use Rattle.bounds.specs.Counts.{leaves}
 use Rattle.bounds.proofs.Simulation.{Agrees}
 use Rattle.bounds.proofs.Trees.{with-share}
 use Rattle.bounds.proofs.Changes.{Change, all-same}
@@ -27,9 +26,9 @@ use Rattle.bounds.proofs.Renewing.{kept-order, renewed-agrees, renewed-
 pub share-change :
     (t : List ℤ) (o : Observer) (node kind share : ℤ) → Agrees t o → changeShareRefusal t node kind share ≡ 0
     → Change t (renewed (reshared t (plus node) kind share)) o (afterAccepted o (changeShare node kind share) []) (λ c. leaves c (changeShare node kind share))
-unfolding changeShareTable afterAccepted withShare rateOf balance waiting isClient
+unfolding changeShareTable afterAccepted withShare rateOf balance waiting isClient leaves
 share-change t o node kind share a h =
-    all-same t (renewed u) o p _
+    all-same t (renewed u) o p _ refl
     (renewed-agrees u order p tree (ap plus (rest root rateAt (omega arith) (omega arith) (omega arith)) ∙ a .disk)
     (λ j e. a .queue j e ∙ ap (λ (w : ℕ). o .sent j + w) (sym (ap plus (rest j waitingAt (omega arith) (omega arith) (omega arith))))))
     (λ j. renewed-same u order t o p j (record { sort = refl; depth = refl; balance = rest j balanceAt (omega arith) (omega arith) (omega arith) }))

@@ -19,9 +19,8 @@ use Rattle.treelaws.proofs.Children.{class-there}
 use Rattle.definitions.proofs.Edits.{joined-edit, joined-node, joined-others, joined-rest}
 use Rattle.definitions.proofs.Passed.{JoinPassed, join-passed}
 use Rattle.calllaws.proofs.Join.{join-keeps}
-use Rattle.bounds.specs.Events.{join}
+use Rattle.runs.specs.Runs.{join, leaves}
 use Rattle.bounds.specs.Observer.{Observer, setAt, withNode, afterAccepted}
-use Rattle.bounds.specs.Counts.{leaves}
 use Rattle.bounds.proofs.Simulation.{Agrees, waits-more}
 use Rattle.bounds.proofs.Trees.{set-here, set-other, with-node}
 use Rattle.bounds.proofs.Changes.{Same, Change, Others, other-same, queues}
@@ -30,12 +29,13 @@ use Rattle.bounds.proofs.Renewing.{kept-order, renewed-agrees, renewed-
 pub join-change :
     (t : List ℤ) (o : Observer) (node parent sort kind share depth port : ℤ) → Agrees t o → joinRefusal t node parent sort kind share depth port ≡ 0
     → Change t (renewed (joined t (plus node) (plus parent) sort kind share depth port)) o (afterAccepted o (join node parent sort kind share depth port) []) (λ c. leaves c (join node parent sort kind share depth port))
-unfolding joinTable afterAccepted withNode rateOf waiting
+unfolding joinTable afterAccepted withNode rateOf waiting leaves
 join-change t o node parent sort kind share depth port a h =
     record {
       agrees =
           renewed-agrees u order p tree (ap plus (rest root rateAt (omega arith) (omega arith) (λ e. omega arith)) ∙ a .disk)
           (queues t u o p k others a (λ e. omega (arith, idle, nothing (o .asked), nothing (o .sent))));
+      root = refl;
       class = λ c e stays. same c (λ at. true-false (class-there (o .tree) c e) (rw at (rw (a .tree) at (passed .unused))));
       client = λ j e busy. same j (λ at. omega (arith, waits-more p j busy, ap (p .asked) at, nothing (o .asked)));
     }

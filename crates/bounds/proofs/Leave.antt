@@ -4,7 +4,7 @@ use mathlib.Core.Path.{_≡_, refl, sym, ap, _∙_}
 use mathlib.Core.Bool.{true}
 use mathlib.Core.List.{List, []}
 use native.Mathlib.Omega.{arith}
-use borrow.Author.Tests.{eqb-true, eqb-false}
+use borrow.Author.Tests.{eqb-true, eqb-false, ne-eqb}
 use lib.IntN.{ℤ}
 use Rattle.numbers.specs.Whole.{plus}
 use Rattle.definitions.specs.Limits.{rateAt, client, root}
@@ -17,9 +17,8 @@ use Rattle.definitions.proofs.Facts.{InOrder, facts}
 use Rattle.definitions.proofs.Edits.{cleared-edit, cleared-node, cleared-others}
 use Rattle.definitions.proofs.Passed.{LeavePassed, leave-passed}
 use Rattle.calllaws.proofs.Leave.{leave-keeps}
-use Rattle.bounds.specs.Events.{leave}
+use Rattle.runs.specs.Runs.{leave, leaves}
 use Rattle.bounds.specs.Observer.{Observer, withNode, afterAccepted}
-use Rattle.bounds.specs.Counts.{leaves}
 use Rattle.bounds.proofs.Simulation.{Agrees}
 use Rattle.bounds.proofs.Trees.{set-here, set-other, with-node}
 use Rattle.bounds.proofs.Changes.{Same, Change, Others, other-same, queues}
@@ -34,6 +33,7 @@ leave-change t o node a h =
       agrees =
           renewed-agrees u order p tree (ap plus (others .places root rateAt (λ e. passed .below (sym e)) (omega arith)) ∙ a .disk)
           (queues t u o p k others a (λ e. absurd (no-client k e refl)));
+      root = ne-eqb k root (passed .below);
       class = λ c e stays. same c (λ at. eqb-false k c stays (sym at));
       client = λ j e busy. same j (no-client j e);
     }

@@ -13,9 +13,8 @@ use Rattle.definitions.proofs.Edits.{Requested, requested-edit}
 use Rattle.calllaws.proofs.Nodes.{ready, most-waiting}
 use Rattle.definitions.proofs.Passed.{RequestPassed, request-passed}
 use Rattle.calllaws.proofs.Request.{request-keeps, before, next-waiting, requested-tree}
-use Rattle.bounds.specs.Events.{request}
+use Rattle.runs.specs.Runs.{request, leaves}
 use Rattle.bounds.specs.Observer.{Observer, afterAccepted}
-use Rattle.bounds.specs.Counts.{leaves}
 use Rattle.bounds.proofs.Simulation.{Agrees}
 use Rattle.bounds.proofs.Trees.{set-here, set-other}
 use Rattle.bounds.proofs.Changes.{Change, all-same, Others, queues}
@@ -24,9 +23,9 @@ use Rattle.bounds.proofs.Renewing.{kept-order}
 pub request-change :
     (t : List ℤ) (o : Observer) (node tag size : ℤ) → Agrees t o → requestRefusal t node tag size ≡ 0
     → Change t (requested t (plus node) tag size) o (afterAccepted o (request node tag size) []) (λ c. leaves c (request node tag size))
-unfolding requestTable afterAccepted rateOf balance
+unfolding requestTable afterAccepted rateOf balance leaves
 request-change t o node tag size a h =
-    all-same t u o p _
+    all-same t u o p _ refl
     (record {
       order = kept-order _ u t h (request-keeps t node tag size h);
       tree = requested-tree t u k tag size (passed .node) more ∙ a .tree;

@@ -1,78 +1,36 @@
 -- The three claims over a stretch, from the laws of one call. Five depths are one at the start and four at the end.
-use Prim.Native.Nat.{ℕ, _+_, _*_, _≤_, _<_}
+use Prim.Native.Nat.{ℕ, _+_, _*_, _≤_}
 use mathlib.Core.Path.{_≡_, refl, ap, _∙_}
-use mathlib.Core.Bool.{true, false, not}
+use mathlib.Core.Bool.{true, not}
 use mathlib.Core.Logic.{⊎-elim}
 use mathlib.Core.List.{List, [], _∷_}
 use native.Mathlib.Omega.{arith}
-use native.Mathlib.Decide.{decLt}
-use borrow.Author.Tests.{eqb-true, eq-eqb, ne-eqb}
-use lib.ListN.{length}
-use lib.IntN.{ℤ, pos}
+use borrow.Author.Tests.{eq-eqb}
+use lib.IntN.{ℤ}
 use Rattle.numbers.specs.Whole.{plus, minus}
-use Rattle.numbers.specs.Tests.{every}
-use Rattle.numbers.proofs.Tests.{by-test, true-false}
-use Rattle.numbers.proofs.Every.{none-left, holds-with, head-fails, rest-fail}
+use Rattle.numbers.proofs.Every.{none-left, holds-with}
 use Rattle.numbers.proofs.Parts.{zarith, plus-pos, minus-pos, within-parts}
-use Rattle.definitions.specs.Limits.{tableLength, headerLength, recordLength, nodes, depthAt, client, root, lastLevel, greatestDepth, grainScale}
+use Rattle.definitions.specs.Limits.{depthAt, root, lastLevel, greatestDepth, grainScale}
 use Rattle.definitions.specs.Places.{place, balance, depthGrains}
 use Rattle.definitions.specs.Tree.{Tree, treeOf, there, isClass, isClient}
-use Rattle.definitions.specs.Refusals.{refused}
-use Rattle.definitions.specs.Calls.{leaveRefusal, leaveAnswer}
 use Rattle.definitions.proofs.Facts.{InOrder, facts}
-use Rattle.definitions.proofs.Refusals.{none-first, outcome-refused}
 use Rattle.treelaws.proofs.Children.{class-there}
+use Rattle.treelaws.proofs.Sorts.{client-there}
 use Rattle.treelaws.proofs.Floors.{grounds, node-floor}
-use Rattle.bounds.specs.Events.{Call, join, leave, changeShare, changeRate, request, tick, tableAfter, answerOf, eventOf, events, tableAfterAll}
+use Rattle.runs.specs.Runs.{Call, after, eventOf, events, tableAfterAll}
 use Rattle.bounds.specs.Observer.{Observer, observed, observedAll}
-use Rattle.bounds.specs.Counts.{accepts, leaves, grainsOver, chargedOver, staysThroughout}
+use Rattle.bounds.specs.Counts.{grainsOver, chargedOver, staysThroughout}
 use Rattle.bounds.specs.Demand.{Bounds}
-use Rattle.bounds.proofs.Simulation.{Agrees, Steps}
+use Rattle.bounds.proofs.Simulation.{Agrees, there-below, Steps}
 use Rattle.bounds.proofs.Telescope.{agrees-all, ClassOver, class-over, client-over}
 
--- A node that is there has a number below 64.
-pub there-below : (t : List ℤ) (k : ℕ) → length t ≡ tableLength → there (treeOf t) k ≡ true → k < nodes
-unfolding there treeOf place plus
-there-below t k long e =
-    elim (decLt k nodes) [
-      | yes low ↦ low
-      | no high ↦
-          let beyond : length t ≤ headerLength + recordLength * k + 0 = omega arith in
-          absurd (true-false e (ap (λ (z : ℤ). not (lib.Dec.eqb (plus z) 0)) (lib.ListN.List·getD-eq-default t (pos 0) beyond ∙ refl)))
-    ]
-
-client-there : (tree : Tree) (k : ℕ) → isClient tree k ≡ true → there tree k ≡ true
-unfolding there isClient
-client-there tree k e = ap not (ne-eqb (tree .sort k) 0 (λ z. omega (arith, eqb-true (tree .sort k) client e)))
-
--- Leave of the root is refused.
-root-refused : (t : List ℤ) (node : ℤ) → plus node ≡ 0 → leaveRefusal t node ≡ 0 → ⊥
-unfolding leaveRefusal
-root-refused t node zero h =
-    let past₁ = none-first 1 _ _ (λ e. omega arith) h .1 in
-    let past₂ = none-first 2 _ _ (λ e. omega arith) past₁ .1 in
-    let past₃ = none-first 3 _ _ (λ e. omega arith) past₂ .1 in
-    true-false (eq-eqb (plus node) 0 zero) (none-first 5 _ _ (λ e. omega arith) past₃ .0)
-
-root-stays-once : (t : List ℤ) (call : Call) → every (leaves 0 call ∷ accepts (answerOf t call) ∷ []) ≡ false
-unfolding leaves answerOf leaveAnswer accepts
-root-stays-once t (join node parent sort kind share depth port) = head-fails _ _ refl
-root-stays-once t (leave node) =
-    by-test (lib.Dec.eqb (plus node) 0)
-    (λ e. rest-fail _ _ (head-fails _ _ (leave-refused t node (eqb-true (plus node) 0 e))))
-    (λ e. head-fails _ _ e)
-  where
-    leave-refused : (t : List ℤ) (node : ℤ) → plus node ≡ 0 → accepts (leaveAnswer t node) ≡ false
-    leave-refused t node zero = ap accepts (outcome-refused _ _ (root-refused t node zero)) ∙ refl
-root-stays-once t (changeShare node kind share) = head-fails _ _ refl
-root-stays-once t (changeRate rate) = head-fails _ _ refl
-root-stays-once t (request client tag size) = head-fails _ _ refl
-root-stays-once t (tick first second) = head-fails _ _ refl
-
-pub root-stays : (t : List ℤ) (calls : List Call) → staysThroughout 0 (events t calls) ≡ true
-unfolding staysThroughout events eventOf
-root-stays t [] = refl
-root-stays t (call ∷ calls) = holds-with _ _ (ap not (root-stays-once t call)) (holds-with _ _ (root-stays (tableAfter t call) calls) none-left)
+-- No call takes the root out.
+pub root-stays : Steps → (t : List ℤ) (o : Observer) (calls : List Call) → Agrees t o → staysThroughout root (events t calls) ≡ true
+unfolding staysThroughout events
+root-stays laws t o [] a = refl
+root-stays laws t o (call ∷ calls) a =
+    let step = laws t o call a in
+    holds-with _ _ (ap not (step .stays)) (holds-with _ _ (root-stays laws (after t call .table) (observed o (eventOf t call)) calls (step .agrees)) none-left)
 
 root-class : (t : List ℤ) → InOrder t → isClass (treeOf t) 0 ≡ true
 unfolding isClass treeOf
@@ -94,8 +52,8 @@ pub all-charged : Steps → (t : List ℤ) (o : Observer) (calls : List Call) �
 unfolding events chargedOver grainsOver
 all-charged laws t o [] a = refl
 all-charged laws t o (call ∷ calls) a =
-    let rest = all-charged laws (tableAfter t call) (observed o (eventOf t call)) calls (laws .agrees t o call a) in
-    omega (arith, laws .all t o call a, rest)
+    let step = laws t o call a in
+    omega (arith, step .all, all-charged laws (after t call .table) (observed o (eventOf t call)) calls (step .agrees))
 
 -- The balance of a class before and after a stretch that it is joined throughout: at most its depth, and at least four
 -- depths below zero.
@@ -131,7 +89,7 @@ module _ (laws : Steps) (t : List ℤ) (o : Observer) (a : Agrees t o) (calls : 
       }
 
   root-over : ClassOver t o calls root
-  root-over = class-over laws t o calls a root (rw (← a .tree) (root-class t f)) (root-stays t calls)
+  root-over = class-over laws t o calls a root (rw (← a .tree) (root-class t f)) (root-stays laws t o calls a)
 
   pub bounds-from : Bounds o (events t calls)
   bounds-from =

@@ -14,7 +14,7 @@ use Rattle.numbers.proofs.Every.{head-holds, rest-hold}
 use Rattle.definitions.specs.Limits.{grainScale}
 use Rattle.definitions.specs.Places.{balance}
 use Rattle.definitions.specs.Tree.{isClass, isClient}
-use Rattle.bounds.specs.Events.{Call, tableAfter, eventOf, events, tableAfterAll}
+use Rattle.runs.specs.Runs.{Call, after, eventOf, events, tableAfterAll}
 use Rattle.bounds.specs.Observer.{Observer, observed, observedAll}
 use Rattle.bounds.specs.Counts.{ratesOver, dispatchedOver, chargedOver, waitsThroughout, staysThroughout}
 use Rattle.bounds.proofs.Simulation.{Agrees, Steps}
@@ -22,7 +22,7 @@ use Rattle.bounds.proofs.Simulation.{Agrees, Steps}
 pub agrees-all : Steps → (t : List ℤ) (o : Observer) (calls : List Call) → Agrees t o → Agrees (tableAfterAll t calls) (observedAll o (events t calls))
 unfolding tableAfterAll observedAll events
 agrees-all laws t o [] a = a
-agrees-all laws t o (c ∷ calls) a = agrees-all laws (tableAfter t c) (observed o (eventOf t c)) calls (laws .agrees t o c a)
+agrees-all laws t o (c ∷ calls) a = agrees-all laws (after t c .table) (observed o (eventOf t c)) calls (laws t o c a .agrees)
 
 -- A class over a stretch.
 pub record ClassOver (t : List ℤ) (o : Observer) (calls : List Call) (c : ℕ) : Type 0 where
@@ -38,8 +38,8 @@ pub class-over :
 unfolding tableAfterAll observedAll events eventOf chargedOver ratesOver staysThroughout
 class-over laws t o [] a c e h = record { class = e; depth = refl; line = omega arith }
 class-over laws t o (call ∷ calls) a c e h =
-    let first = laws .class t o call a c e (not-true _ (head-holds _ _ h)) in
-    let rest = class-over laws (tableAfter t call) (observed o (eventOf t call)) calls (laws .agrees t o call a) c (first .class) (head-holds _ _ (rest-hold _ _ h)) in
+    let first = laws t o call a .class c e (not-true _ (head-holds _ _ h)) in
+    let rest = class-over laws (after t call .table) (observed o (eventOf t call)) calls (laws t o call a .agrees) c (first .class) (head-holds _ _ (rest-hold _ _ h)) in
     record { class = rest .class; depth = rest .depth ∙ first .depth; line = omega (arith, first .line, rest .line) }
 
 -- A waiting client over a stretch.
@@ -58,8 +58,8 @@ pub client-over :
 unfolding tableAfterAll observedAll events dispatchedOver ratesOver waitsThroughout
 client-over laws t o [] a k e h = record { client = e; depth = refl; line = omega arith; end = inl (refl, refl) }
 client-over laws t o (call ∷ calls) a k e h =
-    let rest = client-over laws (tableAfter t call) (observed o (eventOf t call)) calls (laws .agrees t o call a) k e (head-holds _ _ (rest-hold _ _ h)) in
-    let first = laws .client t o call a k (rest .client) (head-holds _ _ h) in
+    let rest = client-over laws (after t call .table) (observed o (eventOf t call)) calls (laws t o call a .agrees) k e (head-holds _ _ (rest-hold _ _ h)) in
+    let first = laws t o call a .client k (rest .client) (head-holds _ _ h) in
     record {
       client = first .client;
       depth = rest .depth ∙ first .depth;

@@ -1,48 +1,39 @@
 -- Demand 3. The opened table agrees with the observer, every call keeps that, and the laws of one call give the three
 -- claims over a stretch.
-use mathlib.Core.Path.{_≡_}
-use mathlib.Core.Bool.{true, false}
-use mathlib.Core.List.{[], _∷_}
-use Rattle.numbers.specs.Tests.{every}
-use Rattle.definitions.specs.Limits.{root}
-use Rattle.definitions.specs.Tree.{isClient}
-use Rattle.definitions.specs.Calls.{openTable}
-use Rattle.bounds.specs.Events.{tableAfter, answerOf, eventOf, events, tableAfterAll}
-use Rattle.bounds.specs.Observer.{entries, observed, start, observedAll}
-use Rattle.bounds.specs.Counts.{accepts, entryGrains, grainsToNode, sumOver, leaves, waits}
+use mathlib.Core.Path.{_≡_, refl}
+use mathlib.Core.Bool.{true}
+use mathlib.Core.List.{List}
+use lib.IntN.{ℤ}
+use Rattle.numbers.proofs.Tests.{by-test}
+use Rattle.definitions.specs.Calls.{openTable, joinTable, joinAnswer, leaveTable, leaveAnswer, changeShareTable, changeShareAnswer, changeRateTable, changeRateAnswer, requestTable, requestAnswer}
+use Rattle.runs.specs.Runs.{Call, join, leave, changeShare, changeRate, request, tick, after, isTick, accepts, events, tableAfterAll}
+use Rattle.bounds.specs.Observer.{Observer, start, observedAll}
 use Rattle.bounds.specs.Demand.{Demand3}
-use Rattle.bounds.proofs.Simulation.{Agrees, ClassStep, ClientStep, Steps}
+use Rattle.bounds.proofs.Simulation.{Agrees, Step, Steps}
 use Rattle.bounds.proofs.Telescope.{agrees-all}
 use Rattle.bounds.proofs.Stretch.{bounds-from}
 use Rattle.bounds.proofs.Opened.{opened-agrees}
-use Rattle.bounds.proofs.CallSteps.{calls-agree, calls-class, calls-all, calls-client, by-call}
-use Rattle.bounds.proofs.TickSteps.{tick-agrees, tick-class, tick-all, tick-client}
+use Rattle.bounds.proofs.Join.{join-change}
+use Rattle.bounds.proofs.Leave.{leave-change}
+use Rattle.bounds.proofs.ChangeShare.{share-change}
+use Rattle.bounds.proofs.ChangeRate.{rate-change}
+use Rattle.bounds.proofs.Request.{request-change}
+use Rattle.bounds.proofs.CallSteps.{quiet-step, refused-step}
+use Rattle.bounds.proofs.TickSteps.{tick-step}
+
+-- The laws of each accepted call: the one list of calls in these proofs.
+accepted-step : (t : List ℤ) (o : Observer) (call : Call) → Agrees t o → accepts (after t call .answer) ≡ true → Step t o call
+unfolding after isTick joinTable joinAnswer leaveTable leaveAnswer changeShareTable changeShareAnswer changeRateTable changeRateAnswer requestTable requestAnswer
+accepted-step t o (join node parent sort kind share depth port) a h =
+    quiet-step t o (join node parent sort kind share depth port) _ _ _ refl refl h (join-change t o node parent sort kind share depth port a)
+accepted-step t o (leave node) a h = quiet-step t o (leave node) _ _ _ refl refl h (leave-change t o node a)
+accepted-step t o (changeShare node kind share) a h = quiet-step t o (changeShare node kind share) _ _ _ refl refl h (share-change t o node kind share a)
+accepted-step t o (changeRate rate) a h = quiet-step t o (changeRate rate) _ _ _ refl refl h (rate-change t o rate a)
+accepted-step t o (request client tag size) a h = quiet-step t o (request client tag size) _ _ _ refl refl h (request-change t o client tag size a)
+accepted-step t o (tick first second) a h = tick-step t o first second a h
 
 pub steps : Steps
-steps =
-    record {
-      agrees = λ t o call a.
-          by-call (λ call. Agrees (tableAfter t call) (observed o (eventOf t call)))
-          (λ call quiet. calls-agree t o call quiet a)
-          (λ first second. tick-agrees t o first second a)
-          call;
-      class = λ t o call a c e.
-          by-call (λ call. every (leaves c call ∷ accepts (answerOf t call) ∷ []) ≡ false → ClassStep t o call c)
-          (λ call quiet. calls-class t o call quiet a c e)
-          (λ first second stays. tick-class t o first second a c e)
-          call;
-      client = λ t o call a k.
-          by-call
-          (λ call. isClient (observed o (eventOf t call) .tree) k ≡ true → waits (observed o (eventOf t call)) k ≡ true → ClientStep t o call k)
-          (λ call quiet. calls-client t o call quiet a k)
-          (λ first second. tick-client t o first second a k)
-          call;
-      all = λ t o call a.
-          by-call (λ call. sumOver (grainsToNode (o .tree) root) (entries (eventOf t call)) ≡ sumOver entryGrains (entries (eventOf t call)))
-          (λ call quiet. calls-all t o call quiet)
-          (λ first second. tick-all t o first second a)
-          call;
-    }
+steps t o call a = by-test (accepts (after t call .answer)) (accepted-step t o call a) (refused-step t o call a)
 
 pub demand-3 : Demand3
 unfolding Demand3

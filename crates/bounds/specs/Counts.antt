@@ -1,34 +1,23 @@
 -- What demand 3 counts over a stretch of events that an observer o follows: rates, grains dispatched and charged, and who
 -- waits or stays throughout. Document 01, "What demand 3 counts".
 use Prim.Native.Nat.{ℕ, _+_}
-use mathlib.Core.Bool.{Bool, true, false, not, cond}
+use mathlib.Core.Bool.{Bool, true, not, cond}
 use mathlib.Core.List.{List, [], _∷_}
 use lib.Dec.{eqb, ltb}
-use Rattle.numbers.specs.Whole.{plus}
 use Rattle.numbers.specs.Tests.{every}
 use Rattle.definitions.specs.Tree.{Tree, atOrAbove}
 use Rattle.definitions.specs.Rates.{rateIn}
-use Rattle.definitions.specs.Refusals.{Outcome, accepted, refused}
 use Rattle.definitions.specs.Tick.{grains}
-use Rattle.bounds.specs.Events.{Call, join, leave, changeShare, changeRate, request, tick, Event}
+use Rattle.runs.specs.Runs.{isTick, leaves, accepts, Event}
 use Rattle.bounds.specs.Observer.{Entry, entries, Observer, observed}
 
--- Whether an answer accepts.
-unfoldable pub accepts : Outcome → Bool
-accepts (accepted values) = true
-accepts (refused number) = false
-
-unfoldable pub isTick : Call → Bool
-isTick (join node parent sort kind share depth port) = false
-isTick (leave node) = false
-isTick (changeShare node kind share) = false
-isTick (changeRate rate) = false
-isTick (request client tag size) = false
-isTick (tick first second) = true
+-- Whether an event is an accepted tick.
+unfoldable pub acceptedTick : Event → Bool
+acceptedTick e = every (isTick (e .call) ∷ accepts (e .answer) ∷ [])
 
 -- A node's rate at an event: at an accepted tick the one that the tree before it gives, else 0.
 unfoldable pub rateAt : Observer → ℕ → Event → ℕ
-rateAt o k e = cond (every (isTick (e .call) ∷ accepts (e .answer) ∷ [])) (rateIn (o .tree) (o .disk) k) 0
+rateAt o k e = cond (acceptedTick e) (rateIn (o .tree) (o .disk) k) 0
 
 -- The sum of node k's rates over a stretch.
 unfoldable pub ratesOver : Observer → ℕ → List Event → ℕ
@@ -74,16 +63,11 @@ unfoldable pub waitsThroughout : Observer → ℕ → List Event → Bool
 waitsThroughout o k [] = true
 waitsThroughout o k (e ∷ stretch) = every (waits (observed o e) k ∷ waitsThroughout (observed o e) k stretch ∷ [])
 
--- Whether a call takes node c out where it is accepted.
-unfoldable pub leaves : ℕ → Call → Bool
-leaves c (join node parent sort kind share depth port) = false
-leaves c (leave node) = eqb (plus node) c
-leaves c (changeShare node kind share) = false
-leaves c (changeRate rate) = false
-leaves c (request client tag size) = false
-leaves c (tick first second) = false
+-- Whether an event is an accepted leave that takes node c out.
+unfoldable pub takesOut : ℕ → Event → Bool
+takesOut c e = every (leaves c (e .call) ∷ accepts (e .answer) ∷ [])
 
 -- No accepted leave of the stretch takes node c out.
 unfoldable pub staysThroughout : ℕ → List Event → Bool
 staysThroughout c [] = true
-staysThroughout c (e ∷ stretch) = every (not (every (leaves c (e .call) ∷ accepts (e .answer) ∷ [])) ∷ staysThroughout c stretch ∷ [])
+staysThroughout c (e ∷ stretch) = every (not (takesOut c e) ∷ staysThroughout c stretch ∷ [])

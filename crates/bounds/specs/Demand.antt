@@ -8,7 +8,7 @@ use lib.IntN.{ℤ}
 use Rattle.definitions.specs.Limits.{root, grainScale}
 use Rattle.definitions.specs.Tree.{isClass, isClient}
 use Rattle.definitions.specs.Calls.{openRefusal, openTable}
-use Rattle.bounds.specs.Events.{Call, Event, events, tableAfterAll}
+use Rattle.runs.specs.Runs.{Call, Event, events, tableAfterAll}
 use Rattle.bounds.specs.Observer.{Observer, start, observedAll}
 use Rattle.bounds.specs.Counts.{ratesOver, grainsOver, dispatchedOver, chargedOver, waitsThroughout, staysThroughout}
 

@@ -5,7 +5,7 @@ use mathlib.Core.List.{List, [], _∷_}
 use lib.IntN.{ℤ, pos}
 use Rattle.definitions.specs.Limits.{root, client, weighted, mostWaiting}
 use Rattle.definitions.specs.Refusals.{accepted}
-use Rattle.bounds.specs.Events.{join, request, tick, Event}
+use Rattle.runs.specs.Runs.{join, request, tick, Event}
 use Rattle.bounds.specs.Observer.{Observer, start, observedAll}
 
 -- Client 1 joins below the root with weight 1 and depth 8, on a port.

@@ -1,4 +1,3 @@
-pub mod Events
 pub mod Observer
 pub mod Counts
 pub mod Demand

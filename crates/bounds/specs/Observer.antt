@@ -11,7 +11,7 @@ use Rattle.numbers.specs.Whole.{plus}
 use Rattle.definitions.specs.Limits.{root, class, wholeShare, entryLength}
 use Rattle.definitions.specs.Tree.{Tree}
 use Rattle.definitions.specs.Refusals.{Outcome, accepted, refused}
-use Rattle.bounds.specs.Events.{Call, join, leave, changeShare, changeRate, request, tick, Event}
+use Rattle.runs.specs.Runs.{Call, join, leave, changeShare, changeRate, request, tick, isTick, Event}
 
 -- f, with v at k.
 unfoldable pub setAt : ℕ → ℕ → (ℕ → ℕ) → ℕ → ℕ
@@ -37,16 +37,9 @@ dispatchedBy (accepted values) first second =
     entriesIn (plus (getD values 0 (pos 0))) first ++ entriesIn (plus (getD values 1 (pos 0))) second
 dispatchedBy (refused number) first second = []
 
-unfoldable pub entriesOf : Call → Outcome → List ℤ → List ℤ → List Entry
-entriesOf (join node parent sort kind share depth port) answer first second = []
-entriesOf (leave node) answer first second = []
-entriesOf (changeShare node kind share) answer first second = []
-entriesOf (changeRate rate) answer first second = []
-entriesOf (request client tag size) answer first second = []
-entriesOf (tick before₀ before₁) answer first second = dispatchedBy answer first second
-
+-- The entries that an event dispatches; a call other than a tick has none.
 unfoldable pub entries : Event → List Entry
-entries e = entriesOf (e .call) (e .answer) (e .first) (e .second)
+entries e = cond (isTick (e .call)) (dispatchedBy (e .answer) (e .first) (e .second)) []
 
 -- How many entries were dispatched for client k.
 unfoldable pub entriesFor : ℕ → List Entry → ℕ

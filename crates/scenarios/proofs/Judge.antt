@@ -12,8 +12,8 @@ use Rattle.numbers.proofs.Tests.{and-true, and-left, and-right}
 use Rattle.numbers.proofs.Parts.{same-eq, eq-same}
 use Rattle.definitions.specs.Order.{inOrder}
 use Rattle.definitions.specs.Refusals.{Outcome, accepted, refused}
-use Rattle.definitions.specs.Tick.{tickFirst, tickSecond, tickAnswer}
-use Rattle.scenarios.specs.Scenario.{Step, _gives_, _answers_leaving_and_, keep, fits, spoils, Scenario, firstLent, secondLent, answer, changed, Says, after, keptAfter, Hold}
+use Rattle.runs.specs.Runs.{after as afterCall}
+use Rattle.scenarios.specs.Scenario.{Step, _gives_, _answers_leaving_and_, keep, fits, spoils, Scenario, ticks, answer, changed, Says, after, keptAfter, Hold}
 
 -- Whether two lists, or two answers, are the same.
 unfoldable pub sameList : List ℤ → List ℤ → Bool
@@ -65,8 +65,8 @@ same-outcome (refused m) (refused n) h = ap refused (eqb-true m n h)
 unfoldable pub holds : Step → (kept t : List ℤ) → Bool
 holds (c gives outcome) kept t = sameOutcome (answer c kept t) outcome
 holds (c answers outcome leaving first and second) kept t =
-    sameOutcome (tickAnswer t (firstLent c) (secondLent c)) outcome
-    && (sameList (tickFirst t (firstLent c) (secondLent c)) first && sameList (tickSecond t (firstLent c) (secondLent c)) second)
+    sameOutcome (afterCall t (ticks c) .answer) outcome
+    && (sameList (afterCall t (ticks c) .first) first && sameList (afterCall t (ticks c) .second) second)
 holds keep kept t = true
 holds (fits change) kept t = inOrder (changed change t)
 holds (spoils change) kept t = not (inOrder (changed change t))
@@ -75,8 +75,8 @@ says-holds : (step : Step) (kept t : List ℤ) → Says step kept t → holds st
 unfolding Says holds
 says-holds (c gives outcome) kept t h = outcome-same (answer c kept t) outcome (cc)
 says-holds (c answers outcome leaving first and second) kept t h =
-    and-true _ _ (outcome-same (tickAnswer t (firstLent c) (secondLent c)) outcome (cc))
-    (and-true _ _ (list-same (tickFirst t (firstLent c) (secondLent c)) first (cc)) (list-same (tickSecond t (firstLent c) (secondLent c)) second (cc)))
+    and-true _ _ (outcome-same (afterCall t (ticks c) .answer) outcome (cc))
+    (and-true _ _ (list-same (afterCall t (ticks c) .first) first (cc)) (list-same (afterCall t (ticks c) .second) second (cc)))
 says-holds keep kept t h = refl
 says-holds (fits change) kept t h = cc
 says-holds (spoils change) kept t h = let e : inOrder (changed change t) ≡ false = cc in rw e
@@ -85,13 +85,13 @@ holds-says : (step : Step) (kept t : List ℤ) → holds step kept t ≡ true �
 unfolding Says holds
 holds-says (c gives outcome) kept t h = cc (same-outcome (answer c kept t) outcome h)
 holds-says (c answers outcome leaving first and second) kept t h =
-    let answered : Bool = sameOutcome (tickAnswer t (firstLent c) (secondLent c)) outcome in
-    let listed₀ : Bool = sameList (tickFirst t (firstLent c) (secondLent c)) first in
-    let listed₁ : Bool = sameList (tickSecond t (firstLent c) (secondLent c)) second in
+    let answered : Bool = sameOutcome (afterCall t (ticks c) .answer) outcome in
+    let listed₀ : Bool = sameList (afterCall t (ticks c) .first) first in
+    let listed₁ : Bool = sameList (afterCall t (ticks c) .second) second in
     let lists = and-right answered (listed₀ && listed₁) h in (
-      cc (same-outcome (tickAnswer t (firstLent c) (secondLent c)) outcome (and-left answered (listed₀ && listed₁) h)),
-      cc (same-list (tickFirst t (firstLent c) (secondLent c)) first (and-left listed₀ listed₁ lists)),
-      cc (same-list (tickSecond t (firstLent c) (secondLent c)) second (and-right listed₀ listed₁ lists)),
+      cc (same-outcome (afterCall t (ticks c) .answer) outcome (and-left answered (listed₀ && listed₁) h)),
+      cc (same-list (afterCall t (ticks c) .first) first (and-left listed₀ listed₁ lists)),
+      cc (same-list (afterCall t (ticks c) .second) second (and-right listed₀ listed₁ lists)),
     )
 holds-says keep kept t h = tt
 holds-says (fits change) kept t h = cc

@@ -10,7 +10,8 @@ use Rattle.definitions.specs.Rates.{kindSum, dividedRate, childRate, rateAtLeve
 use Rattle.definitions.specs.Order.{limitsKept, spareInOrder, classInOrder, rateInOrder, childBalance, childBalances, balanceInOrder, arrivalsDiffer, statedInOrder, inOrder}
 use Rattle.definitions.specs.Calls.{sharesAbove, depthsAbove, statedWrong, sumCauses, joinRefusal, joinTable, joinAnswer, leaveRefusal, leaveTable, leaveAnswer, changeShareRefusal, changeShareTable, changeShareAnswer, changeRateRefusal, changeRateTable, changeRateAnswer, requestRefusal, requestTable, requestAnswer, lostGrains, lookRefusal, lookAnswer, sameTree, sameRefusal, sameAnswer}
 use Rattle.definitions.specs.Tick.{State, grown, servedAll, cut, allWaiting, stepTwo, stepThree, ticked, portEntries, portCount, portWaiting, listShort, tickRefusal, tickTable, tickFirst, tickSecond, tickAnswer}
-use Rattle.scenarios.specs.Scenario.{openℤ, joinℤ, leaveℤ, changeShareℤ, changeRateℤ, requestℤ, lookℤ, same, Step, _gives_, _answers_leaving_and_, keep, fits, spoils, firstLent, secondLent, answer, called, changed, after, keptAfter}
+use Rattle.runs.specs.Runs.{join, leave, changeShare, changeRate, request, tick, after as afterCall}
+use Rattle.scenarios.specs.Scenario.{made, openℤ, lookℤ, same, Step, _gives_, _answers_leaving_and_, keep, fits, spoils, firstLent, secondLent, answer, called, changed, after, keptAfter}
 use Rattle.scenarios.proofs.Judge.{holds}
 use Rattle.scenarios.proofs.Near.{treeNear, place-is, put-is, tree-is, sum-is, nodes-are, classes-are, clients-are, unused-is, lent-is}
 
@@ -185,17 +186,19 @@ shortTicked t = with (shortStepThree t) (λ st h. by (λ y e. simp (h, is shortA
 
 -- A step, and a test of the tables after it. The refusal, and what a tick does, are computed once for both.
 unfoldable pub shortStep : (step : Step) (rest : (kept t : List ℤ) → Bool) (kept t : List ℤ) → Short (holds step kept t && rest (keptAfter step kept t) (after step t))
-unfolding holds after keptAfter answer called changed joinTable joinAnswer leaveTable leaveAnswer changeShareTable changeShareAnswer changeRateTable changeRateAnswer requestTable requestAnswer lookAnswer sameTree sameAnswer tickTable tickFirst tickSecond tickAnswer portCount portEntries renewed
-shortStep (openℤ rate depth gives o) rest kept t = record { value = _; same = refl }
-shortStep (joinℤ node parent sort kind share depth port gives o) rest kept t =
+unfolding holds after keptAfter answer called afterCall changed joinTable joinAnswer leaveTable leaveAnswer changeShareTable changeShareAnswer changeRateTable changeRateAnswer requestTable requestAnswer lookAnswer sameTree sameAnswer tickTable tickFirst tickSecond tickAnswer portCount portEntries renewed
+shortStep (made (join node parent sort kind share depth port) gives o) rest kept t =
     with (shortJoinRefusal t node parent sort kind share depth port) (λ n h. by (λ y e. simp (h, tree-is, rates-are) at e))
-shortStep (leaveℤ node gives o) rest kept t = with (shortLeaveRefusal t node) (λ n h. by (λ y e. simp (h, tree-is, rates-are) at e))
-shortStep (changeShareℤ node kind share gives o) rest kept t =
+shortStep (made (leave node) gives o) rest kept t = with (shortLeaveRefusal t node) (λ n h. by (λ y e. simp (h, tree-is, rates-are) at e))
+shortStep (made (changeShare node kind share) gives o) rest kept t =
     with (shortChangeShareRefusal t node kind share) (λ n h. by (λ y e. simp (h, tree-is, rates-are) at e))
-shortStep (changeRateℤ rate gives o) rest kept t =
+shortStep (made (changeRate rate) gives o) rest kept t =
     with (shortChangeRateRefusal t rate) (λ n h. by (λ y e. simp (h, tree-is, rates-are) at e))
-shortStep (requestℤ client tag size gives o) rest kept t =
+shortStep (made (request client tag size) gives o) rest kept t =
     with (shortRequestRefusal t client tag size) (λ n h. by (λ y e. simp h at e))
+shortStep (made (tick first second) gives o) rest kept t =
+    with (shortTickRefusal t first second) (λ n h. with (shortTicked t) (λ st k. by (λ y e. simp (h, k, is shortPorts) at e)))
+shortStep (openℤ rate depth gives o) rest kept t = record { value = _; same = refl }
 shortStep (lookℤ node gives o) rest kept t = with (shortLookRefusal t node) (λ n h. by (λ y e. simp (h, is (shortLost t)) at e))
 shortStep (same gives o) rest kept t = with (shortSameRefusal kept t) (λ n h. by (λ y e. simp (h, place-is) at e))
 shortStep (c answers o leaving first and second) rest kept t =

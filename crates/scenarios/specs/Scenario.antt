@@ -1,5 +1,5 @@
--- Scenarios: calls on a table, one after the other, each with what it must give. Answers, tables and lists are those of
--- the definitions of table/specs.
+-- Scenarios: calls on a table, one after the other, each with what it must give. What comes of join, leave, change share, change
+-- rate, request and tick is said in runs/specs; of the others in definitions/specs.
 use Prim.Native.Nat.{ℕ, zero, suc, _-_}
 use mathlib.Core.Path.{_≡_}
 use mathlib.Core.Bool.{true, false}
@@ -10,20 +10,31 @@ use Rattle.definitions.specs.Limits.{tableLength, balanceAt, firstPort}
 use Rattle.definitions.specs.Places.{put, putHeader}
 use Rattle.definitions.specs.Order.{inOrder}
 use Rattle.definitions.specs.Refusals.{Outcome, accepted, refused}
-use Rattle.definitions.specs.Calls.{openTable, openAnswer, joinTable, joinAnswer, leaveTable, leaveAnswer, changeShareTable, changeShareAnswer, changeRateTable, changeRateAnswer, requestTable, requestAnswer, lookAnswer, sameAnswer}
-use Rattle.definitions.specs.Tick.{tickTable, tickFirst, tickSecond, tickAnswer}
+use Rattle.definitions.specs.Calls.{openTable, openAnswer, lookAnswer, sameAnswer}
+use Rattle.runs.specs.Runs.{Call as RunCall, join as runJoin, leave as runLeave, changeShare as runChangeShare, changeRate as runChangeRate, request as runRequest, tick as runTick, after as afterCall}
 
--- A call other than tick, with any whole numbers for its arguments. Same has the table that was kept last for its first
--- table and the table as it is for its second.
+-- A call with any whole numbers for its arguments: one of those of runs/specs, open, look, or same. Same has the table that was
+-- kept last for its first table and the table as it is for its second.
 pub data Call : Type 0 where
+  made : RunCall → Call
   openℤ : (rate depth : ℤ) → Call
-  joinℤ : (node parent sort kind share depth port : ℤ) → Call
-  leaveℤ : (node : ℤ) → Call
-  changeShareℤ : (node kind share : ℤ) → Call
-  changeRateℤ : (rate : ℤ) → Call
-  requestℤ : (client tag size : ℤ) → Call
   lookℤ : (node : ℤ) → Call
   same : Call
+
+abbrev pub joinℤ : (node parent sort kind share depth port : ℤ) → Call
+joinℤ node parent sort kind share depth port = made (runJoin node parent sort kind share depth port)
+
+abbrev pub leaveℤ : (node : ℤ) → Call
+leaveℤ node = made (runLeave node)
+
+abbrev pub changeShareℤ : (node kind share : ℤ) → Call
+changeShareℤ node kind share = made (runChangeShare node kind share)
+
+abbrev pub changeRateℤ : (rate : ℤ) → Call
+changeRateℤ rate = made (runChangeRate rate)
+
+abbrev pub requestℤ : (client tag size : ℤ) → Call
+requestℤ client tag size = made (runRequest client tag size)
 
 -- The same calls with natural numbers. `disk` is open, with the disk's rate and the root's depth; `join` is on the first port.
 abbrev pub disk : (rate depth : ℕ) → Call
@@ -93,12 +104,15 @@ seen rate balance waiting lost = accepted (pos rate ∷ balance ∷ pos waiting 
 abbrev pub greatestNumber : ℕ
 greatestNumber = 9223372036854775807
 
--- The lists that a tick is lent: sevens, and eights.
+-- The lists that a tick is lent, sevens and eights, and the call.
 unfoldable pub firstLent : Tick → List ℤ
 firstLent (tickBoth n m) = replicate n (pos 7)
 
 unfoldable pub secondLent : Tick → List ℤ
 secondLent (tickBoth n m) = replicate m (pos 8)
+
+abbrev pub ticks : Tick → RunCall
+ticks c = runTick (firstLent c) (secondLent c)
 
 -- The numbers of dispatches in a list.
 unfoldable pub entries : List Dispatch → List ℤ
@@ -132,22 +146,14 @@ times (suc n) step steps = step ∷ times n step steps
 
 -- What a call answers, and the table after it.
 unfoldable pub answer : Call → (kept t : List ℤ) → Outcome
+answer (made call) kept t = afterCall t call .answer
 answer (openℤ rate depth) kept t = openAnswer t rate depth
-answer (joinℤ node parent sort kind share depth port) kept t = joinAnswer t node parent sort kind share depth port
-answer (leaveℤ node) kept t = leaveAnswer t node
-answer (changeShareℤ node kind share) kept t = changeShareAnswer t node kind share
-answer (changeRateℤ rate) kept t = changeRateAnswer t rate
-answer (requestℤ client tag size) kept t = requestAnswer t client tag size
 answer (lookℤ node) kept t = lookAnswer t node
 answer same kept t = sameAnswer kept t
 
 unfoldable pub called : Call → List ℤ → List ℤ
+called (made call) t = afterCall t call .table
 called (openℤ rate depth) t = openTable t rate depth
-called (joinℤ node parent sort kind share depth port) t = joinTable t node parent sort kind share depth port
-called (leaveℤ node) t = leaveTable t node
-called (changeShareℤ node kind share) t = changeShareTable t node kind share
-called (changeRateℤ rate) t = changeRateTable t rate
-called (requestℤ client tag size) t = requestTable t client tag size
 called (lookℤ node) t = t
 called same t = t
 
@@ -162,9 +168,7 @@ changed oneMore t = t ++ (pos 0 ∷ [])
 unfoldable pub Says : Step → (kept t : List ℤ) → Type 0
 Says (c gives outcome) kept t = answer c kept t ≡ outcome
 Says (c answers outcome leaving first and second) kept t =
-    (tickAnswer t (firstLent c) (secondLent c) ≡ outcome)
-    × (tickFirst t (firstLent c) (secondLent c) ≡ first)
-    × (tickSecond t (firstLent c) (secondLent c) ≡ second)
+    (afterCall t (ticks c) .answer ≡ outcome) × (afterCall t (ticks c) .first ≡ first) × (afterCall t (ticks c) .second ≡ second)
 Says keep kept t = Unit {0}
 Says (fits change) kept t = inOrder (changed change t) ≡ true
 Says (spoils change) kept t = inOrder (changed change t) ≡ false
@@ -172,7 +176,7 @@ Says (spoils change) kept t = inOrder (changed change t) ≡ false
 -- The table after a step, and the kept one.
 unfoldable pub after : Step → List ℤ → List ℤ
 after (c gives outcome) t = called c t
-after (c answers outcome leaving first and second) t = tickTable t (firstLent c) (secondLent c)
+after (c answers outcome leaving first and second) t = afterCall t (ticks c) .table
 after keep t = t
 after (fits change) t = changed change t
 after (spoils change) t = changed change t
