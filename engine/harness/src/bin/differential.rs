@@ -1,10 +1,15 @@
 //! The second engine and the archive, call by call: after each call the answers, all lent buffers and the guards around
 //! them are compared. `differential [random calls] [first seed]`. All runs of the archive but the wild ones stand before
 //! demand 3's judge too, and each faulty engine must be told from the archive, wrong renewals of rates by the scenes of
-//! changes too, and misread stated rates, editions of plans and ports by the scenes of these. The last line counts scenes,
-//! runs, judged runs and faulty engines.
+//! changes too, and misread stated rates, editions of plans and ports by the scenes of these. As many scenes, seeds and
+//! faulty engines are worked on at a time as there are processors. The last line counts scenes, runs, judged runs and
+//! faulty engines.
 
+use std::num::NonZero;
+use std::panic::resume_unwind;
 use std::process::ExitCode;
+use std::sync::OnceLock;
+use std::thread;
 use std::time::Instant;
 
 use harness::scenes::{self, Scene};
@@ -50,33 +55,25 @@ fn main() -> ExitCode {
 
 fn compare(most: usize, first: u64) -> Result<Counts, String> {
     let mut counts = Counts::default();
-    for (name, steps) in scenes::all() {
-        compared(0, &steps).map_err(|difference| format!("scene {name}: {difference}"))?;
+    in_order(scenes::all().into_iter(), compare_scene, |calls| {
         counts.scenes += 1;
-        counts.calls += calls(&steps);
-    }
-    let mut seed = first;
+        counts.calls += calls;
+        true
+    })?;
     let mut random = 0;
-    while random < most {
-        for profile in [Profile::Wild, Profile::Clean, Profile::Family, Profile::Tree] {
-            let steps = run(seed, LENGTH, profile);
-            compared(seed, &steps).map_err(|difference| format!("{profile:?}, {difference}"))?;
-            if profile != Profile::Wild {
-                if let Some(violation) = judge::watch(&mut Cabinet, &steps).first() {
-                    return Err(format!("{profile:?}, seed {seed}: {violation}"));
-                }
-                counts.judged += 1;
-            }
-            counts.runs += 1;
-            random += calls(&steps);
-        }
-        seed += 1;
+    if random < most {
+        in_order(first.., compare_runs, |made| {
+            counts.runs += made.runs;
+            counts.judged += made.judged;
+            random += made.calls;
+            random < most
+        })?;
     }
     counts.calls += random;
     let (changes, stated) = (scenes::changes(), scenes::stated());
     let (editions, ports) = (scenes::editions(), scenes::ports());
-    let mut runs = Runs::default();
-    for fault in FAULTS.into_iter().filter(|&fault| fault != Fault::None) {
+    let runs = Runs::default();
+    let tell = |fault| {
         let told_by_scenes = match fault {
             Fault::WrongRenewal(_) => told_by(fault, &changes),
             Fault::WrongStated(_) => told_by(fault, &stated),
@@ -84,10 +81,67 @@ fn compare(most: usize, first: u64) -> Result<Counts, String> {
             Fault::WrongPorts(_) => told_by(fault, &ports),
             _ => true,
         };
-        if !told_apart(fault, &mut runs) || !told_by_scenes {
-            return Err(format!("{fault:?} was not told from the archive"));
+        if told_apart(fault, &runs) && told_by_scenes {
+            Ok(())
+        } else {
+            Err(format!("{fault:?} was not told from the archive"))
         }
+    };
+    in_order(FAULTS.into_iter().filter(|&fault| fault != Fault::None), tell, |()| {
         counts.faults += 1;
+        true
+    })?;
+    Ok(counts)
+}
+
+/// Works on the items, as many at a time as there are processors, and takes what comes of them in their order, as
+/// long as more is wanted and none has failed. So what is taken is the same on any number of processors.
+fn in_order<I: Send, T: Send>(
+    mut items: impl Iterator<Item = I>,
+    work: impl Fn(I) -> Result<T, String> + Sync,
+    mut take: impl FnMut(T) -> bool,
+) -> Result<(), String> {
+    let at_a_time = thread::available_parallelism().map_or(1, NonZero::get);
+    loop {
+        let some: Vec<I> = items.by_ref().take(at_a_time).collect();
+        if some.is_empty() {
+            return Ok(());
+        }
+        let done: Vec<Result<T, String>> = thread::scope(|scope| {
+            let work = &work;
+            let threads: Vec<_> =
+                some.into_iter().map(|item| scope.spawn(move || work(item))).collect();
+            let joined = threads.into_iter().map(|thread| thread.join());
+            joined.map(|result| result.unwrap_or_else(|panic| resume_unwind(panic))).collect()
+        });
+        for result in done {
+            if !take(result?) {
+                return Ok(());
+            }
+        }
+    }
+}
+
+/// Compares a scene, and counts its calls.
+fn compare_scene((name, steps): Scene) -> Result<usize, String> {
+    compared(0, &steps).map_err(|difference| format!("scene {name}: {difference}"))?;
+    Ok(calls(&steps))
+}
+
+/// Compares and judges the random runs of a seed.
+fn compare_runs(seed: u64) -> Result<Counts, String> {
+    let mut counts = Counts::default();
+    for profile in [Profile::Wild, Profile::Clean, Profile::Family, Profile::Tree] {
+        let steps = run(seed, LENGTH, profile);
+        compared(seed, &steps).map_err(|difference| format!("{profile:?}, {difference}"))?;
+        if profile != Profile::Wild {
+            if let Some(violation) = judge::watch(&mut Cabinet, &steps).first() {
+                return Err(format!("{profile:?}, seed {seed}: {violation}"));
+            }
+            counts.judged += 1;
+        }
+        counts.runs += 1;
+        counts.calls += calls(&steps);
     }
     Ok(counts)
 }
@@ -98,27 +152,28 @@ fn told_by(fault: Fault, scenes: &[Scene]) -> bool {
     scenes.iter().any(|(_, steps)| first_difference(&mut faulty, &mut Cabinet, steps).is_some())
 }
 
-/// Runs that tell faulty engines apart, each made when it is first asked for.
-#[derive(Default)]
-struct Runs(Vec<Vec<Step>>);
+/// So many runs tell faulty engines apart.
+const TELLING: usize = 398;
+
+/// These runs, each made when it is first asked for.
+struct Runs([OnceLock<Vec<Step>>; TELLING]);
+
+impl Default for Runs {
+    fn default() -> Self {
+        Runs([const { OnceLock::new() }; TELLING])
+    }
+}
 
 impl Runs {
-    /// So many there are.
-    const COUNT: usize = 398;
-
-    fn get(&mut self, index: usize) -> &[Step] {
-        while self.0.len() <= index {
-            let next = self.0.len();
-            let profile = [Profile::Wild, Profile::Family][next % 2];
-            self.0.push(run(1 + next as u64 / 2, LENGTH, profile));
-        }
-        &self.0[index]
+    fn get(&self, index: usize) -> &[Step] {
+        let profile = [Profile::Wild, Profile::Family][index % 2];
+        self.0[index].get_or_init(|| run(1 + index as u64 / 2, LENGTH, profile))
     }
 }
 
 /// Whether some run shows a difference between a faulty engine and the archive.
-fn told_apart(fault: Fault, runs: &mut Runs) -> bool {
-    (0..Runs::COUNT).any(|index| {
+fn told_apart(fault: Fault, runs: &Runs) -> bool {
+    (0..TELLING).any(|index| {
         let mut faulty = Faulty::new(fault);
         first_difference(&mut faulty, &mut Cabinet, runs.get(index)).is_some()
     })
