@@ -1,4 +1,4 @@
--- What accepted calls but tick do to a table, over the definitions of table/specs/Calls.
+-- What accepted calls but tick do to a table, over the definitions of definitions/specs/Calls.
 use Prim.Native.Nat.{ℕ, _+_, _≤_, _<_}
 use mathlib.Core.Path.{_≡_}
 use mathlib.Core.Bool.{true}

@@ -48,7 +48,7 @@ fn send(input: &[u8]) -> Sent
     sent
 }
 
-// Of an input the first 4096 bytes are read: with more, its text is the same (`first-bytes`, loadform/proofs/Inputs.antt).
+// Of an input the first 4096 bytes are read: with more, its text is the same (`first-bytes`, loadformat/proofs/Inputs.antt).
 fn main() {
     let mut input = io::buffer();
     let n = io::read_full(STDIN_FILENO, &mut input);

@@ -1,3 +1,5 @@
+// The types of the code that the format of a plan speaks of; the format itself is defined in specs/.
+
 // The editions of a plan.
 pub enum Edition {
     First,

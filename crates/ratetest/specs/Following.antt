@@ -1,5 +1,5 @@
 -- The test of rates: each against its class's as it stands in the table. That a table whose rates all pass has the rates of
--- document 01 is a law (following/proofs/Following.antt).
+-- document 01 is a law (ratetest/proofs/Following.antt).
 use Prim.Native.Nat.{ℕ, _<_}
 use mathlib.Core.Path.{_≡_}
 use mathlib.Core.Bool.{Bool, true, _||_}

@@ -1,4 +1,4 @@
--- What a tick of a table in order does, over the definitions of table/specs/Tick.
+-- What a tick of a table in order does, over the definitions of definitions/specs/Tick.
 use Prim.Native.Nat.{ℕ, _+_, _*_, _<_}
 use mathlib.Core.Path.{_≡_}
 use mathlib.Core.Bool.{true}
