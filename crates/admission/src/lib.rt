@@ -11,7 +11,7 @@ ghost use Rattle.definitions.specs.Refusals.{lastRefusal, first};
 ghost use Rattle.definitions.specs.Calls.{sharesAbove, depthsAbove, statedWrong, joinLimits, sumCauses};
 ghost use Rattle.treelaws.specs.Joins.{refusalOf, joinedBy};
 ghost use Rattle.admission.specs.NewNodes.{asked, Natural, joinOf, Judged, Placeable};
-use table::Refusal;
+use answers::Refusal;
 use table::Table;
 
 // The joining node: join's arguments as natural numbers.

@@ -2,24 +2,24 @@
 // length. The answer is 0 or more where the call is accepted, else the negated number of the refusal.
 ghost use mathlib.Core.Path.{_≡_};
 ghost use lib.IntN.{pos, _-ℤ_};
-ghost use Rattle.table.specs.Answers.{numberOf, told, toldCompared};
+ghost use Rattle.answers.specs.Answers.{numberOf, told, toldCompared};
 ghost use Rattle.definitions.specs.Calls.{openAnswer, openTable, joinAnswer, joinTable, leaveAnswer, leaveTable, changeShareAnswer, changeShareTable, changeRateAnswer, changeRateTable, requestAnswer, requestTable, lookAnswer, sameAnswer};
 ghost use Rattle.definitions.specs.Tick.{tickAnswer, tickTable, tickFirst, tickSecond};
 ghost use Rattle.planlaws.specs.Reading.{planAnswer, planTable};
 ghost use Rattle.planlaws.specs.Writing.{writeAnswer, writeBuffer};
 ghost use Rattle.cabinet.specs.Exported.{exported, exportedBare, shown};
-use table::Answer;
-use table::Compared;
-use table::Refusal;
-use table::Seen;
+use answers::Answer;
+use answers::Compared;
+use answers::Refusal;
+use answers::Seen;
+use answers::Ticked;
 use table::Table;
-use table::Ticked;
 
 // The negated number of a refusal.
 fn negated(why: Refusal) -> i64
     ensures { λ r. ⌜ r ≡ pos 0 -ℤ pos (numberOf why) ⌝ }
 {
-    numbers::lowered(0, table::number_of(why))
+    numbers::lowered(0, answers::number_of(why))
 }
 
 // The number of an answer.

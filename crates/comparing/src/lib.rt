@@ -6,10 +6,10 @@ ghost use Rattle.numbers.specs.Whole.{sameℤ};
 ghost use Rattle.numbers.specs.Below.{allBelow};
 ghost use Rattle.definitions.specs.Limits.{tableLength, recordLength, nodes, rateAt};
 ghost use Rattle.definitions.specs.Places.{place};
-ghost use Rattle.table.specs.Answers.{toldCompared};
+ghost use Rattle.answers.specs.Answers.{toldCompared};
 ghost use Rattle.definitions.specs.Calls.{sameTree, sameAnswer};
-use table::Compared;
-use table::Refusal;
+use answers::Compared;
+use answers::Refusal;
 use table::Table;
 
 // Whether place p of node k is the same in both.

@@ -8,10 +8,10 @@ ghost use Rattle.definitions.specs.Tree.{treeOf};
 ghost use Rattle.definitions.specs.Rates.{statedSum};
 ghost use Rattle.definitions.specs.Order.{inOrder};
 ghost use Rattle.definitions.specs.Refusals.{lastRefusal};
-ghost use Rattle.table.specs.Answers.{told};
+ghost use Rattle.answers.specs.Answers.{told};
 ghost use Rattle.definitions.specs.Calls.{changeRateRefusal, changeRateTable, changeRateAnswer};
-use table::Answer;
-use table::Refusal;
+use answers::Answer;
+use answers::Refusal;
 use table::Table;
 
 // Whether the stated rates are above a rate of the disk.
@@ -46,7 +46,7 @@ pub fn change_rate(table: &mut [i64], rate: i64) -> Answer
 {
     let cause = change_rate_refusal(table, rate);
     if cause != 0 {
-        return table::answered(cause, 0);
+        return answers::answered(cause, 0);
     }
     Table::put(table, 0, Table::RATE, rate);
     renewing::renew_below(table, 0);

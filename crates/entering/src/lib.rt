@@ -45,7 +45,7 @@ fn join_numbers(
         numbers::whole(depth),
         numbers::whole(Table::FIRST_PORT),
     );
-    table::number_told(answer)
+    answers::number_told(answer)
 }
 
 // Joins a node; the number of the refusal, or 0.

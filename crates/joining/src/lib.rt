@@ -2,13 +2,13 @@
 ghost use mathlib.Core.Path.{_≡_};
 ghost use Prim.Native.Nat.{_≤_};
 ghost use Rattle.definitions.specs.Refusals.{lastRefusal};
-ghost use Rattle.table.specs.Answers.{told};
+ghost use Rattle.answers.specs.Answers.{told};
 ghost use Rattle.definitions.specs.Calls.{joinTable, joinAnswer};
 ghost use Rattle.treelaws.specs.Joins.{refusalOf, joinedBy};
 ghost use Rattle.admission.specs.NewNodes.{asked, joinOf, Writable};
 use admission::NewNode;
-use table::Answer;
-use table::Refusal;
+use answers::Answer;
+use answers::Refusal;
 use table::Table;
 
 // The number of the first cause that turns join back, or 0.
@@ -69,7 +69,7 @@ pub fn join(
 {
     let number = join_refusal(table, node, parent, sort, kind, share, depth, port);
     if number != 0 {
-        return table::answered(number, 0);
+        return answers::answered(number, 0);
     }
     write_node(
         table,

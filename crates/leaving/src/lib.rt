@@ -14,10 +14,10 @@ ghost use Rattle.definitions.specs.Places.{balance, waiting};
 ghost use Rattle.definitions.specs.Tree.{treeOf, isClass, childless};
 ghost use Rattle.definitions.specs.Order.{inOrder};
 ghost use Rattle.definitions.specs.Refusals.{lastRefusal};
-ghost use Rattle.table.specs.Answers.{told};
+ghost use Rattle.answers.specs.Answers.{told};
 ghost use Rattle.definitions.specs.Calls.{cleared, leaveRefusal, leaveTable, leaveAnswer};
-use table::Answer;
-use table::Refusal;
+use answers::Answer;
+use answers::Refusal;
 use table::Table;
 
 // Whether node k has children or waiting requests.
@@ -92,7 +92,7 @@ pub fn leave(table: &mut [i64], node: i64) -> Answer
 {
     let number = leave_refusal(table, node);
     if number != 0 {
-        return table::answered(number, 0);
+        return answers::answered(number, 0);
     }
     let k = numbers::natural(node) as usize;
     let parent = Table::natural(table, k, Table::PARENT) as usize;

@@ -9,9 +9,9 @@ ghost use Rattle.text.specs.Text.{longestRefused};
 ghost use Rattle.asking.specs.Asking.{loadOf};
 ghost use Rattle.loadformat.specs.Text.{loadRefusal, begun};
 ghost use Rattle.loadformat.specs.Parts.{Begins};
+use answers::Refusal;
 use layout::bytes;
 use loadformat::Progress;
-use table::Refusal;
 
 // Where the parts of the input stand.
 const SEED_AT: usize = 0;
@@ -30,7 +30,7 @@ fn read_input(table: &mut [i64], input: &[u8]) -> u64
     if input.len() < PLAN_AT {
         return Refusal::PLAN_WRONG;
     }
-    table::number_told(reading::read(table, &input[PLAN_AT..]))
+    answers::number_told(reading::read(table, &input[PLAN_AT..]))
 }
 
 // Makes a load ready for an input.

@@ -5,11 +5,11 @@ ghost use Prim.Native.Nat.{_≤_, _<_};
 ghost use Rattle.definitions.specs.Limits.{nodes};
 ghost use Rattle.definitions.specs.Order.{inOrder};
 ghost use Rattle.definitions.specs.Refusals.{lastRefusal};
-ghost use Rattle.table.specs.Answers.{toldSeen};
+ghost use Rattle.answers.specs.Answers.{toldSeen};
 ghost use Rattle.definitions.specs.Calls.{lostGrains, lookRefusal, lookAnswer};
+use answers::Refusal;
+use answers::Seen;
 use sums::Summand;
-use table::Refusal;
-use table::Seen;
 use table::Table;
 use table::tree;
 
@@ -48,7 +48,7 @@ pub fn look(table: &[i64], node: i64) -> Seen
 {
     let number = look_refusal(table, node);
     if number != 0 {
-        return Seen::Refused(table::refusal_of(number));
+        return Seen::Refused(answers::refusal_of(number));
     }
     let k = numbers::natural(node) as usize;
     let rate = Table::get(table, k, Table::RATE);

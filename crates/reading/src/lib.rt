@@ -5,15 +5,15 @@ ghost use lib.ListN.{length, getD};
 ghost use lib.IntN.{pos};
 ghost use Rattle.definitions.specs.Limits.{tableLength};
 ghost use Rattle.definitions.specs.Refusals.{lastRefusal};
-ghost use Rattle.table.specs.Answers.{told};
+ghost use Rattle.answers.specs.Answers.{told};
 ghost use Rattle.definitions.specs.Calls.{openRefusal};
 ghost use Rattle.planformat.specs.Format.{startOf, headLength, editionIn, planIn, formed};
 ghost use Rattle.planlaws.specs.Reading.{openedFor, joinedFor, rising, planRefusal, planTable, planAnswer, checkAnswer};
+use answers::Answer;
+use answers::Refusal;
 use layout::Edition;
 use layout::Format;
 use layout::bytes;
-use table::Answer;
-use table::Refusal;
 use table::Table;
 
 // Opens the table of a plan; the number of the refusal, or 0.
@@ -26,7 +26,7 @@ fn open_plan(table: &mut [i64], s: &[u8], edition: Edition) -> u64
     let head = forms::start_of(edition);
     let rate = numbers::whole(bytes::four(s, head + Format::DISK_RATE));
     let depth = numbers::whole(bytes::four(s, head + Format::ROOT_DEPTH));
-    table::number_told(Table::open(table, rate, depth))
+    answers::number_told(Table::open(table, rate, depth))
 }
 
 // Makes the table of a plan; the number of the refusal, or 0. Refused, the table is of no use.
@@ -93,12 +93,12 @@ pub fn read(table: &mut [i64], s: &[u8]) -> Answer
     ensures table { λ _. ⌜ now (table .exit) ≡ planTable (now (table .entry)) (now (s .entry)) ⌝ }
 {
     if table.len() != Table::LENGTH {
-        return table::answered(Refusal::NOT_IN_ORDER, 0);
+        return answers::answered(Refusal::NOT_IN_ORDER, 0);
     }
     let mut built = [0i64; Table::LENGTH];
     let refusal = build(&mut built, s);
     if refusal != 0 {
-        return table::answered(refusal, 0);
+        return answers::answered(refusal, 0);
     }
     copy(table, &built);
     Answer::Accepted(numbers::whole(forms::edition_number(forms::edition_in(s))))

@@ -72,7 +72,7 @@ pub fn report(contents: &[u8], text: &mut [u8; TEXT_LENGTH]) -> usize
 {
     let mut table = [0i64; Table::LENGTH];
     let answer = reading::read(&mut table, contents);
-    let number = table::number_told(answer);
+    let number = answers::number_told(answer);
     if number == 0 {
         put_lines(text, &table)
     } else {

@@ -8,10 +8,10 @@ ghost use Rattle.definitions.specs.Limits.{tableLength, nodes, mostWaiting, tag
 ghost use Rattle.definitions.specs.Places.{put, queuePlace, count, waiting};
 ghost use Rattle.definitions.specs.Order.{inOrder};
 ghost use Rattle.definitions.specs.Refusals.{lastRefusal};
-ghost use Rattle.table.specs.Answers.{told};
+ghost use Rattle.answers.specs.Answers.{told};
 ghost use Rattle.definitions.specs.Calls.{requestLimits, requested, requestRefusal, requestTable, requestAnswer};
-use table::Answer;
-use table::Refusal;
+use answers::Answer;
+use answers::Refusal;
 use table::Table;
 
 // The i-th waiting place of node k.
@@ -105,7 +105,7 @@ pub fn request(table: &mut [i64], client: i64, tag: i64, size: i64) -> Answer
 {
     let number = request_refusal(table, client, tag, size);
     if number != 0 {
-        return table::answered(number, 0);
+        return answers::answered(number, 0);
     }
     let arrival = Table::count(table) + 1;
     write_request(table, numbers::natural(client) as usize, tag, size);

@@ -8,10 +8,10 @@ ghost use Rattle.definitions.specs.Limits.{tableLength, nodes, root, greatestRa
 ghost use Rattle.definitions.specs.Tree.{treeOf, there};
 ghost use Rattle.definitions.specs.Order.{inOrder};
 ghost use Rattle.definitions.specs.Refusals.{lastRefusal};
-ghost use Rattle.table.specs.Answers.{told};
+ghost use Rattle.answers.specs.Answers.{told};
 ghost use Rattle.definitions.specs.Calls.{changeShareLimits, sharesAbove, statedWrong, reshared, changeShareRefusal, changeShareTable, changeShareAnswer};
-use table::Answer;
-use table::Refusal;
+use answers::Answer;
+use answers::Refusal;
 use table::Table;
 
 fn change_share_limits(node: i64, kind: i64, share: i64) -> bool
@@ -100,7 +100,7 @@ pub fn change_share(table: &mut [i64], node: i64, kind: i64, share: i64) -> Answ
 {
     let number = change_share_refusal(table, node, kind, share);
     if number != 0 {
-        return table::answered(number, 0);
+        return answers::answered(number, 0);
     }
     let k = numbers::natural(node) as usize;
     let parent = Table::natural(table, k, Table::PARENT) as usize;

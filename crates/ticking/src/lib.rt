@@ -5,12 +5,12 @@ ghost use Prim.Native.Nat.{_≤_};
 ghost use Rattle.definitions.specs.Limits.{firstPort, secondPort};
 ghost use Rattle.definitions.specs.Order.{inOrder};
 ghost use Rattle.definitions.specs.Refusals.{lastRefusal};
-ghost use Rattle.table.specs.Answers.{toldTicked};
+ghost use Rattle.answers.specs.Answers.{toldTicked};
 ghost use Rattle.definitions.specs.Tick.{portWaiting, tickRefusal, tickTable, tickFirst, tickSecond, tickAnswer};
+use answers::Refusal;
+use answers::Ticked;
 use table::PortCounts;
-use table::Refusal;
 use table::Table;
-use table::Ticked;
 
 // The waiting requests of each port's clients. A port is 0 or 1, so a node's requests times its port are those of the second.
 fn waiting_by_port(table: &[i64]) -> PortCounts
@@ -57,7 +57,7 @@ pub fn tick(table: &mut [i64], first: &mut [i64], second: &mut [i64]) -> Ticked
 {
     let number = tick_refusal(table, first, second);
     if number != 0 {
-        return Ticked::Refused(table::refusal_of(number));
+        return Ticked::Refused(answers::refusal_of(number));
     }
     let counts = steps::run(table, first, second);
     Ticked::Dispatched {

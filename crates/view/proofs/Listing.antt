@@ -8,8 +8,8 @@ use lib.Dec.{eqb}
 use borrow.Author.Tests.{eq-eqb, ne-eqb}
 use Rattle.numbers.proofs.Tests.{cond-true, cond-false}
 use Rattle.definitions.specs.Refusals.{accepted, refused}
-use Rattle.table.specs.Answers.{numberOf}
-use Rattle.table.specs.declared.Refusal.the-variants.{PlanWrong}
+use Rattle.answers.specs.Answers.{numberOf}
+use Rattle.answers.specs.declared.Refusal.the-variants.{PlanWrong}
 use Rattle.planformat.specs.Format.{countIn, entryIn, formed}
 use Rattle.view.specs.declared.Body.{Body}
 use Rattle.view.specs.declared.Found.the-variants as found

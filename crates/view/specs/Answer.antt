@@ -5,8 +5,8 @@ use mathlib.Core.List.{List, [], _∷_}
 use lib.Dec.{eqb}
 use lib.IntN.{ℤ, pos}
 use Rattle.definitions.specs.Refusals.{Outcome, accepted, refused}
-use Rattle.table.specs.Answers.{numberOf}
-use Rattle.table.specs.declared.Refusal.the-variants.{PlanWrong}
+use Rattle.answers.specs.Answers.{numberOf}
+use Rattle.answers.specs.declared.Refusal.the-variants.{PlanWrong}
 use Rattle.planformat.specs.Format.{Entry, countIn, entryIn, formed}
 use Rattle.planformat.specs.Nodes.{shareIn, heldBy, kindIn}
 use Rattle.view.specs.declared.Body.{Body}

@@ -1,12 +1,12 @@
 // Writing the plan of a table. Document 01, "Same tree, and the plan file", and document 02, (f).
 ghost use mathlib.Core.Path.{_≡_};
 ghost use Rattle.definitions.specs.Order.{inOrder};
-ghost use Rattle.table.specs.Answers.{told};
+ghost use Rattle.answers.specs.Answers.{told};
 ghost use Rattle.planlaws.specs.Writing.{writeBuffer, writeAnswer};
+use answers::Answer;
+use answers::Refusal;
+use answers::Seen;
 use layout::Format;
-use table::Answer;
-use table::Refusal;
-use table::Seen;
 
 // Whether the table is in order: exactly then look finds the root.
 fn in_order(table: &[i64]) -> bool
@@ -26,19 +26,19 @@ pub fn write(table: &[i64], edition: i64, buffer: &mut [u8]) -> Answer
     ensures buffer { λ _. ⌜ now (buffer .exit) ≡ writeBuffer (now (table .entry)) edition (now (buffer .entry)) ⌝ }
 {
     if !in_order(table) {
-        return table::answered(Refusal::NOT_IN_ORDER, 0);
+        return answers::answered(Refusal::NOT_IN_ORDER, 0);
     }
     if !numbers::within(edition, Format::FIRST_EDITION, Format::SECOND_EDITION) {
-        return table::answered(Refusal::OUTSIDE_LIMITS, 0);
+        return answers::answered(Refusal::OUTSIDE_LIMITS, 0);
     }
     let told = forms::edition_of(numbers::natural(edition));
     let listing = listing::list_nodes(table);
     let length = forms::plan_length(told, listing.count);
     if buffer.len() < length {
-        return table::answered(Refusal::BUFFER_SHORT, 0);
+        return answers::answered(Refusal::BUFFER_SHORT, 0);
     }
     if listing::unwritable(table, told) {
-        return table::answered(Refusal::STATED_WRONG, 0);
+        return answers::answered(Refusal::STATED_WRONG, 0);
     }
     let listed = listing.nodes;
     planparts::put_plan(table, told, &listed, listing.count, buffer);

@@ -3,8 +3,8 @@ use mathlib.Core.Path.{sym, ap, _∙_}
 use borrow.Author.Needs.{needs, sfits-of}
 use mir.Syntax.{w64}
 use mir.ValLaws.{toZ-ofZ}
-use Rattle.table.specs.Answers.{told}
-use Rattle.table.specs.declared.Answer.{Answer}
+use Rattle.answers.specs.Answers.{told}
+use Rattle.answers.specs.declared.Answer.{Answer}
 use Rattle.cabinet.specs.Exported.{exported}
 use Rattle.cabinet.proofs.answer_number.Statement.{statement}
 use Rattle.cabinet.proofs.answer_number.Tie as tie

@@ -3,8 +3,8 @@ use mathlib.Core.Path.{sym, ap, _∙_}
 use borrow.Author.Needs.{needs, sfits-of}
 use mir.Syntax.{w64}
 use mir.ValLaws.{toZ-ofZ}
-use Rattle.table.specs.Answers.{toldCompared}
-use Rattle.table.specs.declared.Compared.{Compared}
+use Rattle.answers.specs.Answers.{toldCompared}
+use Rattle.answers.specs.declared.Compared.{Compared}
 use Rattle.cabinet.specs.Exported.{exported}
 use Rattle.cabinet.proofs.compared_number.Statement.{statement}
 use Rattle.cabinet.proofs.compared_number.Tie as tie

@@ -5,12 +5,12 @@ use borrow.Author.Needs.{needs, sfits-of}
 use lib.IntN.{ℤ}
 use mir.Syntax.{w64}
 use mir.ValLaws.{toZ-ofZ}
-use Rattle.table.specs.Answers.{numberOf, toldSeen}
+use Rattle.answers.specs.Answers.{numberOf, toldSeen}
 use Rattle.definitions.specs.Calls.{lookAnswer}
 use Rattle.definitions.specs.Refusals.{Outcome, accepted, refused}
-use Rattle.table.specs.declared.Refusal.{Refusal}
-use Rattle.table.specs.declared.Seen.{Seen}
-use Rattle.table.specs.declared.Seen.the-variants.{Node, Refused}
+use Rattle.answers.specs.declared.Refusal.{Refusal}
+use Rattle.answers.specs.declared.Seen.{Seen}
+use Rattle.answers.specs.declared.Seen.the-variants.{Node, Refused}
 use Rattle.cabinet.proofs.Buffers.{accepted-number, accepted-buffer, refused-number, refused-buffer}
 use Rattle.cabinet.proofs.hds_look.Statement.{statement}
 use Rattle.cabinet.proofs.hds_look.Tie as tie

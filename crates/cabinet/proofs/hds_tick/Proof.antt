@@ -5,11 +5,11 @@ use borrow.Author.Needs.{needs, sfits-of}
 use lib.IntN.{ℤ}
 use mir.Syntax.{w64}
 use mir.ValLaws.{toZ-ofZ}
-use Rattle.table.specs.Answers.{numberOf, toldTicked}
+use Rattle.answers.specs.Answers.{numberOf, toldTicked}
 use Rattle.definitions.specs.Refusals.{Outcome, accepted, refused}
-use Rattle.table.specs.declared.Refusal.{Refusal}
-use Rattle.table.specs.declared.Ticked.{Ticked}
-use Rattle.table.specs.declared.Ticked.the-variants.{Dispatched, Refused}
+use Rattle.answers.specs.declared.Refusal.{Refusal}
+use Rattle.answers.specs.declared.Ticked.{Ticked}
+use Rattle.answers.specs.declared.Ticked.the-variants.{Dispatched, Refused}
 use Rattle.cabinet.proofs.Buffers.{accepted-number, accepted-buffer, refused-number, refused-buffer}
 use Rattle.cabinet.proofs.hds_tick.Statement.{statement}
 use Rattle.cabinet.proofs.hds_tick.Tie as tie

@@ -10,7 +10,7 @@ use Rattle.numbers.specs.Tests.{every}
 use Rattle.numbers.proofs.Every.{head-fails, rest-fail, holds-with, none-left}
 use Rattle.numbers.proofs.Tests.{cond-true, cond-false}
 use Rattle.definitions.specs.Order.{inOrder}
-use Rattle.table.specs.Answers.{toldCompared}
+use Rattle.answers.specs.Answers.{toldCompared}
 use Rattle.definitions.specs.Refusals.{accepted, refused}
 use Rattle.definitions.specs.Calls.{sameTree, sameRefusal, sameAnswer}
 use Rattle.definitions.proofs.Refusals.{first-here, first-past, first-end, outcome-accepted, outcome-refused}

@@ -11,7 +11,7 @@ use mir.Syntax.{w64}
 use mir.ValLaws.{toZ-ofZ}
 use Rattle.definitions.specs.Limits.{root, rateAt}
 use Rattle.definitions.specs.Places.{put}
-use Rattle.table.specs.Answers.{told}
+use Rattle.answers.specs.Answers.{told}
 use Rattle.definitions.specs.Refusals.{outcome}
 use Rattle.definitions.specs.Order.{inOrder}
 use Rattle.definitions.specs.Rates.{renewed}

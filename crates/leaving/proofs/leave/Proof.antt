@@ -10,7 +10,7 @@ use lib.IntN.{ℤ}
 use mir.Syntax.{w64}
 use mir.ValLaws.{toZ-ofZ}
 use Rattle.numbers.specs.Whole.{plus}
-use Rattle.table.specs.Answers.{told}
+use Rattle.answers.specs.Answers.{told}
 use Rattle.definitions.specs.Refusals.{outcome}
 use Rattle.definitions.specs.Order.{inOrder}
 use Rattle.definitions.specs.Tree.{treeOf}

@@ -12,7 +12,7 @@ use mir.ValLaws.{toZ-ofZ}
 use Rattle.numbers.specs.Whole.{plus}
 use Rattle.definitions.specs.Limits.{nodes}
 use Rattle.definitions.specs.Order.{inOrder}
-use Rattle.table.specs.Answers.{toldSeen}
+use Rattle.answers.specs.Answers.{toldSeen}
 use Rattle.definitions.specs.Refusals.{accepted, refused}
 use Rattle.definitions.specs.Calls.{lookRefusal, lookAnswer}
 use Rattle.definitions.proofs.Refusals.{none-first, outcome-accepted, outcome-refused, natural-of}

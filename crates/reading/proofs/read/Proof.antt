@@ -9,7 +9,7 @@ use mir.Syntax.{w64}
 use mir.ValLaws.{toZ-ofZ}
 use borrow.Author.Needs.{needs, sfits-of}
 use Rattle.definitions.specs.Limits.{tableLength}
-use Rattle.table.specs.Answers.{told}
+use Rattle.answers.specs.Answers.{told}
 use Rattle.definitions.specs.Refusals.{outcome, accepted as accepted-with}
 use Rattle.definitions.specs.Calls.{blank}
 use Rattle.definitions.proofs.Refusals.{kept-old, outcome-accepted, outcome-refused}

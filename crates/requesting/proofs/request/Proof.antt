@@ -11,7 +11,7 @@ use mir.Syntax.{w64}
 use mir.ValLaws.{toZ-ofZ}
 use Rattle.numbers.specs.Whole.{plus}
 use Rattle.definitions.specs.Places.{count}
-use Rattle.table.specs.Answers.{told}
+use Rattle.answers.specs.Answers.{told}
 use Rattle.definitions.specs.Refusals.{accepted, refused}
 use Rattle.definitions.specs.Calls.{requestRefusal, requestTable, requestAnswer}
 use Rattle.definitions.proofs.Refusals.{kept-new, kept-old, outcome-accepted, outcome-refused, natural-of}

@@ -9,7 +9,7 @@ use lib.IntN.{ℤ, pos}
 use mir.Syntax.{w64}
 use mir.ValLaws.{toZ-ofZ}
 use Rattle.definitions.specs.Limits.{nodes, mostWaiting, entryLength, firstPort, secondPort}
-use Rattle.table.specs.Answers.{toldTicked}
+use Rattle.answers.specs.Answers.{toldTicked}
 use Rattle.definitions.specs.Refusals.{accepted, refused}
 use Rattle.definitions.specs.Tick.{portEntries, portCount, tickRefusal, tickTable, tickFirst, tickSecond, tickAnswer}
 use Rattle.definitions.proofs.Facts.{InOrder, facts}

@@ -1,6 +1,6 @@
 -- `writing::in_order` meets its contract: look at the root is accepted exactly when the table is in order.
 use mathlib.Core.Path.{sym, ap, _∙_}
-use Rattle.table.specs.Answers.{toldSeen}
+use Rattle.answers.specs.Answers.{toldSeen}
 use Rattle.writing.proofs.Look.{look-accepted, look-refused}
 use borrow.Author.Needs.{needs}
 use Rattle.writing.proofs.in_order.Statement.{statement}

@@ -12,7 +12,7 @@ use mir.ValLaws.{toZ-ofZ}
 use Rattle.numbers.specs.Whole.{withinℤ}
 use Rattle.definitions.specs.Tree.{treeOf}
 use Rattle.definitions.specs.Order.{inOrder}
-use Rattle.table.specs.Answers.{told}
+use Rattle.answers.specs.Answers.{told}
 use Rattle.definitions.specs.Refusals.{accepted}
 use Rattle.definitions.proofs.Facts.{facts}
 use Rattle.definitions.proofs.Refusals.{natural-of}

@@ -3,7 +3,7 @@ use Prim.Native.Nat.{ℕ}
 use mathlib.Core.Path.{_≡_, sym, ap, _∙_}
 use mir.Syntax.{w64}
 use mir.ValLaws.{toZ-ofZ}
-use Rattle.table.specs.Answers.{told}
+use Rattle.answers.specs.Answers.{told}
 use Rattle.definitions.specs.Calls.{done, openRefusal, openTable, openAnswer}
 use Rattle.definitions.specs.Refusals.{outcome}
 use Rattle.definitions.proofs.Refusals.{kept-new, kept-old, outcome-accepted}

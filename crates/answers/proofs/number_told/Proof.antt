@@ -1,11 +1,11 @@
--- `table::number_told` meets its contract, case by case.
+-- `answers::number_told` meets its contract, case by case.
 use mathlib.Core.Path.{sym, ap, _∙_}
 use borrow.Author.Needs.{needs}
 use Rattle.definitions.specs.Refusals.{numberTold}
-use Rattle.table.specs.declared.Answer.{Answer}
-use Rattle.table.specs.Answers.{told}
-use Rattle.table.proofs.number_told.Statement.{statement}
-use Rattle.table.proofs.number_told.Tie as tie
+use Rattle.answers.specs.declared.Answer.{Answer}
+use Rattle.answers.specs.Answers.{told}
+use Rattle.answers.proofs.number_told.Statement.{statement}
+use Rattle.answers.proofs.number_told.Tie as tie
 
 -- The number of the refusal is the one that the answer tells.
 refused : tie.Need-returns-2

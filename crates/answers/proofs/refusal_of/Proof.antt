@@ -1,11 +1,11 @@
--- `table::refusal_of` meets its contract. The last arm: a number of 1 to the last that is none of those before it is the last.
+-- `answers::refusal_of` meets its contract. The last arm: a number of 1 to the last that is none of those before it is the last.
 use Prim.Native.Nat.{ℕ, zero, suc, _-_, _≤_}
 use mathlib.Core.Path.{_≡_}
 use native.Mathlib.Omega.{arith}
 use borrow.Author.Needs.{needs}
 use Rattle.definitions.specs.Refusals.{lastRefusal}
-use Rattle.table.proofs.refusal_of.Statement.{statement}
-use Rattle.table.proofs.refusal_of.Tie as tie
+use Rattle.answers.proofs.refusal_of.Statement.{statement}
+use Rattle.answers.proofs.refusal_of.Tie as tie
 
 -- A number is none of 1 to n.
 unfoldable NoneOf : ℕ → ℕ → Type 0

@@ -3,16 +3,16 @@ use Prim.Native.Nat.{ℕ}
 use mathlib.Core.List.{[], _∷_}
 use lib.IntN.{pos}
 use Rattle.definitions.specs.Refusals.{Outcome, accepted, refused}
-use Rattle.table.specs.declared.Refusal.{Refusal}
-use Rattle.table.specs.declared.Refusal.the-variants.{NotInOrder, OutsideLimits, NotThere, InUse, WrongNode, LevelTooLow, SharesAbove, DepthAbove, NotEmpty, InDebt, QueueFull, CountAtEnd, BufferShort, PlanWrong, PlanOutOfOrder, StatedWrong}
-use Rattle.table.specs.declared.Answer.{Answer}
-use Rattle.table.specs.declared.Answer.the-variants as answer
-use Rattle.table.specs.declared.Ticked.{Ticked}
-use Rattle.table.specs.declared.Ticked.the-variants as ticked
-use Rattle.table.specs.declared.Seen.{Seen}
-use Rattle.table.specs.declared.Seen.the-variants as seen
-use Rattle.table.specs.declared.Compared.{Compared}
-use Rattle.table.specs.declared.Compared.the-variants as compared
+use Rattle.answers.specs.declared.Refusal.{Refusal}
+use Rattle.answers.specs.declared.Refusal.the-variants.{NotInOrder, OutsideLimits, NotThere, InUse, WrongNode, LevelTooLow, SharesAbove, DepthAbove, NotEmpty, InDebt, QueueFull, CountAtEnd, BufferShort, PlanWrong, PlanOutOfOrder, StatedWrong}
+use Rattle.answers.specs.declared.Answer.{Answer}
+use Rattle.answers.specs.declared.Answer.the-variants as answer
+use Rattle.answers.specs.declared.Ticked.{Ticked}
+use Rattle.answers.specs.declared.Ticked.the-variants as ticked
+use Rattle.answers.specs.declared.Seen.{Seen}
+use Rattle.answers.specs.declared.Seen.the-variants as seen
+use Rattle.answers.specs.declared.Compared.{Compared}
+use Rattle.answers.specs.declared.Compared.the-variants as compared
 
 -- The number of a refusal.
 abbrev pub numberOf : Refusal → ℕ

@@ -1,4 +1,4 @@
--- `table::answered` meets its contract: the number tells the two cases apart.
+-- `answers::answered` meets its contract: the number tells the two cases apart.
 use mathlib.Core.Path.{sym, ap, _∙_}
 use borrow.Author.Tests.{eq-eqb, ne-eqb}
 use lib.IntN.{ℤ}
@@ -6,11 +6,11 @@ use mir.Syntax.{w64}
 use mir.ValLaws.{toZ-ofZ}
 use mathlib.Core.List.{[], _∷_}
 use Rattle.numbers.proofs.Tests.{cond-true, cond-false}
-use Rattle.table.specs.Answers.{told}
+use Rattle.answers.specs.Answers.{told}
 use Rattle.definitions.specs.Refusals.{outcome, accepted, refused}
 use borrow.Author.Needs.{needs}
-use Rattle.table.proofs.answered.Statement.{statement}
-use Rattle.table.proofs.answered.Tie as tie
+use Rattle.answers.proofs.answered.Statement.{statement}
+use Rattle.answers.proofs.answered.Tie as tie
 
 refusal-of-requires : tie.Need-refusal-of-requires
 refusal-of-requires c κs = search needs

@@ -1,10 +1,10 @@
--- `table::number_of` meets its contract, case by case.
+-- `answers::number_of` meets its contract, case by case.
 use mathlib.Core.Path.{sym, ap}
 use native.Mathlib.Omega.{arith}
 use borrow.Author.Needs.{needs}
-use Rattle.table.specs.Answers.{numberOf}
-use Rattle.table.proofs.number_of.Statement.{statement}
-use Rattle.table.proofs.number_of.Tie as tie
+use Rattle.answers.specs.Answers.{numberOf}
+use Rattle.answers.proofs.number_of.Statement.{statement}
+use Rattle.answers.proofs.number_of.Tie as tie
 
 pub number-of-spec : {M : Type 1} → statement M
 number-of-spec =
