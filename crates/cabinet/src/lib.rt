@@ -67,7 +67,7 @@ pub extern "C" fn hds_join(
     ensures answer { λ r. ⌜ r ≡ exported (joinAnswer (now (table .entry)) node parent sort kind share depth port) ⌝ }
     ensures table { λ _. ⌜ now (table .exit) ≡ joinTable (now (table .entry)) node parent sort kind share depth port ⌝ }
 {
-    answer_number(accounts::join(table, node, parent, sort, kind, share, depth, port))
+    answer_number(joining::join(table, node, parent, sort, kind, share, depth, port))
 }
 
 // Leave (node).
@@ -76,7 +76,7 @@ pub extern "C" fn hds_leave(table: &mut [i64], node: i64) -> i64
     ensures answer { λ r. ⌜ r ≡ exported (leaveAnswer (now (table .entry)) node) ⌝ }
     ensures table { λ _. ⌜ now (table .exit) ≡ leaveTable (now (table .entry)) node ⌝ }
 {
-    answer_number(accounts::leave(table, node))
+    answer_number(leaving::leave(table, node))
 }
 
 // Change share (node, kind, share).
@@ -85,7 +85,7 @@ pub extern "C" fn hds_change_share(table: &mut [i64], node: i64, kind: i64, shar
     ensures answer { λ r. ⌜ r ≡ exported (changeShareAnswer (now (table .entry)) node kind share) ⌝ }
     ensures table { λ _. ⌜ now (table .exit) ≡ changeShareTable (now (table .entry)) node kind share ⌝ }
 {
-    answer_number(accounts::change_share(table, node, kind, share))
+    answer_number(sharing::change_share(table, node, kind, share))
 }
 
 // Change rate (rate).
@@ -94,7 +94,7 @@ pub extern "C" fn hds_change_rate(table: &mut [i64], rate: i64) -> i64
     ensures answer { λ r. ⌜ r ≡ exported (changeRateAnswer (now (table .entry)) rate) ⌝ }
     ensures table { λ _. ⌜ now (table .exit) ≡ changeRateTable (now (table .entry)) rate ⌝ }
 {
-    answer_number(accounts::change_rate(table, rate))
+    answer_number(diskrate::change_rate(table, rate))
 }
 
 // Request (client, tag, size): the arrival number.
@@ -103,7 +103,7 @@ pub extern "C" fn hds_request(table: &mut [i64], client: i64, tag: i64, size: i6
     ensures answer { λ r. ⌜ r ≡ exported (requestAnswer (now (table .entry)) client tag size) ⌝ }
     ensures table { λ _. ⌜ now (table .exit) ≡ requestTable (now (table .entry)) client tag size ⌝ }
 {
-    answer_number(accounts::request(table, client, tag, size))
+    answer_number(requesting::request(table, client, tag, size))
 }
 
 // Tick: 0, the dispatches of each port on its list, and in counts how many they are.
@@ -120,7 +120,7 @@ pub extern "C" fn hds_tick(
     ensures second { λ _. ⌜ now (second .exit) ≡ tickSecond (now (table .entry)) (now (first .entry)) (now (second .entry)) ⌝ }
     ensures counts { λ _. ⌜ now (counts .exit) ≡ shown (tickAnswer (now (table .entry)) (now (first .entry)) (now (second .entry))) (now (counts .entry)) ⌝ }
 {
-    let made = accounts::tick(table, first, second);
+    let made = ticking::tick(table, first, second);
     match made {
         Ticked::Dispatched {
             first: to_first,
@@ -139,7 +139,7 @@ pub extern "C" fn hds_look(table: &[i64], node: i64, seen: &mut [i64; Table::SEE
     ensures answer { λ r. ⌜ r ≡ exportedBare (lookAnswer (now (table .entry)) node) ⌝ }
     ensures seen { λ _. ⌜ now (seen .exit) ≡ shown (lookAnswer (now (table .entry)) node) (now (seen .entry)) ⌝ }
 {
-    let found = accounts::look(table, node);
+    let found = looking::look(table, node);
     match found {
         Seen::Node {
             rate,
@@ -159,7 +159,7 @@ pub extern "C" fn hds_look(table: &[i64], node: i64, seen: &mut [i64; Table::SEE
 pub extern "C" fn hds_same(first: &[i64], second: &[i64]) -> i64
     ensures { λ r. ⌜ r ≡ exported (sameAnswer (now (first .entry)) (now (second .entry))) ⌝ }
 {
-    compared_number(accounts::same(first, second))
+    compared_number(comparing::same(first, second))
 }
 
 // Reads a plan into a table: its edition, 1 or 2.
@@ -168,7 +168,7 @@ pub extern "C" fn hds_plan_read(table: &mut [i64], contents: &[u8]) -> i64
     ensures answer { λ r. ⌜ r ≡ exported (planAnswer (now (table .entry)) (now (contents .entry))) ⌝ }
     ensures table { λ _. ⌜ now (table .exit) ≡ planTable (now (table .entry)) (now (contents .entry)) ⌝ }
 {
-    answer_number(plan::read(table, contents))
+    answer_number(reading::read(table, contents))
 }
 
 // Writes the plan of a table into a buffer, in edition 1 or 2: its length.
@@ -177,5 +177,5 @@ pub extern "C" fn hds_plan_write(table: &[i64], edition: i64, buffer: &mut [u8])
     ensures answer { λ r. ⌜ r ≡ exported (writeAnswer (now (table .entry)) edition (now (buffer .entry))) ⌝ }
     ensures buffer { λ _. ⌜ now (buffer .exit) ≡ writeBuffer (now (table .entry)) edition (now (buffer .entry)) ⌝ }
 {
-    answer_number(plan::write(table, edition, buffer))
+    answer_number(writing::write(table, edition, buffer))
 }
