@@ -1,5 +1,5 @@
 -- The joining node as natural numbers: what join's arguments make of it, and the join that it stands for.
-use Prim.Native.Nat.{ℕ, _≤_}
+use Prim.Native.Nat.{_≤_}
 use mathlib.Core.Path.{_≡_}
 use mathlib.Core.Bool.{true, false}
 use mathlib.Core.List.{List}

@@ -25,6 +25,7 @@ pub struct NewNode {
     pub port: u64,
 }
 
+// Whether join's arguments are within their limits.
 pub fn join_limits(
     node: i64,
     parent: i64,
@@ -48,6 +49,7 @@ pub fn join_limits(
     node_fits & parent_fits & sort_fits & kind_fits & share_fits & depth_fits & port_fits
 }
 
+// The node that they ask for.
 pub fn new_node(
     node: i64,
     parent: i64,

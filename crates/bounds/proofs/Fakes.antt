@@ -1,6 +1,5 @@
 -- The claims of demand 3 tell the fakes apart from the controller: ticks that list nothing break the client's claim, and a tick that
 -- dispatches everything at once, to either port, breaks the disk's. All are computed from what a caller sees.
-use Prim.Native.Nat.{_<_, _≤_}
 use mathlib.Core.Path.{refl}
 use native.Mathlib.Omega.{arith}
 use Rattle.numbers.specs.Whole.{plus}

@@ -1,7 +1,7 @@
 -- Change share keeps a table in order: it writes a node's kind and share, which are within their limits by cause 2. Only the
 -- shares under the node's parent change: the fixed ones are within 10,000 by cause 7, and the stated rates are in order by
 -- cause 16.
-use Prim.Native.Nat.{ℕ, _+_, _*_, _≤_, _<_}
+use Prim.Native.Nat.{ℕ, _+_, _≤_, _<_}
 use mathlib.Core.Path.{_≡_, sym, ap, _∙_}
 use mathlib.Core.Bool.{true}
 use mathlib.Core.List.{List}

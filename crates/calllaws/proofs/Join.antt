@@ -1,6 +1,6 @@
 -- Join keeps a table in order: the new node was unused, so it was nobody's parent, and it comes with balance 0. It adds only
 -- to the sums under its parent, which causes 7, 8 and 16 tested on the table as the call leaves it.
-use Prim.Native.Nat.{ℕ, suc, _+_, _*_, _≤_, _<_}
+use Prim.Native.Nat.{ℕ, suc, _+_, _≤_, _<_}
 use mathlib.Core.Path.{_≡_, sym, ap, _∙_}
 use mathlib.Core.Bool.{true, false, not}
 use mathlib.Core.List.{List}

@@ -1,11 +1,11 @@
 -- The laws of the calls but tick, all together. A balance stays as it was but for the node that leaves, whose balance was
 -- not below 0 and becomes 0.
-use Prim.Native.Nat.{ℕ, _+_, _<_}
-use mathlib.Core.Path.{_≡_, ap, _∙_}
+use Prim.Native.Nat.{ℕ, _<_}
+use mathlib.Core.Path.{_≡_, ap}
 use mathlib.Core.List.{List}
 use native.Mathlib.Omega.{arith}
 use native.Mathlib.Decide.{ℕ-discrete}
-use lib.IntN.{ℤ, pos}
+use lib.IntN.{ℤ}
 use Rattle.numbers.specs.Whole.{plus, minus}
 use Rattle.definitions.specs.Limits.{nodes, root, rateAt, balanceAt, mostWaiting}
 use Rattle.definitions.specs.Places.{place, put, balance, waiting}

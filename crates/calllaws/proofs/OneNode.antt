@@ -1,7 +1,7 @@
 -- A table in which one node's record was edited. The sums under a class change by what the node adds to them, before and
 -- after. So the edited table is ready when the edited node is, its children keep their class, and the sums stay in their
 -- limits.
-use Prim.Native.Nat.{ℕ, suc, _+_, _*_, _≤_, _<_}
+use Prim.Native.Nat.{ℕ, suc, _+_, _≤_, _<_}
 use mathlib.Core.Path.{_≡_, refl, sym, ap, _∙_}
 use mathlib.Core.Bool.{Bool, true, false}
 use mathlib.Core.List.{List}

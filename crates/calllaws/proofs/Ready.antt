@@ -1,6 +1,6 @@
 -- Renewing the rates of a ready table gives a table in order: the rates are those of the rates section, and nothing else
 -- that a table in order asks for reads a rate but the root's.
-use Prim.Native.Nat.{ℕ, suc, _+_, _*_, _<_}
+use Prim.Native.Nat.{ℕ, suc, _+_, _<_}
 use mathlib.Core.Path.{_≡_, ap, _∙_}
 use mathlib.Core.Bool.{true}
 use mathlib.Core.List.{List}

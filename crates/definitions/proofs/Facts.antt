@@ -1,6 +1,6 @@
 -- What a table in order satisfies, as plain facts by node, and that these facts make a table in order: `facts` and
 -- `from-facts` go between the test of specs/Order and the record `InOrder`.
-use Prim.Native.Nat.{ℕ, zero, suc, _+_, _*_, _-_, _≤_, _<_}
+use Prim.Native.Nat.{ℕ, suc, _+_, _*_, _-_, _≤_, _<_}
 use mathlib.Core.Path.{_≡_, refl, sym, ap, _∙_}
 use mathlib.Core.Bool.{Bool, true, false, not, _||_}
 use mathlib.Core.Logic.{⊎-elim}

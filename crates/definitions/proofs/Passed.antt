@@ -11,7 +11,7 @@ use lib.IntN.{ℤ, pos}
 use lib.Signed.{leZ}
 use Rattle.numbers.specs.Whole.{plus, minus, withinℤ}
 use Rattle.numbers.specs.Tests.{every}
-use Rattle.numbers.proofs.Tests.{by-test, true-false, or-false-left, or-false-right}
+use Rattle.numbers.proofs.Tests.{true-false, or-false-left, or-false-right}
 use Rattle.numbers.proofs.Every.{head-holds, rest-hold, holds-with, none-left}
 use Rattle.numbers.proofs.Parts.{zarith, one-is-zero, within-parts}
 use Rattle.definitions.specs.Limits.{tableLength, nodes, lastNode, rateAt, class, client, fixed, stated, root, lastClassLevel, wholeShare, greatestDepth, greatestRate, shareLimit, portLimit, greatestCount, mostWaiting}

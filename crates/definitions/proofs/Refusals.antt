@@ -1,6 +1,6 @@
 -- The first cause that is there: a call is accepted exactly when no cause is there, and then it leaves the new contents
 -- and its values; refused, it leaves the contents as they came and the number only.
-use Prim.Native.Nat.{ℕ, zero, suc, _≤_, _<_}
+use Prim.Native.Nat.{ℕ, _≤_, _<_}
 use mathlib.Core.Path.{_≡_, refl, sym, ap, ap₂, _∙_}
 use mathlib.Core.Bool.{Bool, true, false, not, _&&_, and-true}
 use mathlib.Core.List.{List, [], _∷_}

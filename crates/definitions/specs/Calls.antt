@@ -12,7 +12,7 @@ use Rattle.numbers.specs.Whole.{plus, sameℤ, withinℤ}
 use Rattle.numbers.specs.Tests.{every}
 use Rattle.numbers.specs.Below.{allBelow, forBelow}
 use Rattle.definitions.specs.Limits.{tableLength, recordLength, nodes, lastNode, sortAt, parentAt, levelAt, kindAt, shareAt, depthAt, rateAt, balanceAt, waitingAt, portAt, tagAt, sizeAt, arrivalAt, class, client, fixed, stated, root, lastClassLevel, wholeShare, greatestDepth, greatestRate, shareLimit, portLimit, greatestCount, mostWaiting}
-use Rattle.definitions.specs.Places.{place, put, header, putHeader, count, rate, balance, waiting, queuePlace}
+use Rattle.definitions.specs.Places.{place, put, putHeader, count, rate, balance, waiting, queuePlace}
 use Rattle.definitions.specs.Tree.{treeOf, there, isClass, isClient, childless, sumUnder}
 use Rattle.definitions.specs.Rates.{fixedSum, renewed}
 use Rattle.definitions.specs.Cost.{cost}
@@ -169,7 +169,7 @@ requested t k tag size =
 
 -- The limits of its arguments. A size too large is cause 8.
 unfoldable pub requestLimits : ℤ → ℤ → Bool
-requestLimits client size = every (withinℤ 0 lastNode client ∷ leZ (pos 1) size ∷ [])
+requestLimits node size = every (withinℤ 0 lastNode node ∷ leZ (pos 1) size ∷ [])
 
 unfoldable pub requestRefusal : List ℤ → ℤ → ℤ → ℤ → ℕ
 requestRefusal t node tag size =

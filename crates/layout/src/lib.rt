@@ -1,5 +1,5 @@
-// The bytes of a plan file: what a plan says of a node, and the integers that bytes make. Document 01, "Same tree, and the plan
-// file", and document 02, (f).
+// The bytes of a plan file: their figures, the integers that they make, and a node's body. Document 01, "Same tree, and the plan file",
+// and document 02, (f).
 pub use planformat::Edition;
 pub use planformat::Node;
 pub use planformat::Share;

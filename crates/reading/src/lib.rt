@@ -52,7 +52,7 @@ fn build(table: &mut [i64], s: &[u8]) -> u64
     if entering::rising(table, s, edition, n) {
         0
     } else {
-        15
+        Refusal::PLAN_OUT_OF_ORDER
     }
 }
 

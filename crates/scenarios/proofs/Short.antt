@@ -4,7 +4,7 @@ use Prim.Native.Nat.{ℕ, zero, suc}
 use mathlib.Core.Path.{_≡_, refl, ap, _∙_, fun-ext}
 use mathlib.Core.Bool.{Bool, _&&_}
 use mathlib.Core.List.{List}
-use lib.IntN.{ℤ, pos}
+use lib.IntN.{ℤ}
 use Rattle.definitions.specs.Places.{rate, balance, waiting, port, depthGrains}
 use Rattle.definitions.specs.Rates.{kindSum, dividedRate, childRate, rateAtLevel, rateIn, renewed}
 use Rattle.definitions.specs.Order.{limitsKept, spareInOrder, classInOrder, rateInOrder, childBalance, childBalances, balanceInOrder, arrivalsDiffer, statedInOrder, inOrder}

@@ -14,7 +14,7 @@ use Rattle.definitions.specs.Calls.{openTable, openAnswer, lookAnswer, sameAnsw
 use Rattle.runs.specs.Runs.{Call as RunCall, join as runJoin, leave as runLeave, changeShare as runChangeShare, changeRate as runChangeRate, request as runRequest, tick as runTick, after as afterCall}
 
 -- A call with any whole numbers for its arguments: one of those of runs/specs, open, look, or same. Same has the table that was
--- kept last for its first table and the table as it is for its second.
+-- kept last for its first table and the table as it is for its second. A tick stands in a step of its own, which says its lists, too.
 pub data Call : Type 0 where
   made : RunCall → Call
   openℤ : (rate depth : ℤ) → Call

@@ -1,12 +1,10 @@
 // The account table: a lent slice of 2,568 signed numbers, its limits and places, and open.
 ghost use mathlib.Core.Path.{_≡_};
-ghost use mathlib.Core.List.{[], _∷_};
 ghost use Prim.Native.Nat.{_+_, _*_, _<_, _≤_, _^_};
 ghost use lib.ListN.{length};
 ghost use lib.IntN.{pos};
-ghost use Rattle.numbers.specs.Whole.{plus, minus, withinℤ};
-ghost use Rattle.numbers.specs.Tests.{every};
-ghost use Rattle.definitions.specs.Limits.{tableLength, headerLength, recordLength, nodes, depthAt, greatestRate, shareLimit, portLimit, greatestDepth, grainScale};
+ghost use Rattle.numbers.specs.Whole.{plus, minus};
+ghost use Rattle.definitions.specs.Limits.{tableLength, headerLength, recordLength, nodes, depthAt, shareLimit, portLimit, greatestDepth, grainScale};
 ghost use Rattle.definitions.specs.Places.{place, put, header, putHeader, count, depthGrains};
 ghost use Rattle.definitions.specs.Refusals.{lastRefusal};
 ghost use Rattle.definitions.specs.Calls.{blank, opened, openLimits, openRefusal, openTable, openAnswer};

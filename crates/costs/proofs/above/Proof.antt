@@ -3,7 +3,6 @@ use mathlib.Core.Path.{sym}
 use native.Mathlib.Omega.{arith}
 use borrow.Author.Needs.{needs}
 use borrow.Author.Tests.{lt-ltb, ltb-true}
-use lib.Dec.{ltb}
 use Rattle.numbers.proofs.Tests.{same-truth}
 use Rattle.definitions.specs.Cost.{cost}
 use Rattle.definitions.proofs.Cost.{cost-bounds}
