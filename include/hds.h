@@ -66,30 +66,14 @@ extern "C" {
 /*
  * The version of this header and of the archives that come with it. The first number rises when what a call takes,
  * answers or writes, or what a table holds, changes; the second when something is added. Nothing compares them at run
- * time. From 2 to 3: hds_look writes four numbers, before it wrote three; compile everything that calls it again.
- * From 3 to 4: of the requests that borrow, hds_tick takes the one whose supplier is the fewest levels above its client,
- * of several the one that arrived first; before, the one that arrived first. Nothing else changed: link the new
- * archives, and work out again the lists that your tests expect.
- * From 4 to 5: hds_plan_read answers the edition of the plan, 1 or 2, where it answered 0: test it for below 0, not for
- * 0. hds_plan_write takes the edition before the buffer. HDS_STATED is a third kind of share: a kind that is not
- * HDS_FIXED need not be HDS_WEIGHTED. 16 is a further refusal. HDS_LONGEST_PLAN is 832 and was 702; HDS_PLAN_LENGTH is
- * for the first edition. Compile everything that includes this header again. Plans of version 4 and tables of versions
- * 2 to 4 can be used; a plan of the second edition, or a table with a stated node, cannot be used by version 4.
- * From 5 to 6: hds_join takes the port last. hds_tick takes a list for each port and a buffer for the two counts, and
- * answers 0 where it answered how many were dispatched. Compile everything that includes this header again: object
- * files of version 5 link and give wrong arguments, also where they call hds_join_class and hds_join_client; their
- * joins answer -2 or get any port, their ticks write where they should not or stop the program. Declarations in other
- * languages are to be changed by hand. For a cabinet with one host put hds_tick_first for hds_tick, and give hds_join
- * HDS_FIRST_PORT; hds_join_class and hds_join_client are called as before, and a program does what it did.
- * HDS_SPARE_AT is 10 and was 9, HDS_SPARE_LENGTH 6 and was 7; the text of HDS_BUFFER_SHORT is another. Plans of
- * version 5 and tables of versions 2 to 5 can be used, with all clients on the first port; a table with a client on
- * the second cannot be used by version 5.
+ * time. CHANGES.md says for each version what changed, what a caller does about it, and which stored tables and plans
+ * can be used.
  *
  * A stored table is one of this version where it was stored by version HDS_OLDEST_TABLE_VERSION to HDS_VERSION_MAJOR.
  */
 #define HDS_VERSION_MAJOR 6
-#define HDS_VERSION_MINOR 0
-#define HDS_VERSION "6.0"
+#define HDS_VERSION_MINOR 1
+#define HDS_VERSION "6.1"
 #define HDS_OLDEST_TABLE_VERSION 2
 
 /* The table: a header, then a record for each node. */
@@ -256,13 +240,15 @@ enum hds_refusal { HDS_REFUSALS(HDS_REFUSAL_CASE) };
 #define HDS_LAST_REFUSAL 16
 
 /*
- * The name and the meaning of a refusal's number, 1 to HDS_LAST_REFUSAL, for logs: give -answer for the answer of a
- * call, and the answer itself for that of hds_plan_check. For every other number "no refusal".
+ * The name and the meaning of a refusal, for logs. Both take its number, 1 to HDS_LAST_REFUSAL, which hds_plan_check
+ * answers, or the negative answer of another call, which is that number negated. Give an answer only where it is below
+ * 0: a positive answer of hds_request is an arrival number. For every other number they say "no refusal".
  */
 static inline const char *hds_refusal_name(int64_t number)
 {
 #define HDS_REFUSAL_CASE(name, value, text) \
     case value:                             \
+    case -(value):                          \
         return #name;
     switch (number) {
         HDS_REFUSALS(HDS_REFUSAL_CASE)
@@ -276,6 +262,7 @@ static inline const char *hds_refusal_text(int64_t number)
 {
 #define HDS_REFUSAL_CASE(name, value, text) \
     case value:                             \
+    case -(value):                          \
         return text;
     switch (number) {
         HDS_REFUSALS(HDS_REFUSAL_CASE)

@@ -40,8 +40,11 @@ static void refusals(void)
             differ &= strcmp(hds_refusal_name(before), hds_refusal_name(number)) != 0 &&
                       strcmp(hds_refusal_text(before), hds_refusal_text(number)) != 0;
         check(differ, "two refusals have one name or text");
+        check(strcmp(hds_refusal_name(-number), hds_refusal_name(number)) == 0, "name of an answer");
+        check(strcmp(hds_refusal_text(-number), hds_refusal_text(number)) == 0, "text of an answer");
     }
-    static const int64_t others[] = {INT64_MIN, -HDS_NOT_IN_ORDER, 0, HDS_LAST_REFUSAL + 1, INT64_MAX};
+    check(strcmp(hds_refusal_name(hds_open(table, 0, 1, 1)), "HDS_NOT_IN_ORDER") == 0, "name of a call's answer");
+    static const int64_t others[] = {INT64_MIN, -HDS_LAST_REFUSAL - 1, 0, HDS_LAST_REFUSAL + 1, INT64_MAX};
     for (size_t i = 0; i < sizeof others / sizeof *others; i++) {
         check(strcmp(hds_refusal_name(others[i]), "no refusal") == 0, "name of another number");
         check(strcmp(hds_refusal_text(others[i]), "no refusal") == 0, "text of another number");

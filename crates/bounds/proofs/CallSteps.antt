@@ -44,6 +44,7 @@ module _ (t : List ℤ) (o : Observer) (call : Call) (idle : acceptedTick (event
       let same = d .class c e (sym (outs c) ∙ stays) in
       record {
         class = class-same (observed o (eventOf t call) .tree) (o .tree) c (same .sort) ∙ e;
+        level = same .level;
         depth = same .depth;
         line =
             omega (

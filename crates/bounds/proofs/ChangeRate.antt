@@ -28,7 +28,7 @@ rate-change t o rate a h =
     all-same t (renewed u) o p _ refl
     (renewed-agrees u order p (rerated-tree t rate ∙ a .tree) (ap plus (place-put-same t root rateAt rate (facts t (a .order) .long) (omega arith) (omega arith)))
     (λ j e. a .queue j e ∙ ap (λ (w : ℕ). o .sent j + w) (sym (ap plus (rest j waitingAt (omega arith) (omega arith))))))
-    (λ j. renewed-same u order t o p j (record { sort = refl; depth = refl; balance = rest j balanceAt (omega arith) (omega arith) }))
+    (λ j. renewed-same u order t o p j (record { sort = refl; level = refl; depth = refl; balance = rest j balanceAt (omega arith) (omega arith) }))
   where
     u : List ℤ
     u = put t root rateAt rate

@@ -31,7 +31,7 @@ share-change t o node kind share a h =
     all-same t (renewed u) o p _ refl
     (renewed-agrees u order p tree (ap plus (rest root rateAt (omega arith) (omega arith) (omega arith)) ∙ a .disk)
     (λ j e. a .queue j e ∙ ap (λ (w : ℕ). o .sent j + w) (sym (ap plus (rest j waitingAt (omega arith) (omega arith) (omega arith))))))
-    (λ j. renewed-same u order t o p j (record { sort = refl; depth = refl; balance = rest j balanceAt (omega arith) (omega arith) (omega arith) }))
+    (λ j. renewed-same u order t o p j (record { sort = refl; level = refl; depth = refl; balance = rest j balanceAt (omega arith) (omega arith) (omega arith) }))
   where
     k : ℕ
     k = plus node

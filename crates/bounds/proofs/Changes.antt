@@ -1,5 +1,5 @@
 -- What a call changes that is no accepted tick: the table still agrees with the observer, and every class that stays and every
--- client that waits afterwards keeps its sort, depth and balance.
+-- client that waits afterwards keeps its sort, level, depth and balance.
 use Prim.Native.Nat.{ℕ, _+_, _<_}
 use mathlib.Core.Path.{_≡_, refl, sym, ap, _∙_}
 use mathlib.Core.Bool.{Bool, true, false}
@@ -16,9 +16,10 @@ use Rattle.bounds.specs.Observer.{Observer}
 use Rattle.bounds.specs.Counts.{waits}
 use Rattle.bounds.proofs.Simulation.{Agrees}
 
--- Node j has the same sort, depth and balance before and after.
+-- Node j has the same sort, level, depth and balance before and after.
 pub record Same (t u : List ℤ) (o p : Observer) (j : ℕ) : Type 0 where
   pub sort : p .tree .sort j ≡ o .tree .sort j
+  pub level : p .tree .level j ≡ o .tree .level j
   pub depth : p .tree .depth j ≡ o .tree .depth j
   pub balance : balance u j ≡ balance t j
 
@@ -34,12 +35,13 @@ pub all-same : (t u : List ℤ) (o p : Observer) (out : ℕ → Bool) → out ro
 all-same t u o p out stays a same = record { agrees = a; root = stays; class = λ c e h. same c; client = λ k e h. same k }
 
 pub unchanged : (t : List ℤ) (o : Observer) → Agrees t o → Change t t o o (λ c. false)
-unchanged t o a = all-same t t o o (λ c. false) refl a (λ j. record { sort = refl; depth = refl; balance = refl })
+unchanged t o a = all-same t t o o (λ c. false) refl a (λ j. record { sort = refl; level = refl; depth = refl; balance = refl })
 
 -- The table u is t and the observer p is o, but for node k.
 pub record Others (t u : List ℤ) (o p : Observer) (k : ℕ) : Type 0 where
   pub places : (j q : ℕ) → (j ≡ k → ⊥) → q < recordLength → place u j q ≡ place t j q
   pub sort : (j : ℕ) → (j ≡ k → ⊥) → p .tree .sort j ≡ o .tree .sort j
+  pub level : (j : ℕ) → (j ≡ k → ⊥) → p .tree .level j ≡ o .tree .level j
   pub depth : (j : ℕ) → (j ≡ k → ⊥) → p .tree .depth j ≡ o .tree .depth j
   pub asked : (j : ℕ) → (j ≡ k → ⊥) → p .asked j ≡ o .asked j
   pub sent : (j : ℕ) → (j ≡ k → ⊥) → p .sent j ≡ o .sent j
@@ -47,7 +49,7 @@ pub record Others (t u : List ℤ) (o p : Observer) (k : ℕ) : Type 0 where
 module _ (t u : List ℤ) (o p : Observer) (k : ℕ) (others : Others t u o p k) where
   pub other-same : (j : ℕ) → (j ≡ k → ⊥) → Same t u o p j
   unfolding balance
-  other-same j ne = record { sort = others .sort j ne; depth = others .depth j ne; balance = others .places j balanceAt ne (omega arith) }
+  other-same j ne = record { sort = others .sort j ne; level = others .level j ne; depth = others .depth j ne; balance = others .places j balanceAt ne (omega arith) }
 
   pub queues : Agrees t o → (isClient (p .tree) k ≡ true → p .asked k ≡ p .sent k + waiting u k) → (j : ℕ) → isClient (p .tree) j ≡ true → p .asked j ≡ p .sent j + waiting u j
   unfolding waiting

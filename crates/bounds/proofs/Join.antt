@@ -72,6 +72,7 @@ join-change t o node parent sort kind share depth port a h =
         record {
           places = joined-edit t k (plus parent) sort kind share depth port (f .long) (passed .node) .others;
           sort = set-other k (plus sort) (o .tree .sort);
+          level = set-other k _ (o .tree .level);
           depth = set-other k (plus depth) (o .tree .depth);
           asked = set-other k 0 (o .asked);
           sent = set-other k 0 (o .sent);

@@ -66,6 +66,7 @@ leave-change t o node a h =
         record {
           places = cleared-edit t k (f .long) (passed .node) .others;
           sort = set-other k 0 (o .tree .sort);
+          level = set-other k 0 (o .tree .level);
           depth = set-other k 0 (o .tree .depth);
           asked = λ j ne. refl;
           sent = λ j ne. refl;

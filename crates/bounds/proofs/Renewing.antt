@@ -49,4 +49,4 @@ module _ (u : List ℤ) (order : inOrder (renewed u) ≡ true) where
 
   pub renewed-same : (t : List ℤ) (o p : Observer) (j : ℕ) → Same t u o p j → Same t (renewed u) o p j
   unfolding balance
-  renewed-same t o p j same = record { sort = same .sort; depth = same .depth; balance = renewed-place u j balanceAt (omega arith) (omega arith) ∙ same .balance }
+  renewed-same t o p j same = record { sort = same .sort; level = same .level; depth = same .depth; balance = renewed-place u j balanceAt (omega arith) (omega arith) ∙ same .balance }

@@ -34,7 +34,7 @@ request-change t o node tag size a h =
           queues t u o p k others a
           (λ e. omega (arith, set-here k (suc (o .asked k)) (o .asked) k refl, next-waiting t u k tag size (passed .node) more, a .queue k e));
     })
-    (λ j. record { sort = refl; depth = refl; balance = stays j balanceAt (omega arith) })
+    (λ j. record { sort = refl; level = refl; depth = refl; balance = stays j balanceAt (omega arith) })
   where
     k : ℕ
     k = plus node
@@ -58,7 +58,7 @@ request-change t o node tag size a h =
     more = requested-edit t k tag size (f .long) (passed .node) room
 
     others : Others t u o p k
-    others = record { places = more .others; sort = λ j ne. refl; depth = λ j ne. refl; asked = set-other k _ (o .asked); sent = λ j ne. refl }
+    others = record { places = more .others; sort = λ j ne. refl; level = λ j ne. refl; depth = λ j ne. refl; asked = set-other k _ (o .asked); sent = λ j ne. refl }
 
     stays : (j p : ℕ) → p < waitingAt → place u j p ≡ place t j p
     stays = before t u k tag size (passed .node) more

@@ -48,6 +48,7 @@ there-below t k long e =
 -- before and the rate.
 pub record ClassStep (t : List ℤ) (o : Observer) (call : Call) (c : ℕ) : Type 0 where
   pub class : isClass (observed o (eventOf t call) .tree) c ≡ true
+  pub level : observed o (eventOf t call) .tree .level c ≡ o .tree .level c
   pub depth : observed o (eventOf t call) .tree .depth c ≡ o .tree .depth c
   pub line :
       plus (balance (after t call .table) c) + minus (balance t c) + sumOver (grainsToNode (o .tree) c) (entries (eventOf t call))

@@ -27,6 +27,7 @@ agrees-all laws t o (c ∷ calls) a = agrees-all laws (after t c .table) (observ
 -- A class over a stretch.
 pub record ClassOver (t : List ℤ) (o : Observer) (calls : List Call) (c : ℕ) : Type 0 where
   pub class : isClass (observedAll o (events t calls) .tree) c ≡ true
+  pub level : observedAll o (events t calls) .tree .level c ≡ o .tree .level c
   pub depth : observedAll o (events t calls) .tree .depth c ≡ o .tree .depth c
   pub line :
       plus (balance (tableAfterAll t calls) c) + minus (balance t c) + chargedOver o c (events t calls)
@@ -36,11 +37,11 @@ pub class-over :
     Steps → (t : List ℤ) (o : Observer) (calls : List Call) → Agrees t o → (c : ℕ) → isClass (o .tree) c ≡ true
     → staysThroughout c (events t calls) ≡ true → ClassOver t o calls c
 unfolding tableAfterAll observedAll events eventOf chargedOver ratesOver staysThroughout
-class-over laws t o [] a c e h = record { class = e; depth = refl; line = omega arith }
+class-over laws t o [] a c e h = record { class = e; level = refl; depth = refl; line = omega arith }
 class-over laws t o (call ∷ calls) a c e h =
     let first = laws t o call a .class c e (not-true _ (head-holds _ _ h)) in
     let rest = class-over laws (after t call .table) (observed o (eventOf t call)) calls (laws t o call a .agrees) c (first .class) (head-holds _ _ (rest-hold _ _ h)) in
-    record { class = rest .class; depth = rest .depth ∙ first .depth; line = omega (arith, first .line, rest .line) }
+    record { class = rest .class; level = rest .level ∙ first .level; depth = rest .depth ∙ first .depth; line = omega (arith, first .line, rest .line) }
 
 -- A waiting client over a stretch.
 pub record ClientOver (t : List ℤ) (o : Observer) (calls : List Call) (k : ℕ) : Type 0 where

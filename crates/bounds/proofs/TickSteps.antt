@@ -61,6 +61,7 @@ module _ (t : List ℤ) (o : Observer) (first second : List ℤ) (a : Agrees t o
       let low = there-below t c (f .long) here in
       record {
         class = rw (s .tree) class;
+        level = ap (λ (tree : Tree). tree .level c) (s .tree);
         depth = ap (λ (tree : Tree). tree .depth c) (s .tree);
         line = rw (s .table, s .sums (grainsToNode (o .tree) c), s .rate c, rate-told c low here, ← a .tree) (ticked-most t f c low);
       }

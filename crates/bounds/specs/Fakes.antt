@@ -1,49 +1,86 @@
--- What a caller sees of controllers that break their promise: one whose ticks list nothing, and two that dispatch everything in
--- the first tick, to the first port and to the second. Document 01, "Slips that the paper itself invites", and document 02, (g).
-use Prim.Native.Nat.{ℕ, zero, suc, _-_}
-use mathlib.Core.List.{List, [], _∷_}
+-- What a caller sees of controllers that break their promise, each just beyond one claim of demand 3: a tick that lists nothing, one
+-- that dispatches too much, and one that charges a class too much. Document 01, "Slips that the paper itself invites", and document 02,
+-- (g). A rate of 8000 is one request a tick, and so is a depth of 8: a request here asks for one token, which costs 8.
+use Prim.Native.Nat.{ℕ, zero, suc}
+use mathlib.Core.List.{List, [], _∷_, _++_}
 use lib.IntN.{ℤ, pos}
-use Rattle.definitions.specs.Limits.{root, client, weighted, mostWaiting}
-use Rattle.definitions.specs.Refusals.{accepted}
-use Rattle.runs.specs.Runs.{join, request, tick, Event}
+use Rattle.definitions.specs.Limits.{root, lastNode, class, client, weighted, mostWaiting, firstPort, secondPort}
+use Rattle.definitions.specs.Refusals.{Outcome, accepted, refused}
+use Rattle.runs.specs.Runs.{Call, join, leave, changeShare, request, tick, Event}
 use Rattle.bounds.specs.Observer.{Observer, start, observedAll}
 
--- Client 1 joins below the root with weight 1 and depth 8, on a port.
-unfoldable pub clientJoins : ℕ → Event
-clientJoins port = record { call = join (pos 1) (pos root) (pos client) (pos weighted) (pos 1) (pos 8) (pos port); answer = accepted (pos 0 ∷ []); first = []; second = [] }
+-- A call without lists and its answer.
+unfoldable pub plainEvent : Call → Outcome → Event
+plainEvent call answer = record { call = call; answer = answer; first = []; second = [] }
 
--- It asks for one token, which costs 8, n times; the last arrival number is as many as may wait.
-unfoldable pub asks : ℕ → List Event
-asks zero = []
-asks (suc n) = record { call = request (pos 1) (pos 0) (pos 1); answer = accepted (pos (mostWaiting - n) ∷ []); first = []; second = [] } ∷ asks n
+-- A node joins with weight 1 and depth 8, on a port.
+unfoldable pub joins : (node parent sort port : ℕ) → Event
+joins node parent sort port =
+    plainEvent (join (pos node) (pos parent) (pos sort) (pos weighted) (pos 1) (pos 8) (pos port)) (accepted (pos 0 ∷ []))
 
--- Entries of n dispatches of these requests. They name as supplier node 2, which is not there.
-unfoldable pub entriesOfOne : ℕ → List ℤ
-entriesOfOne zero = []
-entriesOfOne (suc n) = pos 1 ∷ pos 0 ∷ pos 1 ∷ pos 2 ∷ entriesOfOne n
+-- A client asks n times; nobody has asked before.
+unfoldable pub asks : (node n : ℕ) → List Event
+asks node zero = []
+asks node (suc n) = asks node n ++ plainEvent (request (pos node) (pos 0) (pos 1)) (accepted (pos (suc n) ∷ [])) ∷ []
+
+-- Entries of n dispatches of a client's requests that name a supplier.
+unfoldable pub entriesOf : (node supplier n : ℕ) → List ℤ
+entriesOf node supplier zero = []
+entriesOf node supplier (suc n) = pos node ∷ pos 0 ∷ pos 1 ∷ pos supplier ∷ entriesOf node supplier n
 
 -- A tick that is lent two lists with room for all that wait, and answers that so many were dispatched to each port. The lists hold
 -- such entries before and after it.
-unfoldable pub dispatches : (first second : ℕ) → Event
-dispatches first second =
+unfoldable pub dispatches : (node supplier first second : ℕ) → Event
+dispatches node supplier first second =
     record {
-      call = tick (entriesOfOne mostWaiting) (entriesOfOne mostWaiting);
+      call = tick (entriesOf node supplier mostWaiting) (entriesOf node supplier mostWaiting);
       answer = accepted (pos first ∷ pos second ∷ []);
-      first = entriesOfOne mostWaiting;
-      second = entriesOfOne mostWaiting;
+      first = entriesOf node supplier mostWaiting;
+      second = entriesOf node supplier mostWaiting;
     }
 
--- A disk of 8000 grains a tick and depth 8, with client 1 on a port and as many requests as may wait at it.
-unfoldable pub before : ℕ → Observer
-before port = observedAll (start (pos 8000) (pos 8)) (clientJoins port ∷ asks mostWaiting)
+-- The fakes by name.
+pub data Fake : Type 0 where
+  -- One tick lists nothing, although requests wait.
+  listsNothing : Fake
+  -- The last client asks in the stretch, and one tick lists nothing.
+  overlooksNew : Fake
+  -- One tick dispatches seven requests, to the first port or to the second. The entries name as supplier node 2, which is not there.
+  sevenToFirst sevenToSecond : Fake
+  -- One tick dispatches seven requests that name class 3, in class 1, as supplier, or class 1 itself. Before it a leave of that class
+  -- is refused, and its share is changed.
+  lowClassOverdrawn highClassOverdrawn : Fake
 
--- Three ticks that list nothing.
-unfoldable pub listsNothing : List Event
-listsNothing = dispatches 0 0 ∷ dispatches 0 0 ∷ dispatches 0 0 ∷ []
+-- A disk of rate 8000 and depth 8, with client 1 on a port and as many requests as may wait at it.
+unfoldable pub busy : ℕ → List Event
+busy port = joins 1 root client port ∷ asks 1 mostWaiting
 
--- One tick that dispatches all that wait, to the first port or to the second.
-unfoldable pub everythingToFirst : List Event
-everythingToFirst = dispatches mostWaiting 0 ∷ []
+-- A disk of rate 8000 and depth 40, with class 1, class 3 in it and client 2 in that, and as many requests as may wait.
+unfoldable pub inClasses : List Event
+inClasses = joins 1 root class firstPort ∷ joins 3 1 class firstPort ∷ joins 2 3 client firstPort ∷ asks 2 mostWaiting
 
-unfoldable pub everythingToSecond : List Event
-everythingToSecond = dispatches 0 mostWaiting ∷ []
+-- What the observer knows before the stretch.
+unfoldable pub observerOf : Fake → Observer
+observerOf listsNothing = observedAll (start (pos 8000) (pos 8)) (busy firstPort)
+observerOf overlooksNew = observedAll (start (pos 8000) (pos 8)) (joins lastNode root client firstPort ∷ [])
+observerOf sevenToFirst = observedAll (start (pos 8000) (pos 8)) (busy firstPort)
+observerOf sevenToSecond = observedAll (start (pos 8000) (pos 8)) (busy secondPort)
+observerOf lowClassOverdrawn = observedAll (start (pos 8000) (pos 40)) inClasses
+observerOf highClassOverdrawn = observedAll (start (pos 8000) (pos 40)) inClasses
+
+-- A leave of class c that is refused, a change of its share, and a tick that dispatches seven requests of client 2 from it.
+unfoldable pub overdrawn : ℕ → List Event
+overdrawn c =
+    plainEvent (leave (pos c)) (refused 9)
+    ∷ plainEvent (changeShare (pos c) (pos weighted) (pos 2)) (accepted (pos 0 ∷ []))
+    ∷ dispatches 2 c 7 0
+    ∷ []
+
+-- The stretch.
+unfoldable pub stretchOf : Fake → List Event
+stretchOf listsNothing = dispatches 1 2 0 0 ∷ []
+stretchOf overlooksNew = asks lastNode 1 ++ dispatches lastNode 2 0 0 ∷ []
+stretchOf sevenToFirst = dispatches 1 2 7 0 ∷ []
+stretchOf sevenToSecond = dispatches 1 2 0 7 ∷ []
+stretchOf lowClassOverdrawn = overdrawn 3
+stretchOf highClassOverdrawn = overdrawn 1

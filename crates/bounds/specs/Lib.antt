@@ -1,4 +1,5 @@
 pub mod Observer
 pub mod Counts
 pub mod Demand
+pub mod Levels
 pub mod Fakes

@@ -2,7 +2,7 @@
 use Prim.Native.Nat.{suc, _+_, _-_}
 use mathlib.Core.List.{[], _∷_}
 use lib.IntN.{pos, negℤ}
-use Rattle.definitions.specs.Limits.{root, class, client, fixed, weighted, stated, firstPort, secondPort, wholeShare, greatestRate, greatestCount, sortAt, parentAt, levelAt, kindAt, shareAt, depthAt, rateAt, balanceAt, waitingAt, portAt, spareAt, spareLength, tagAt, sizeAt, arrivalAt}
+use Rattle.definitions.specs.Limits.{root, class, client, fixed, weighted, stated, firstPort, secondPort, wholeShare, greatestDepth, greatestRate, greatestCount, sortAt, parentAt, levelAt, kindAt, shareAt, depthAt, rateAt, balanceAt, waitingAt, portAt, spareAt, spareLength, tagAt, sizeAt, arrivalAt}
 use Rattle.definitions.specs.Places.{queuePlace}
 use Rattle.definitions.specs.Refusals.{refused}
 use Rattle.scenarios.specs.Scenario.{Scenario, disk, joinOn, join, leave, changeShare, changeRate, request, look, tickBoth, tick, dispatch, atPlace, atHeader, _gives_, _answers_leaving_and_, _lists_, _lists_and_, fits, spoils, setBalance, number, counts, seen, greatestNumber}
@@ -144,6 +144,8 @@ scenario nodesInOrder =
     ∷ fits (atPlace 4 shareAt (pos wholeShare))
     ∷ spoils (atPlace 4 depthAt (pos 0))
     ∷ fits (atPlace 4 depthAt (pos 1))
+    ∷ spoils (atPlace root depthAt (pos (suc greatestDepth)))
+    ∷ fits (atPlace root depthAt (pos greatestDepth))
     ∷ spoils (atPlace 4 waitingAt (negℤ (pos 1)))
     ∷ fits (atPlace 4 waitingAt (pos 0))
     ∷ []

@@ -198,3 +198,15 @@ read-then-write t s buffer h small room =
       answer = outcome-accepted _ _ free ∙ ap (λ (b : List ℕ). accepted (pos (length b) ∷ [])) same;
       bytes = write-leaves (planTable t s) edition buffer free ∙ ap (λ (b : List ℕ). b ++ drop (length b) buffer) same;
     }
+
+-- Both round trips of the second edition, each part by itself.
+pub second-read : (t u : List ℤ) (buffer : List ℕ) → writeRefusal t (pos secondEdition) buffer ≡ 0 → length u ≡ tableLength → (planAnswer u (take (length (planBytes Second t)) (writeBuffer t (pos secondEdition) buffer)) ≡ accepted (pos secondEdition ∷ [])) × (sameAnswer t (planTable u (take (length (planBytes Second t)) (writeBuffer t (pos secondEdition) buffer))) ≡ accepted (pos 1 ∷ []))
+unfolding editionOf plus
+second-read t u buffer h long = let back = write-then-read t u (pos secondEdition) buffer h long in (back .answer, back .same)
+
+pub second-written : (t : List ℤ) (s buffer : List ℕ) → editionIn s ≡ Second → planRefusal t s ≡ 0 → ((i : ℕ) → i < length s → byteAt s i < byteValues) → length s ≤ length buffer → (writeAnswer (planTable t s) (pos secondEdition) buffer ≡ accepted (pos (length s) ∷ [])) × (writeBuffer (planTable t s) (pos secondEdition) buffer ≡ s ++ drop (length s) buffer)
+unfolding editionNumber
+second-written t s buffer e h small room =
+    let back = read-then-write t s buffer h small room in
+    let told : pos secondEdition ≡ pos (editionNumber (editionIn s)) = ap (λ (d : Edition). pos (editionNumber d)) (sym e) in
+    (rw told (back .answer), rw told (back .bytes))

@@ -14,7 +14,7 @@ ghost use Rattle.definitions.specs.Order.{requestInOrder, queueInOrder, differs
 ghost use Rattle.queues.specs.Waiting.{waitingInOrder};
 ghost use Rattle.queues.specs.Marks.{marks, markOf, MarkedBelow};
 
-// How many marks there are: a prime, so that numbers in equal steps have different marks.
+// How many marks there are: a prime, so that numbers in equal steps have different marks, unless the step is a multiple of it.
 const MARKS: usize = 4093;
 
 // Whether request i of node k arrived after the one before it.

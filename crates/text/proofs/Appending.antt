@@ -49,3 +49,7 @@ module _ (b u after : List ℕ) (next : ℕ) (h : Appended b 0 u after next) whe
     omega (arith, ap length front, length-append u (drop (length u) b), h .behind),
     omega (arith, ap length appended-front, h .behind),
   )
+
+-- So what is written at the start of a buffer is read back there.
+pub written-first : (b u after : List ℕ) (n : ℕ) → after ≡ written b 0 u → n ≡ length u → take n after ≡ u
+written-first b u after n e h = appended-front b u after n (record { bytes = e; behind = omega (arith, h) })

@@ -15,8 +15,9 @@ use Rattle.numbers.proofs.Sums.{sum-cong, sum-add, sum-swap, sum-zero, sum-chan
 use Rattle.definitions.specs.Limits.{nodes, root}
 use Rattle.definitions.specs.Places.{rate}
 use Rattle.definitions.specs.Tree.{treeOf, there, isClass, isClient, childOf, countIf, sumUnder}
+use Rattle.definitions.specs.Order.{inOrder}
 use Rattle.definitions.specs.Calls.{lostGrains}
-use Rattle.definitions.proofs.Facts.{InOrder, root-there}
+use Rattle.definitions.proofs.Facts.{InOrder, facts, root-there}
 use Rattle.definitions.proofs.Look.{client-loses}
 use Rattle.treelaws.specs.Lost.{WholeDisk}
 use Rattle.treelaws.proofs.Sorts.{unused-client, class-client, client-class, client-there, by-sort}
@@ -112,3 +113,7 @@ module _ (t : List ℤ) (f : InOrder t) where
         plus-pos clients,
         minus-pos clients,
       )
+
+-- So a panel that shows every client's rate and every class's lost grains adds up.
+pub panel-adds-up : (t : List ℤ) → inOrder t ≡ true → WholeDisk t
+panel-adds-up t h = whole-disk t (facts t h)
