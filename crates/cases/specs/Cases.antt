@@ -2,7 +2,7 @@
 use Prim.Native.Nat.{suc, _+_, _-_}
 use mathlib.Core.List.{[], _∷_}
 use lib.IntN.{pos, negℤ}
-use Rattle.definitions.specs.Limits.{root, class, client, fixed, weighted, stated, firstPort, secondPort, wholeShare, greatestDepth, greatestRate, greatestCount, sortAt, parentAt, levelAt, kindAt, shareAt, depthAt, rateAt, balanceAt, waitingAt, portAt, spareAt, spareLength, tagAt, sizeAt, arrivalAt}
+use Rattle.definitions.specs.Limits.{nodes, root, class, client, fixed, weighted, stated, firstPort, secondPort, wholeShare, greatestDepth, greatestRate, greatestCount, mostWaiting, sortAt, parentAt, levelAt, kindAt, shareAt, depthAt, rateAt, balanceAt, waitingAt, portAt, spareAt, spareLength, tagAt, sizeAt, arrivalAt}
 use Rattle.definitions.specs.Places.{queuePlace}
 use Rattle.definitions.specs.Refusals.{refused}
 use Rattle.scenarios.specs.Scenario.{Scenario, disk, joinOn, join, leave, changeShare, changeRate, request, look, tickBoth, tick, dispatch, atPlace, atHeader, _gives_, _answers_leaving_and_, _lists_, _lists_and_, fits, spoils, setBalance, number, counts, seen, greatestNumber}
@@ -127,12 +127,16 @@ scenario nodesInOrder =
     ∷ join 5 root client weighted 1 20 gives number 0
     ∷ spoils (atPlace root parentAt (pos 1))
     ∷ fits (atPlace root parentAt (pos root))
+    ∷ spoils (atPlace root levelAt (pos 1))
+    ∷ fits (atPlace root levelAt (pos 0))
     ∷ spoils (atPlace root kindAt (pos weighted))
     ∷ fits (atPlace root kindAt (pos fixed))
     ∷ spoils (atPlace root shareAt (pos (wholeShare - 1)))
     ∷ fits (atPlace root shareAt (pos wholeShare))
     ∷ spoils (atPlace 2 parentAt (pos 5))
     ∷ fits (atPlace 2 parentAt (pos 1))
+    ∷ spoils (atPlace 4 parentAt (pos nodes))
+    ∷ fits (atPlace 4 parentAt (pos 3))
     ∷ spoils (atPlace 4 levelAt (pos 3))
     ∷ fits (atPlace 4 levelAt (pos 4))
     ∷ spoils (atPlace 4 sortAt (pos class))
@@ -140,6 +144,7 @@ scenario nodesInOrder =
     ∷ fits (atPlace 4 sortAt (pos client))
     ∷ spoils (atPlace 4 kindAt (pos (suc stated)))
     ∷ fits (atPlace 4 kindAt (pos weighted))
+    ∷ spoils (atPlace 4 shareAt (pos 0))
     ∷ spoils (atPlace 4 shareAt (pos (suc wholeShare)))
     ∷ fits (atPlace 4 shareAt (pos wholeShare))
     ∷ spoils (atPlace 4 depthAt (pos 0))
@@ -147,6 +152,7 @@ scenario nodesInOrder =
     ∷ spoils (atPlace root depthAt (pos (suc greatestDepth)))
     ∷ fits (atPlace root depthAt (pos greatestDepth))
     ∷ spoils (atPlace 4 waitingAt (negℤ (pos 1)))
+    ∷ spoils (atPlace 4 waitingAt (pos (suc mostWaiting)))
     ∷ fits (atPlace 4 waitingAt (pos 0))
     ∷ []
 -- "fixed shares under one class sum to at most 10,000, and children's depths to at most its depth; rates obey the next
