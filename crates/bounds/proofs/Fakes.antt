@@ -18,7 +18,7 @@ use Rattle.bounds.specs.Fakes.{plainEvent, joins, asks, entriesOf, dispa
 
 pub told-apart : (fake : Fake) → Bounds (observerOf fake) (stretchOf fake) → ⊥
 unfolding plainEvent joins asks entriesOf dispatches busy inClasses overdrawn observerOf stretchOf observedAll observed afterAnswer afterAccepted start withNode withShare setAt entries dispatchedBy entriesIn entriesFor isClass isClient waitsThroughout waits staysThroughout takesOut leaves every plus ratesOver rateAt acceptedTick isTick accepts rateIn rateAtLevel childRate isStated unstatedRate dividedRate isFixed kindSum kindShare fixedRate leftRate weightedRate sumUnder sumBelow countIf childOf there dispatchedOver chargedOver sumOver grainsForClient grainsToNode atOrAbove onWay entryGrains grainsOver grains cost
--- The rate of one tick is 8000, and so is the depth: nothing is not more than nothing.
+-- The rate of one tick is 8000, and so is the depth in grains: 0 is not more than 8000 less 8000.
 told-apart listsNothing b = omega (arith, b .clients 1 refl refl)
 told-apart overlooksNew b = omega (arith, b .clients lastNode refl refl)
 -- Seven requests are 56000 grains; the rate and five depths are 48000.

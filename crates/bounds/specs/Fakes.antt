@@ -1,6 +1,6 @@
 -- What a caller sees of controllers that break their promise, each just beyond one claim of demand 3: a tick that lists nothing, one
 -- that dispatches too much, and one that charges a class too much. Document 01, "Slips that the paper itself invites", and document 02,
--- (g). A rate of 8000 is one request a tick, and so is a depth of 8: a request here asks for one token, which costs 8.
+-- (g). A request here asks for one token, which costs 8: a rate of 8000 is one request a tick, a depth of 8 is one request.
 use Prim.Native.Nat.{ℕ, zero, suc}
 use mathlib.Core.List.{List, [], _∷_, _++_}
 use lib.IntN.{ℤ, pos}
@@ -47,15 +47,15 @@ pub data Fake : Type 0 where
   overlooksNew : Fake
   -- One tick dispatches seven requests, to the first port or to the second. The entries name as supplier node 2, which is not there.
   sevenToFirst sevenToSecond : Fake
-  -- One tick dispatches seven requests that name class 3, in class 1, as supplier, or class 1 itself. Before it a leave of that class
-  -- is refused, and its share is changed.
+  -- One tick dispatches seven requests to both ports that name class 3, in class 1, as supplier: too much for class 3, and for class 1
+  -- above it. Before it a leave of the one or the other is refused, and its share is changed.
   lowClassOverdrawn highClassOverdrawn : Fake
 
--- A disk of rate 8000 and depth 8, with client 1 on a port and as many requests as may wait at it.
+-- Client 1 joins on a port, and asks as often as may wait.
 unfoldable pub busy : ℕ → List Event
 busy port = joins 1 root client port ∷ asks 1 mostWaiting
 
--- A disk of rate 8000 and depth 40, with class 1, class 3 in it and client 2 in that, and as many requests as may wait.
+-- Class 1 joins, class 3 in it and client 2 in that, which asks as often as may wait.
 unfoldable pub inClasses : List Event
 inClasses = joins 1 root class firstPort ∷ joins 3 1 class firstPort ∷ joins 2 3 client firstPort ∷ asks 2 mostWaiting
 
@@ -68,12 +68,12 @@ observerOf sevenToSecond = observedAll (start (pos 8000) (pos 8)) (busy secondPo
 observerOf lowClassOverdrawn = observedAll (start (pos 8000) (pos 40)) inClasses
 observerOf highClassOverdrawn = observedAll (start (pos 8000) (pos 40)) inClasses
 
--- A leave of class c that is refused, a change of its share, and a tick that dispatches seven requests of client 2 from it.
+-- A leave of class c that is refused, a change of its share, and a tick that dispatches seven requests of client 2 from class 3.
 unfoldable pub overdrawn : ℕ → List Event
 overdrawn c =
     plainEvent (leave (pos c)) (refused 9)
     ∷ plainEvent (changeShare (pos c) (pos weighted) (pos 2)) (accepted (pos 0 ∷ []))
-    ∷ dispatches 2 c 7 0
+    ∷ dispatches 2 3 4 3
     ∷ []
 
 -- The stretch.
