@@ -13,6 +13,7 @@ use Rattle.runs.specs.Runs.{Call, Event, events, tableAfterAll}
 use Rattle.bounds.specs.Observer.{Observer, start, observedAll}
 use Rattle.bounds.specs.Counts.{ratesOver, chargedOver, staysThroughout}
 
+-- A class joined throughout: what is charged to it is at most its rates and five, less its level, of its depths.
 unfoldable pub LevelBounds : Observer → List Event → Type 0
 LevelBounds o stretch =
     (c : ℕ) → isClass (o .tree) c ≡ true → staysThroughout c stretch ≡ true
