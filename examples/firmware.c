@@ -1,9 +1,10 @@
 /*
  * A cabinet's firmware in small: it checks plans, then runs one editing suite
- * with two streams and a backup beside it; at the end a playout desk joins. The
+ * with two streams and a backup beside it; then a playout desk joins. The
  * streams are at the host on the first port, backup and desk at the host on the
- * second. It prints every answer and every dispatch; firmware.out is worked out
- * from documents 01 and 02 by hand.
+ * second. At the end the shares follow the hours of a week. It prints every
+ * answer and every dispatch; firmware.out is worked out from documents 01 and 02
+ * by hand.
  */
 #include <inttypes.h>
 #include <stdio.h>
@@ -101,6 +102,90 @@ static void save(void)
            other[HDS_PLACE(4, HDS_PORT_AT)]);
 }
 
+/*
+ * The timetable, in windows of node, start minute, end minute and share. This cabinet counts minutes from 0:00 of the day that
+ * it calls the first. On that day suite 1 is rented from 9 to 18 o'clock, and desk 5 needs more from 17 to 24 o'clock.
+ */
+static const int64_t windows[] = {
+    1, 540, 1080, 9000,  /* fixed in the plan: ten-thousandths */
+    5, 1020, 1440, 4001, /* stated in the plan: a rate */
+};
+#define WINDOWS windows, sizeof windows / sizeof *windows
+
+/* The plan that the timetable belongs to. */
+static uint8_t plan[HDS_LONGEST_PLAN];
+static size_t plan_length;
+
+static void keep_plan(int64_t *of)
+{
+    int64_t length = hds_plan_write(of, HDS_TABLE_LENGTH, HDS_SECOND_EDITION, plan, sizeof plan);
+
+    answer("write plan", length);
+    plan_length = (size_t)length;
+}
+
+static void set_minute(int64_t *of, int64_t minute)
+{
+    printf("minute %" PRId64 ", ", minute);
+    answer("set minute", hds_set_minute(of, HDS_TABLE_LENGTH, plan, plan_length, WINDOWS, minute));
+}
+
+/* The next minute at which shares can change: a start or an end, at last the end of the week. */
+static int64_t next_change(int64_t minute)
+{
+    int64_t next = HDS_WEEK_MINUTES;
+
+    for (size_t i = 0; i < sizeof windows / sizeof *windows; i += HDS_WINDOW_LENGTH)
+        for (int at = HDS_WINDOW_START; at <= HDS_WINDOW_END; at++)
+            if (windows[i + (size_t)at] > minute && windows[i + (size_t)at] < next)
+                next = windows[i + (size_t)at];
+    return next;
+}
+
+/*
+ * A week of shares that follow the hours. What is to last is changed in the plan, on a table that is read from it: the
+ * cabinet's own table has the shares of windows in it.
+ */
+static void hours(void)
+{
+    static int64_t other[HDS_TABLE_LENGTH];
+    static const int64_t too_much[] = {5, 1020, 1440, 5002};
+
+    keep_plan(table);
+    for (int64_t minute = 0; minute < HDS_WEEK_MINUTES; minute = next_change(minute)) {
+        set_minute(table, minute);
+        look(1);
+        look(5);
+    }
+
+    /* A restart at minute 1030: with a table of another minute, here of 1440; then with the plan, which has no ports. */
+    memcpy(other, table, sizeof other);
+    set_minute(table, 1030);
+    set_minute(other, 1030);
+    printf("%s\n", memcmp(other, table, sizeof other) == 0 ? "the same table" : "another table");
+    answer("read", hds_plan_read(other, HDS_TABLE_LENGTH, plan, plan_length));
+    set_minute(other, 1030);
+    answer("same", hds_same(TABLE, other, HDS_TABLE_LENGTH));
+
+    /* A share that is changed by hand lasts until the next set minute. */
+    answer("change share of 1", hds_set_share(TABLE, 1, hds_fixed(1000)));
+    look(1);
+    set_minute(table, 1031);
+    look(1);
+
+    /* Desk 5 would have more than the disk from minute 1020 on: refused at every minute. */
+    answer("desk above the disk", hds_set_minute(TABLE, plan, plan_length, too_much, HDS_WINDOW_LENGTH, 0));
+
+    /* A stream leaves: the table is not the plan's until the plan is one without it. */
+    answer("leave stream 3", hds_leave(TABLE, 3));
+    set_minute(table, 1031);
+    answer("read", hds_plan_read(other, HDS_TABLE_LENGTH, plan, plan_length));
+    answer("leave stream 3", hds_leave(other, HDS_TABLE_LENGTH, 3));
+    keep_plan(other);
+    set_minute(table, 1031);
+    look(2);
+}
+
 int main(void)
 {
     static int64_t before[HDS_TABLE_LENGTH];
@@ -181,5 +266,6 @@ int main(void)
         tick(4, 0);
     answer("leave suite 1", hds_leave(TABLE, 1));
     answer("leave backup 4", hds_leave(TABLE, 4));
+    hours();
     return 0;
 }

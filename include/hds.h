@@ -25,6 +25,9 @@
  * PORTS. A cabinet can have two hosts. A client is on the port that it joined with, and its dispatches stand on that
  * port's list. Disk, table, balances and who goes when are one for both ports.
  *
+ * HOURS. Shares can follow a timetable of the week. The calls have no clock: the firmware tells hds_set_minute which
+ * minute it is, counted from a minute 0 of its own choice.
+ *
  * THE TABLE is HDS_TABLE_LENGTH numbers of 64 bits that the caller hands to each call and keeps between the calls. It
  * holds no pointers, and the calls keep nothing outside it: a copy of it is a table like the first.
  *   In memory    an array of int64_t, aligned to 8 bytes.
@@ -72,8 +75,8 @@ extern "C" {
  * A stored table is one of this version where it was stored by version HDS_OLDEST_TABLE_VERSION to HDS_VERSION_MAJOR.
  */
 #define HDS_VERSION_MAJOR 6
-#define HDS_VERSION_MINOR 1
-#define HDS_VERSION "6.1"
+#define HDS_VERSION_MINOR 2
+#define HDS_VERSION "6.2"
 #define HDS_OLDEST_TABLE_VERSION 2
 
 /* The table: a header, then a record for each node. */
@@ -154,6 +157,19 @@ extern "C" {
 #define HDS_ENTRY_SUPPLIER 3 /* who paid: the client itself or a class above it */
 
 /*
+ * A timetable: HDS_WINDOW_LENGTH numbers for each window. A window covers the minutes from its start up to, but not
+ * including, its end: 0 <= start < end <= HDS_WEEK_MINUTES. Minutes are 0 to HDS_LAST_MINUTE; which one is 0, as
+ * Monday 0:00, is for the room to choose.
+ */
+#define HDS_WEEK_MINUTES 10080
+#define HDS_LAST_MINUTE 10079
+#define HDS_WINDOW_LENGTH 4
+#define HDS_WINDOW_NODE 0
+#define HDS_WINDOW_START 1
+#define HDS_WINDOW_END 2
+#define HDS_WINDOW_SHARE 3 /* by the kind that the node has in the plan */
+
+/*
  * What look shows. Lost grains are those of a class's rate that none of its children gets, in grains per tick; they can
  * be lent.
  */
@@ -186,9 +202,9 @@ enum hds_edition { HDS_FIRST_EDITION = 1, HDS_SECOND_EDITION = 2 };
 
 /*
  * The stack that a call needs at most, in bytes, return address included, whatever the arguments. The tests hold
- * these to the archives, by the frames in the machine code and by measuring. Plan read and plan check have a table of
- * their own on the stack. To be added are what memcpy and memset take, a dynamic linker that looks for them at the
- * first call (none with `-z now`), and signal handlers on the same stack.
+ * these to the archives, by the frames in the machine code and by measuring. Plan read, plan check and set minute have a
+ * table of their own on the stack. To be added are what memcpy and memset take, a dynamic linker that looks for them at
+ * the first call (none with `-z now`), and signal handlers on the same stack.
  */
 #define HDS_STACK_OPEN 1024
 #define HDS_STACK_JOIN 10240
@@ -202,7 +218,8 @@ enum hds_edition { HDS_FIRST_EDITION = 1, HDS_SECOND_EDITION = 2 };
 #define HDS_STACK_PLAN_READ 32768
 #define HDS_STACK_PLAN_WRITE 10240
 #define HDS_STACK_PLAN_CHECK 32768
-#define HDS_STACK_MOST 32768
+#define HDS_STACK_SET_MINUTE 40960
+#define HDS_STACK_MOST 40960
 
 /*
  * Sorts of node; 0 in a table is a record that is not used. Kinds of share, and how many there are. Ports, and how many
@@ -231,13 +248,14 @@ enum hds_port { HDS_FIRST_PORT = 0, HDS_SECOND_PORT = 1 };
     X(HDS_BUFFER_SHORT, 13, "a list is too short for what waits at its port, 4 numbers each, or the buffer for the plan")\
     X(HDS_PLAN_WRONG, 14, "the plan's length, count, an offset or a kind is wrong")                                      \
     X(HDS_PLAN_OUT_OF_ORDER, 15, "the plan's entries do not stand by level, then by number")                             \
-    X(HDS_STATED_WRONG, 16, "stated rates above the disk's rate, or a stated node not under the root or in edition 1")
+    X(HDS_STATED_WRONG, 16, "stated rates above the disk's rate, or a stated node not under the root or in edition 1")   \
+    X(HDS_TIMETABLE_WRONG, 17, "nodes, depths or disk rate are not the plan's, or the windows are wrong or overlap")
 
 #define HDS_REFUSAL_CASE(name, number, text) name = number,
 enum hds_refusal { HDS_REFUSALS(HDS_REFUSAL_CASE) };
 #undef HDS_REFUSAL_CASE
 
-#define HDS_LAST_REFUSAL 16
+#define HDS_LAST_REFUSAL 17
 
 /*
  * The name and the meaning of a refusal, for logs. Both take its number, 1 to HDS_LAST_REFUSAL, which hds_plan_check
@@ -420,6 +438,31 @@ int64_t hds_plan_write(const int64_t *table, size_t table_length, int64_t editio
  *   HDS_PLAN_OUT_OF_ORDER the entries do not stand by level, then by number
  */
 uint32_t hds_plan_check(const uint8_t *plan, size_t plan_length);
+
+/*
+ * Sets the shares of a minute of the week, 0 to HDS_LAST_MINUTE, by a plan of either edition and a timetable. Every node
+ * but the root gets the plan's kind, and inside a window of its own the window's share, else the plan's; then all rates
+ * but the disk's are renewed. Balances, waiting requests, ports and the count stay. Answers 0. The windows,
+ * HDS_WINDOW_LENGTH numbers each, may stand in any order, and there may be none. windows_length counts numbers: four
+ * windows given as 4 are one window. Kinds and shares that the table had make no difference: a share that was changed
+ * since is gone, and any minute can follow any other, also after a restart. The whole week is judged, whichever minute is
+ * given, so what is accepted at one minute is accepted at all. Plan and windows are the firmware's to keep. Do not write
+ * that plan from the table: inside a window hds_plan_write takes the window's share for the plan's. Refused:
+ *   HDS_NOT_IN_ORDER      the table
+ *   HDS_OUTSIDE_LIMITS    minute
+ *   HDS_PLAN_WRONG        the plan's own, as hds_plan_check: its length, count, an offset or a kind, by its edition
+ *   HDS_OUTSIDE_LIMITS to HDS_DEPTH_ABOVE    the plan's own: as open and join refuse
+ *   HDS_STATED_WRONG      the plan's own: as join refuses
+ *   HDS_PLAN_OUT_OF_ORDER the plan's own: the entries do not stand by level, then by number
+ *   HDS_TIMETABLE_WRONG   the table's nodes, parents, sorts, depths (the root's too) or disk rate are not the plan's; or
+ *                         windows_length is no multiple of HDS_WINDOW_LENGTH, a window's minutes are wrong, its node is
+ *                         the root or not there, or two windows of one node overlap (to touch is not to overlap)
+ *   HDS_OUTSIDE_LIMITS    a window's share, by the kind of its node in the plan
+ *   HDS_SHARES_ABOVE      at one minute or more the fixed shares under a class would be above 10,000
+ *   HDS_STATED_WRONG      at one minute or more the stated rates would be above the disk's
+ */
+int64_t hds_set_minute(int64_t *table, size_t table_length, const uint8_t *plan, size_t plan_length,
+                       const int64_t *windows, size_t windows_length, int64_t minute);
 
 /*
  * What a request of this size costs, in tokens; it is charged HDS_GRAIN_SCALE grains for each. For a size that no

@@ -1,7 +1,8 @@
 /*
  * What include/hds.h itself says: names and texts of the refusals, the calls with types of their own beside the plain ones, the
- * places of what look shows, the lists and counts of the two ports, the lengths of plans in both editions, and costs beside what a
- * request is charged. It is compiled as C and as C++. Prints what fails, then 'N passed, 0 failed'.
+ * places of what look shows, the lists and counts of the two ports, the lengths of plans in both editions, the numbers of a window
+ * and the minutes of the week, and costs beside what a request is charged. It is compiled as C and as C++. Prints what fails, then
+ * 'N passed, 0 failed'.
  */
 #include <stdio.h>
 #include <string.h>
@@ -31,7 +32,7 @@ static void refusals(void)
 {
     check(strcmp(hds_refusal_name(HDS_NOT_IN_ORDER), "HDS_NOT_IN_ORDER") == 0, "name of the first");
     check(strcmp(hds_refusal_name(HDS_IN_DEBT), "HDS_IN_DEBT") == 0, "name of 10");
-    check(strcmp(hds_refusal_name(HDS_LAST_REFUSAL), "HDS_STATED_WRONG") == 0, "name of the last");
+    check(strcmp(hds_refusal_name(HDS_LAST_REFUSAL), "HDS_TIMETABLE_WRONG") == 0, "name of the last");
     check(strstr(hds_refusal_text(HDS_IN_DEBT), "below 0") != NULL, "text of 10");
     for (int64_t number = 1; number <= HDS_LAST_REFUSAL; number++) {
         int differ = 1;
@@ -199,6 +200,52 @@ static void plans(void)
     check(HDS_SECOND_PLAN_LENGTH(HDS_LAST_NODE) == HDS_LONGEST_PLAN, "HDS_LONGEST_PLAN");
 }
 
+/* The rate of client 1 after a minute is set. Its window gives it all of the disk, outside it has a quarter. */
+static int64_t rate_at(const uint8_t *plan, size_t length, const int64_t *windows, int64_t minute)
+{
+    if (hds_set_minute(TABLE, plan, length, windows, HDS_WINDOW_LENGTH, minute) != 0)
+        return -1;
+    return table[HDS_PLACE(1, HDS_RATE_AT)];
+}
+
+/* A window has its numbers at their places, covers its start and not its end, and can end with the week; a length counts numbers. */
+static void hours(void)
+{
+    static uint8_t plan[HDS_LONGEST_PLAN];
+    int64_t windows[HDS_WINDOW_LENGTH];
+
+    windows[HDS_WINDOW_NODE] = 1;
+    windows[HDS_WINDOW_START] = 100;
+    windows[HDS_WINDOW_END] = HDS_WEEK_MINUTES;
+    windows[HDS_WINDOW_SHARE] = HDS_WHOLE_SHARE;
+    hds_open(TABLE, 1000, 40);
+    hds_join_client_on(TABLE, 1, HDS_ROOT, hds_fixed(2500), 16, HDS_SECOND_PORT);
+    hds_request(TABLE, 1, 7, 1);
+    size_t length = (size_t)hds_plan_write(TABLE, HDS_FIRST_EDITION, plan, sizeof plan);
+
+    memcpy(plain, table, sizeof table);
+    check(hds_set_minute(TABLE, plan, length, windows, HDS_WINDOW_LENGTH, HDS_LAST_MINUTE + 1) == -HDS_OUTSIDE_LIMITS &&
+              HDS_LAST_MINUTE + 1 == HDS_WEEK_MINUTES,
+          "the minute behind the week's last");
+    check(hds_set_minute(TABLE, plan, length - 1, windows, HDS_WINDOW_LENGTH, 0) == -HDS_PLAN_WRONG, "the plan's own cause");
+    check(hds_set_minute(TABLE, plan, length, windows, HDS_WINDOW_LENGTH - 1, 0) == -HDS_TIMETABLE_WRONG, "a window that is cut");
+    windows[HDS_WINDOW_END]++;
+    check(hds_set_minute(TABLE, plan, length, windows, HDS_WINDOW_LENGTH, 0) == -HDS_TIMETABLE_WRONG, "an end behind the week's");
+    windows[HDS_WINDOW_END]--;
+    check(memcmp(table, plain, sizeof table) == 0, "a refused set minute writes nothing");
+    check(rate_at(plan, length, windows, 99) == 250 && memcmp(table, plain, sizeof table) == 0, "the minute before a window");
+    check(rate_at(plan, length, windows, 100) == 1000, "the start of a window");
+    check(rate_at(plan, length, windows, HDS_LAST_MINUTE) == 1000, "the last minute of the week");
+    plain[HDS_PLACE(1, HDS_SHARE_AT)] = HDS_WHOLE_SHARE;
+    plain[HDS_PLACE(1, HDS_RATE_AT)] = 1000;
+    check(memcmp(table, plain, sizeof table) == 0, "set minute writes shares and rates alone");
+    windows[HDS_WINDOW_END] = 101;
+    check(rate_at(plan, length, windows, 101) == 250, "the end of a window");
+    check(rate_at(plan, length, windows, 100) == 1000 && hds_set_minute(TABLE, plan, length, windows, 0, 100) == 0 &&
+              table[HDS_PLACE(1, HDS_RATE_AT)] == 250,
+          "no windows");
+}
+
 int main(void)
 {
     char version[16];
@@ -210,6 +257,7 @@ int main(void)
     plans();
     looks();
     ports();
+    hours();
     costs();
     printf("%d passed, %d failed\n", passed, failed);
     return failed != 0;

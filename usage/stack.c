@@ -21,10 +21,13 @@
 #define HIGHEST_TAG INT64_MAX
 #define CLIENT_DEPTH 1000
 #define LARGEST_SIZE 984 /* costs a client's whole depth */
+#define DAYS 7
+#define DAY (HDS_WEEK_MINUTES / DAYS)
 
 static int64_t table[HDS_TABLE_LENGTH], other[HDS_TABLE_LENGTH], seen[HDS_SEEN_LENGTH];
 static int64_t first[HDS_LONGEST_LIST], second[HDS_LONGEST_LIST], counts[HDS_PORTS];
 static uint8_t plan[HDS_LONGEST_PLAN], longest[HDS_LONGEST_PLAN];
+static int64_t windows[HDS_WINDOW_LENGTH * HDS_LAST_NODE * DAYS];
 static _Alignas(16) unsigned char stack[STACK_BYTES];
 static ucontext_t here, there;
 static const unsigned char *top;
@@ -70,6 +73,20 @@ static void grow(int64_t last, int waiting)
     for (int i = 0; i < waiting; i++)
         for (int64_t node = 4; node <= last; node++)
             hds_request(TABLE, node, HIGHEST_TAG, LARGEST_SIZE);
+}
+
+/* A timetable with a window of each node on each day, for the tree with all nodes. Each begins at another minute of the day. */
+static void fill_week(void)
+{
+    int64_t *window = windows;
+
+    for (int64_t day = 0; day < DAYS; day++)
+        for (int64_t node = 1; node <= HDS_LAST_NODE; node++, window += HDS_WINDOW_LENGTH) {
+            window[HDS_WINDOW_NODE] = node;
+            window[HDS_WINDOW_START] = DAY * day + node;
+            window[HDS_WINDOW_END] = DAY * (day + 1);
+            window[HDS_WINDOW_SHARE] = HDS_WHOLE_SHARE;
+        }
 }
 
 static void nothing(void)
@@ -166,6 +183,11 @@ static int64_t plan_check_call(void)
     return hds_plan_judge(longest, sizeof longest);
 }
 
+static int64_t set_minute_call(void)
+{
+    return hds_set_minute(TABLE, longest, sizeof longest, windows, sizeof windows / sizeof *windows, HDS_LAST_MINUTE);
+}
+
 static const struct {
     const char *name;
     int64_t (*call)(void);
@@ -183,6 +205,7 @@ static const struct {
     {"plan write", plan_write_call, HDS_STACK_PLAN_WRITE},
     {"plan read", plan_read_call, HDS_STACK_PLAN_READ},
     {"plan check", plan_check_call, HDS_STACK_PLAN_CHECK},
+    {"set minute", set_minute_call, HDS_STACK_SET_MINUTE},
 };
 
 int main(void)
@@ -194,6 +217,7 @@ int main(void)
     memcpy(other, table, sizeof table);
     if (hds_plan_write(TABLE, HDS_SECOND_EDITION, longest, sizeof longest) != HDS_LONGEST_PLAN)
         return 1;
+    fill_week();
     for (size_t i = 0; i < count; i++) {
         int64_t most = 0;
         int accepted = 0;

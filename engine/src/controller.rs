@@ -3,7 +3,7 @@
 use crate::order;
 use crate::refusal::Answer;
 use crate::table::PORTS;
-use crate::{calls, plan, tick};
+use crate::{calls, hours, plan, tick};
 
 /// The arguments of a join, any numbers.
 #[derive(Clone, Copy, Debug, PartialEq, Eq)]
@@ -80,6 +80,16 @@ pub trait Controller {
 
     /// Plan check: 0 or a refusal number.
     fn plan_check(&mut self, plan: &[u8]) -> i64;
+
+    /// Set minute, with a plan, the windows of a timetable, four numbers each, and a minute
+    /// of the week.
+    fn set_minute(
+        &mut self,
+        table: &mut [i64],
+        plan: &[u8],
+        windows: &[i64],
+        minute: i64,
+    ) -> Answer<i64>;
 }
 
 /// The second engine. It judges refusal 1 here and leaves the rest of each
@@ -146,5 +156,16 @@ impl Controller for Engine {
 
     fn plan_check(&mut self, plan: &[u8]) -> i64 {
         plan::check(plan)
+    }
+
+    fn set_minute(
+        &mut self,
+        table: &mut [i64],
+        plan: &[u8],
+        windows: &[i64],
+        minute: i64,
+    ) -> Answer<i64> {
+        order::check(table)?;
+        hours::set_minute(table, plan, windows, minute)
     }
 }

@@ -1,7 +1,7 @@
 //! Two controllers side by side on the same steps.
 //!
 //! Each has a world of its own. After every step the reply, both tables, both
-//! lists, the plan buffer and the guards around each are compared.
+//! lists, the plan buffer, the windows and the guards around each are compared.
 
 use std::fmt;
 use std::ops::Range;
@@ -105,6 +105,7 @@ fn compare(replies: &[Option<Reply>; 2], worlds: &[World; 2]) -> Option<String> 
             .or_else(|| unequal("first list", &first.lists[0], &second.lists[0]))
             .or_else(|| unequal("second list", &first.lists[1], &second.lists[1]))
             .or_else(|| unequal("plan buffer", &first.plan, &second.plan))
+            .or_else(|| unequal("windows", &first.windows, &second.windows))
     }
 }
 

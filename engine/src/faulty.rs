@@ -1,16 +1,20 @@
 //! Controllers with one known fault each: the paper's slips, the fakes that
 //! document 01 names, misreadings of what a request costs, of the grains nobody
 //! gets, of what step 4 picks, of which rates are renewed, of stated rates, of the
-//! editions of plans and of ports, and some more. The judge or the differential must object to every one of them.
+//! editions of plans, of ports and of timetables, and some more. The judge or the
+//! differential must object to every one of them.
 
 use crate::controller::{Controller, Counts, Engine, Lists, NewNode, Seen};
 use crate::damage::failing;
 use crate::faulty_parts::Dispatched;
 use crate::faulty_renewals::{self, Cause, Change};
+use crate::hours::WEEK;
 use crate::refusal::*;
 use crate::steps::with_lent_counts;
 use crate::table::*;
-use crate::{calls, faulty_parts, faulty_plans, faulty_ports, faulty_stated, order, rates};
+use crate::{
+    calls, faulty_hours, faulty_parts, faulty_plans, faulty_ports, faulty_stated, order, rates,
+};
 
 /// A fault.
 #[derive(Clone, Copy, Debug, PartialEq, Eq)]
@@ -108,6 +112,8 @@ pub enum Fault {
     WrongEditions(Editions),
     /// Ports are misread.
     WrongPorts(Ports),
+    /// Timetables are misread.
+    WrongHours(Hours),
     /// The in-order test lacks the clause of that number.
     LacksClause(usize),
 }
@@ -622,8 +628,146 @@ impl Ports {
     }
 }
 
+/// Misreadings of timetables. Where nothing else is said, a window covers its start up to but
+/// not its end, its node has its share inside and the plan's outside, 17 is for tables that
+/// differ from the plan in the tree alone and for bad windows, and every cause is judged over
+/// the whole list and the whole week before the next one.
+#[derive(Clone, Copy, Debug, PartialEq, Eq)]
+pub enum Hours {
+    /// A window covers its end too.
+    EndIncluded,
+    /// A window does not cover its start.
+    StartExcluded,
+    /// Minute 10,080 is accepted.
+    LastMinuteAccepted,
+    /// A window that ends at 10,080 has bad minutes.
+    EndOfWeekRefused,
+    /// A window may end where it starts.
+    EmptyAccepted,
+    /// A window may end before it starts, and goes over the end of the week then.
+    WrapsAround,
+    /// A window with bad minutes gets 2.
+    MinutesAreTwo,
+    /// What is behind the last whole window of a list is passed over.
+    NotWholeAccepted,
+    /// A window of the root is passed over.
+    RootAccepted,
+    /// A window of the root gets 5.
+    RootIsFive,
+    /// A window of a node that is not there is passed over.
+    AbsentAccepted,
+    /// A window of a node that is not there gets 3.
+    AbsentIsThree,
+    /// A window of a number outside 0 to 63 gets 2.
+    OutsideIsTwo,
+    /// Two windows of one node that touch overlap.
+    TouchingOverlap,
+    /// Windows of one node may overlap, and the first of them counts.
+    OverlapAllowed,
+    /// Windows of different nodes may not overlap.
+    OverlapAcross,
+    /// Only windows next to each other in the list are looked at for overlaps.
+    NeighboursOnly,
+    /// The depths of the nodes below the root may differ from the plan's.
+    DepthsIgnored,
+    /// The root's depth may differ from the plan's.
+    RootDepthIgnored,
+    /// Sorts may differ from the plan's.
+    SortsIgnored,
+    /// Parents may differ from the plan's.
+    ParentsIgnored,
+    /// The disk's rate may differ from the plan's, and stays.
+    DiskRateIgnored,
+    /// The table may have nodes that the plan has not, which stay.
+    MoreInTable,
+    /// The plan may have nodes that the table has not, which are passed over.
+    MoreInPlan,
+    /// A client on port 1 differs from the plan's.
+    PortsCompared,
+    /// Kinds may not differ from the plan's.
+    KindsCompared,
+    /// Shares may not differ from the plan's.
+    SharesCompared,
+    /// A node below the root that has a balance differs from the plan's.
+    BalancesCompared,
+    /// A client with waiting requests differs from the plan's.
+    WaitingCompared,
+    /// The limits of a window's share go by the node's kind in the table.
+    LimitsByTable,
+    /// A window's share is 1 to 10,000 for every kind.
+    NarrowShares,
+    /// A window's share is 1 to 1,000,000,000 for every kind.
+    WideShares,
+    /// A window's share may be 0.
+    ZeroShare,
+    /// A window's share outside its limits gets 17.
+    ShareIsSeventeen,
+    /// 7 is judged at the given minute alone.
+    FixedHereOnly,
+    /// 16 is judged at the given minute alone.
+    StatedHereOnly,
+    /// 7 and 16 are judged at the starts of windows alone.
+    StartsOnly,
+    /// 7 and 16 are judged for each window beside the plan's shares alone.
+    OneAtATime,
+    /// Where a window is, the plan's share counts for 7 and 16 beside the window's.
+    PlanCounted,
+    /// 7 is judged for the root's children alone.
+    FixedUnderRoot,
+    /// Weights count among the fixed shares of 7.
+    WeightsCounted,
+    /// Fixed shares of just 10,000 get 7.
+    FixedAtLeast,
+    /// Stated rates of just the disk's rate get 16.
+    StatedAtLeast,
+    /// Of 7 and 16 the one at the earlier minute counts.
+    EarlierMinute,
+    /// The minute is judged before the table.
+    MinuteBeforeTable,
+    /// The plan is judged before the minute.
+    PlanBeforeMinute,
+    /// Of 17 what is about windows is judged before the plan.
+    WindowsBeforePlan,
+    /// 17 is judged right behind 14, before the plan's other causes.
+    TimetableBeforePlan,
+    /// The shares of the windows are judged before 17.
+    ShareBeforeTimetable,
+    /// Of 17 and 2 for a window's share the one of the first window counts.
+    FirstWindow,
+    /// 7 is judged before the shares of the windows.
+    FixedBeforeShare,
+    /// 16 is judged before 7.
+    StatedBeforeFixed,
+    /// A refused plan gets 17.
+    PlanIsSeventeen,
+    /// The entries of the plan may stand in any order in which they can join.
+    AnyOrder,
+    /// A plan of the second edition gets 14.
+    FirstEditionOnly,
+    /// A node keeps its kind.
+    KindKept,
+    /// Outside of its windows a node keeps its share.
+    ShareKept,
+    /// Outside of its windows a node keeps its kind and share.
+    OutsideKept,
+    /// Rates are not renewed.
+    RatesKept,
+    /// Only the rates of the root's children are renewed.
+    ChildrenOnly,
+    /// Every balance becomes 0.
+    BalancesEmptied,
+    /// Every client is put on port 0.
+    PortsReset,
+    /// Waiting requests are dropped.
+    RequestsDropped,
+    /// Kinds and shares are written before 7 and 16 are judged, and stay.
+    WrittenFirst,
+    /// An accepted call answers the minute.
+    AnswersMinute,
+}
+
 /// All faults that are no lacking clause.
-pub const FAULTS: [Fault; 253] = [
+pub const FAULTS: [Fault; 318] = [
     Fault::CutsFirst,
     Fault::ChargesClient,
     Fault::SparesRoot,
@@ -879,6 +1023,71 @@ pub const FAULTS: [Fault; 253] = [
     Fault::WrongPorts(Ports::WriteMarks),
     Fault::WrongPorts(Ports::WriteLeavesOut),
     Fault::WrongPorts(Ports::SameCompares),
+    Fault::WrongHours(Hours::EndIncluded),
+    Fault::WrongHours(Hours::StartExcluded),
+    Fault::WrongHours(Hours::LastMinuteAccepted),
+    Fault::WrongHours(Hours::EndOfWeekRefused),
+    Fault::WrongHours(Hours::EmptyAccepted),
+    Fault::WrongHours(Hours::WrapsAround),
+    Fault::WrongHours(Hours::MinutesAreTwo),
+    Fault::WrongHours(Hours::NotWholeAccepted),
+    Fault::WrongHours(Hours::RootAccepted),
+    Fault::WrongHours(Hours::RootIsFive),
+    Fault::WrongHours(Hours::AbsentAccepted),
+    Fault::WrongHours(Hours::AbsentIsThree),
+    Fault::WrongHours(Hours::OutsideIsTwo),
+    Fault::WrongHours(Hours::TouchingOverlap),
+    Fault::WrongHours(Hours::OverlapAllowed),
+    Fault::WrongHours(Hours::OverlapAcross),
+    Fault::WrongHours(Hours::NeighboursOnly),
+    Fault::WrongHours(Hours::DepthsIgnored),
+    Fault::WrongHours(Hours::RootDepthIgnored),
+    Fault::WrongHours(Hours::SortsIgnored),
+    Fault::WrongHours(Hours::ParentsIgnored),
+    Fault::WrongHours(Hours::DiskRateIgnored),
+    Fault::WrongHours(Hours::MoreInTable),
+    Fault::WrongHours(Hours::MoreInPlan),
+    Fault::WrongHours(Hours::PortsCompared),
+    Fault::WrongHours(Hours::KindsCompared),
+    Fault::WrongHours(Hours::SharesCompared),
+    Fault::WrongHours(Hours::BalancesCompared),
+    Fault::WrongHours(Hours::WaitingCompared),
+    Fault::WrongHours(Hours::LimitsByTable),
+    Fault::WrongHours(Hours::NarrowShares),
+    Fault::WrongHours(Hours::WideShares),
+    Fault::WrongHours(Hours::ZeroShare),
+    Fault::WrongHours(Hours::ShareIsSeventeen),
+    Fault::WrongHours(Hours::FixedHereOnly),
+    Fault::WrongHours(Hours::StatedHereOnly),
+    Fault::WrongHours(Hours::StartsOnly),
+    Fault::WrongHours(Hours::OneAtATime),
+    Fault::WrongHours(Hours::PlanCounted),
+    Fault::WrongHours(Hours::FixedUnderRoot),
+    Fault::WrongHours(Hours::WeightsCounted),
+    Fault::WrongHours(Hours::FixedAtLeast),
+    Fault::WrongHours(Hours::StatedAtLeast),
+    Fault::WrongHours(Hours::EarlierMinute),
+    Fault::WrongHours(Hours::MinuteBeforeTable),
+    Fault::WrongHours(Hours::PlanBeforeMinute),
+    Fault::WrongHours(Hours::WindowsBeforePlan),
+    Fault::WrongHours(Hours::TimetableBeforePlan),
+    Fault::WrongHours(Hours::ShareBeforeTimetable),
+    Fault::WrongHours(Hours::FirstWindow),
+    Fault::WrongHours(Hours::FixedBeforeShare),
+    Fault::WrongHours(Hours::StatedBeforeFixed),
+    Fault::WrongHours(Hours::PlanIsSeventeen),
+    Fault::WrongHours(Hours::AnyOrder),
+    Fault::WrongHours(Hours::FirstEditionOnly),
+    Fault::WrongHours(Hours::KindKept),
+    Fault::WrongHours(Hours::ShareKept),
+    Fault::WrongHours(Hours::OutsideKept),
+    Fault::WrongHours(Hours::RatesKept),
+    Fault::WrongHours(Hours::ChildrenOnly),
+    Fault::WrongHours(Hours::BalancesEmptied),
+    Fault::WrongHours(Hours::PortsReset),
+    Fault::WrongHours(Hours::RequestsDropped),
+    Fault::WrongHours(Hours::WrittenFirst),
+    Fault::WrongHours(Hours::AnswersMinute),
 ];
 
 impl Fault {
@@ -896,6 +1105,8 @@ impl Fault {
             | Fault::LacksClause(_) => true,
             Fault::WrongStated(wrong) => wrong.needs_wild_runs(),
             Fault::WrongPorts(wrong) => wrong.needs_wild_runs(),
+            // Only there a table may be out of order.
+            Fault::WrongHours(wrong) => wrong == Hours::MinuteBeforeTable,
             _ => false,
         }
     }
@@ -1060,6 +1271,23 @@ impl Faulty {
         Ok(answer)
     }
 
+    fn set_minute_body(
+        &mut self,
+        table: &mut [i64],
+        plan: &[u8],
+        windows: &[i64],
+        minute: i64,
+    ) -> Answer<i64> {
+        let before = table.to_vec();
+        let wrong = match self.fault {
+            Fault::WrongHours(wrong) => Some(wrong),
+            _ => None,
+        };
+        let answer = faulty_hours::set_minute(wrong, table, plan, windows, minute)?;
+        self.renew(&Change { cause: Cause::Minute, before: &before, node: ROOT }, table);
+        Ok(answer)
+    }
+
     fn request_body(&mut self, table: &mut [i64], client: i64, tag: i64, size: i64) -> Answer<i64> {
         let before = table.to_vec();
         let arrival = faulty_parts::request(self.fault, table, client, tag, size)?;
@@ -1191,5 +1419,18 @@ impl Controller for Faulty {
             Ok(_) => 0,
             Err(number) => number,
         }
+    }
+
+    fn set_minute(
+        &mut self,
+        table: &mut [i64],
+        plan: &[u8],
+        windows: &[i64],
+        minute: i64,
+    ) -> Answer<i64> {
+        if self.has(Fault::WrongHours(Hours::MinuteBeforeTable)) {
+            require((0..WEEK).contains(&minute), OUTSIDE_LIMITS)?;
+        }
+        self.change(table, |this, table| this.set_minute_body(table, plan, windows, minute))
     }
 }

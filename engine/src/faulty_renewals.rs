@@ -13,6 +13,7 @@ pub(crate) enum Cause {
     Leave,
     Share,
     Rate,
+    Minute,
 }
 
 /// An accepted change of the tree.
@@ -20,7 +21,8 @@ pub(crate) struct Change<'a> {
     pub(crate) cause: Cause,
     /// The table before it.
     pub(crate) before: &'a [i64],
-    /// The node that joined, left or changed its share; the root for its rate.
+    /// The node that joined, left or changed its share; the root for its rate and for a
+    /// minute.
     pub(crate) node: usize,
 }
 
@@ -39,7 +41,7 @@ fn is_about(wrong: Renewal, cause: Cause) -> bool {
         Renewal::NewNodeOnly => cause == Cause::Join,
         Renewal::ChangedNodeOnly => cause == Cause::Share,
         Renewal::ClassFromZeroed => cause == Cause::Leave,
-        _ => cause != Cause::Rate,
+        _ => ![Cause::Rate, Cause::Minute].contains(&cause),
     }
 }
 

@@ -30,9 +30,17 @@
 //! The port that a client joins with counts for nothing, and neither does the list
 //! on which its entries stand.
 //!
-//! Two things only a faulty controller does. Where a tick answers more than a
-//! list has whole entries, those in the list count. A size below 1 counts 0
-//! grains: it makes up for nothing that was dispatched beside it.
+//! # The tree
+//!
+//! It follows the calls. An accepted set minute gives every node the kind that stands in the
+//! call's plan, and the share of the window that covers the call's minute, else the plan's.
+//!
+//! # What only a faulty controller does
+//!
+//! Where a tick answers more than a list has whole entries, those in the list count. A size
+//! below 1 counts 0 grains: it makes up for nothing that was dispatched beside it. A set
+//! minute whose plan cannot be decoded counts for nothing, and so does what its plan says of
+//! a node that the tree has not. Of several windows the first counts.
 //!
 //! # All stretches in one pass
 //!
@@ -52,6 +60,7 @@ use std::ops::Range;
 
 use crate::controller::{Controller, Counts, NewNode};
 use crate::cost::cost;
+use crate::plan::Plan;
 use crate::rates::Division;
 use crate::steps::{Call, Reply, Step, World};
 use crate::table::{
@@ -210,6 +219,7 @@ impl Judge {
             | Call::ChangeRate { .. }
             | Call::Request { .. }
             | Call::Tick { .. }
+            | Call::SetMinute { .. }
                 if !self.tree.is_empty() =>
             {
                 self.position += 1;
@@ -244,6 +254,9 @@ impl Judge {
                 }
             }
             Call::ChangeRate { rate } => self.disk_rate = rate,
+            Call::SetMinute { ref plan, ref windows, minute } => {
+                self.set_minute(plan, windows, minute);
+            }
             Call::Request { client, .. } => {
                 if let Some(account) = self.account(client) {
                     account.accepted += 1;
@@ -263,6 +276,20 @@ impl Judge {
             let NewNode { sort, kind, share, depth, .. } = *new;
             let account = Account::new(parent, sort, kind, share, depth, self.position);
             self.tree[node] = Some(account);
+        }
+    }
+
+    /// Gives every node the kind and the share that the call sets.
+    fn set_minute(&mut self, plan: &[u8], windows: &[i64], minute: i64) {
+        let Ok(plan) = Plan::decode(plan) else { return };
+        for new in plan.nodes.iter().filter(|new| new.node != ROOT as i64) {
+            let is_inside =
+                |window: &&[i64]| window[0] == new.node && (window[1]..window[2]).contains(&minute);
+            let inside = windows.chunks_exact(4).find(is_inside).map(|window| window[3]);
+            if let Some(account) = self.account(new.node) {
+                account.kind = new.kind;
+                account.share = inside.unwrap_or(new.share);
+            }
         }
     }
 

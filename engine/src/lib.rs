@@ -1,15 +1,15 @@
 //! The second engine of the disk share controller.
 //!
 //! It is written from document 01 ("Hierarchical Disk Sharing: the account
-//! table and its calls") and document 02 up to request (g) alone, to check another
+//! table and its calls") and document 02 up to request (h) alone, to check another
 //! implementation of them call by call. Quoted words in the comments are the
 //! documents'.
 //!
 //! * The engine: [`table`], [`order`], [`rates`], [`cost`](mod@cost), `calls`,
-//!   `tick`, [`plan`], [`mod@print`], behind the trait [`Controller`], and
-//!   [`load`].
-//! * The checks: [`judge`] (demand 3), [`random`] with [`damage`] and
-//!   [`plans`] (whole runs of calls), [`steps`] and [`differential`] (two
+//!   `tick`, [`plan`], [`hours`], [`mod@print`], behind the trait
+//!   [`Controller`], and [`load`].
+//! * The checks: [`judge`] (demand 3), [`random`] with [`damage`], [`plans`]
+//!   and [`timetables`] (whole runs of calls), [`steps`] and [`differential`] (two
 //!   controllers side by side), [`faulty`] (controllers with known faults),
 //!   [`loads`] and [`faulty_load`] (inputs of the load, and loads with known
 //!   faults).
@@ -25,6 +25,7 @@ pub mod damage;
 pub mod differential;
 mod families;
 pub mod faulty;
+mod faulty_hours;
 pub mod faulty_load;
 mod faulty_parts;
 mod faulty_picks;
@@ -32,6 +33,7 @@ mod faulty_plans;
 mod faulty_ports;
 mod faulty_renewals;
 mod faulty_stated;
+pub mod hours;
 pub mod judge;
 pub mod load;
 pub mod loads;
@@ -46,6 +48,7 @@ mod rng;
 pub mod steps;
 pub mod table;
 mod tick;
+pub mod timetables;
 
 pub use controller::{Controller, Counts, Engine, Lists, NewNode, Seen};
 pub use refusal::Answer;

@@ -83,7 +83,7 @@ fn random_tree(rng: &mut Rng) -> Plan {
 }
 
 /// How many steps a node is below the root, counted no further than 64.
-fn level(nodes: &[NewNode], new: &NewNode) -> usize {
+pub(crate) fn level(nodes: &[NewNode], new: &NewNode) -> usize {
     let mut parent = new.parent;
     for level in 1..NODES {
         match nodes.iter().find(|other| other.node == parent) {

@@ -9,6 +9,7 @@ use crate::cost::largest_size;
 use crate::plan::{Edition, Plan};
 use crate::steps::{Call, Step, World};
 use crate::table::*;
+use crate::timetables::{self, Taste};
 use crate::{arguments, damage, families, order, plans};
 
 pub use crate::rng::Rng;
@@ -146,6 +147,7 @@ impl Generator {
             15..=19 => self.leave(),
             20..=25 => self.change_share(),
             26..=28 => self.change_rate(),
+            29..=34 => self.set_minute(),
             _ if self.rng.chance(self.busy) => self.request(),
             _ => {
                 self.tick();
@@ -165,6 +167,7 @@ impl Generator {
                 self.call(Call::ChangeRate { rate });
             }
             18..=39 => self.tick(),
+            40..=51 => self.set_minute(),
             _ => self.rush(),
         }
     }
@@ -172,10 +175,11 @@ impl Generator {
     /// A change of the tree, and now and then a tick.
     fn tree_call(&mut self) {
         match self.rng.below(100) {
-            0..=34 => self.join(),
-            35..=54 => self.leave(),
-            55..=84 => self.change_share(),
-            85..=94 => self.change_rate(),
+            0..=33 => self.join(),
+            34..=52 => self.leave(),
+            53..=80 => self.change_share(),
+            81..=89 => self.change_rate(),
+            90..=94 => self.set_minute(),
             _ => self.tick(),
         }
     }
@@ -336,6 +340,22 @@ impl Generator {
         let rate = arguments::disk_rate(rng, view);
         let rate = self.bend(rate, 1, MAX_RATE);
         self.call(Call::ChangeRate { rate });
+    }
+
+    /// The plan of the tree, or one that is wrong, with a timetable and a minute. In a run of
+    /// families the shares stay small.
+    fn set_minute(&mut self) {
+        let taste = Taste {
+            most: if self.profile == Profile::Family { 5 } else { MAX_SHARE },
+            parts: if self.profile == Profile::Family { 8 } else { 1 },
+            wrong: 45,
+            other_minutes: if self.damaged { 25 } else { 0 },
+            any_windows: if self.profile == Profile::Wild { 8 } else { 0 },
+            any_plans: if self.profile == Profile::Wild { 15 } else { 0 },
+        };
+        let (rng, view) = self.rng_and_view();
+        let call = timetables::any(rng, view, &taste);
+        self.call(call);
     }
 
     fn request(&mut self) {

@@ -39,6 +39,10 @@ pub const PLAN_OUT_OF_ORDER: i64 = 15;
 /// Stated rates above the disk's rate, stated elsewhere than under the root, or
 /// first-edition writing of a tree with a stated node.
 pub const STATED_WRONG: i64 = 16;
+/// A table whose nodes, parents, sorts, depths or disk rate differ from the plan's; a list
+/// that is not whole windows; a window with bad minutes, of the root or of a node not there;
+/// two windows of one node that overlap.
+pub const TIMETABLE_WRONG: i64 = 17;
 
 /// Goes on if `holds`, else turns the call back.
 pub(crate) fn require(holds: bool, refusal: i64) -> Answer<()> {

@@ -78,6 +78,15 @@ pub enum Call {
         /// The plan's bytes.
         plan: Vec<u8>,
     },
+    /// Set minute.
+    SetMinute {
+        /// The plan's bytes.
+        plan: Vec<u8>,
+        /// The numbers of the windows.
+        windows: Vec<i64>,
+        /// The minute.
+        minute: i64,
+    },
 }
 
 /// One step of a run: a call, or something done to the tables from outside.
@@ -169,16 +178,19 @@ pub struct World {
     pub lists: [Guarded<i64>; PORTS],
     /// The plan or the plan buffer of the last call that had one.
     pub plan: Guarded<u8>,
+    /// The windows of the last set minute.
+    pub windows: Guarded<i64>,
 }
 
 impl Default for World {
-    /// Two zeroed tables, empty lists and no plan.
+    /// Two zeroed tables, empty lists, no plan and no windows.
     fn default() -> World {
         World {
             table: Guarded::new(&[0; TABLE_LEN], NUMBER_GUARD),
             kept: Guarded::new(&[0; TABLE_LEN], NUMBER_GUARD),
             lists: [(); PORTS].map(|()| Guarded::new(&[], NUMBER_GUARD)),
             plan: Guarded::new(&[], BYTE_GUARD),
+            windows: Guarded::new(&[], NUMBER_GUARD),
         }
     }
 }
@@ -213,8 +225,8 @@ impl World {
 
     /// Whether the guards of every buffer are as they were.
     pub fn is_intact(&self) -> bool {
-        let tables = [&self.table, &self.kept];
-        tables.into_iter().chain(&self.lists).all(Guarded::is_intact) && self.plan.is_intact()
+        let numbers = [&self.table, &self.kept, &self.windows];
+        numbers.into_iter().chain(&self.lists).all(Guarded::is_intact) && self.plan.is_intact()
     }
 
     /// What the lists hold.
@@ -222,8 +234,8 @@ impl World {
         self.lists.each_ref().map(Guarded::inner)
     }
 
-    /// Makes the lists or the plan buffer ready that a call needs. No number stands in both
-    /// lists.
+    /// Makes the lists, the plan buffer or the windows ready that a call needs. No number
+    /// stands in both lists.
     fn lend(&mut self, call: &Call) {
         match call {
             Call::Tick { list_lens } => {
@@ -239,6 +251,10 @@ impl World {
                 self.plan.replace(&buffer);
             }
             Call::PlanRead { plan } | Call::PlanCheck { plan } => self.plan.replace(plan),
+            Call::SetMinute { plan, windows, .. } => {
+                self.plan.replace(plan);
+                self.windows.replace(windows);
+            }
             _ => {}
         }
     }
@@ -247,6 +263,7 @@ impl World {
         let kept = self.kept.inner();
         let lists = self.lists.each_mut().map(Guarded::inner_mut);
         let plan = self.plan.inner_mut();
+        let windows = self.windows.inner();
         let table = self.table.inner_mut();
         match *call {
             Call::Open { rate, depth } => number(controller.open(table, rate, depth)),
@@ -266,6 +283,9 @@ impl World {
             Call::PlanRead { .. } => number(controller.plan_read(plan, table)),
             Call::PlanWrite { edition, .. } => number(controller.plan_write(table, edition, plan)),
             Call::PlanCheck { .. } => Reply::Number(controller.plan_check(plan)),
+            Call::SetMinute { minute, .. } => {
+                number(controller.set_minute(table, plan, windows, minute))
+            }
         }
     }
 }

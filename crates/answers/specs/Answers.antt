@@ -4,7 +4,7 @@ use mathlib.Core.List.{[], _∷_}
 use lib.IntN.{pos}
 use Rattle.definitions.specs.Refusals.{Outcome, accepted, refused}
 use Rattle.answers.specs.declared.Refusal.{Refusal}
-use Rattle.answers.specs.declared.Refusal.the-variants.{NotInOrder, OutsideLimits, NotThere, InUse, WrongNode, LevelTooLow, SharesAbove, DepthAbove, NotEmpty, InDebt, QueueFull, CountAtEnd, BufferShort, PlanWrong, PlanOutOfOrder, StatedWrong}
+use Rattle.answers.specs.declared.Refusal.the-variants.{NotInOrder, OutsideLimits, NotThere, InUse, WrongNode, LevelTooLow, SharesAbove, DepthAbove, NotEmpty, InDebt, QueueFull, CountAtEnd, BufferShort, PlanWrong, PlanOutOfOrder, StatedWrong, TimetableWrong}
 use Rattle.answers.specs.declared.Answer.{Answer}
 use Rattle.answers.specs.declared.Answer.the-variants as answer
 use Rattle.answers.specs.declared.Ticked.{Ticked}
@@ -32,6 +32,7 @@ numberOf BufferShort = 13
 numberOf PlanWrong = 14
 numberOf PlanOutOfOrder = 15
 numberOf StatedWrong = 16
+numberOf TimetableWrong = 17
 
 -- What a call tells its caller.
 unfoldable pub told : Answer → Outcome

@@ -23,6 +23,7 @@ pub enum Refusal {
     PlanWrong,
     PlanOutOfOrder,
     StatedWrong,
+    TimetableWrong,
 }
 
 // Their numbers.
@@ -58,6 +59,8 @@ impl Refusal {
     pub const PLAN_OUT_OF_ORDER: u64 = 15;
 
     pub const STATED_WRONG: u64 = 16;
+
+    pub const TIMETABLE_WRONG: u64 = 17;
 }
 
 // What a call answers: its number, 0 where it has no other, or why it is refused.
@@ -111,7 +114,8 @@ pub fn refusal_of(number: u64) -> Refusal
         Refusal::BUFFER_SHORT => Refusal::BufferShort,
         Refusal::PLAN_WRONG => Refusal::PlanWrong,
         Refusal::PLAN_OUT_OF_ORDER => Refusal::PlanOutOfOrder,
-        _ => Refusal::StatedWrong,
+        Refusal::STATED_WRONG => Refusal::StatedWrong,
+        _ => Refusal::TimetableWrong,
     }
 }
 
@@ -149,6 +153,7 @@ pub fn number_of(why: Refusal) -> u64
         Refusal::PlanWrong => Refusal::PLAN_WRONG,
         Refusal::PlanOutOfOrder => Refusal::PLAN_OUT_OF_ORDER,
         Refusal::StatedWrong => Refusal::STATED_WRONG,
+        Refusal::TimetableWrong => Refusal::TIMETABLE_WRONG,
     }
 }
 

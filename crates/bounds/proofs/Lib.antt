@@ -8,6 +8,7 @@ pub mod Join
 pub mod Leave
 pub mod ChangeShare
 pub mod ChangeRate
+pub mod SetMinute
 pub mod Request
 pub mod CallSteps
 pub mod Opened
@@ -20,3 +21,4 @@ pub mod Shown
 pub mod TickSteps
 pub mod Theorem
 pub mod Fakes
+pub mod AsCalls

@@ -8,7 +8,8 @@ use lib.ListN.{take, drop}
 use lib.IntN.{ℤ}
 use Rattle.numbers.proofs.Tests.{by-test}
 use Rattle.definitions.specs.Calls.{openRefusal, openTable, joinTable, joinAnswer, leaveTable, leaveAnswer, changeShareTable, changeShareAnswer, changeRateTable, changeRateAnswer, requestTable, requestAnswer}
-use Rattle.runs.specs.Runs.{Call, join, leave, changeShare, changeRate, request, tick, after, isTick, accepts, events, tableAfterAll}
+use Rattle.hourlaws.specs.SetMinute.{setMinuteTable, setMinuteAnswer}
+use Rattle.runs.specs.Runs.{Call, join, leave, changeShare, changeRate, setMinute, request, tick, after, isTick, accepts, events, tableAfterAll}
 use Rattle.bounds.specs.Observer.{Observer, start, observedAll}
 use Rattle.bounds.specs.Demand.{Bounds, Demand3}
 use Rattle.bounds.specs.Levels.{ByLevel}
@@ -20,18 +21,21 @@ use Rattle.bounds.proofs.Join.{join-change}
 use Rattle.bounds.proofs.Leave.{leave-change}
 use Rattle.bounds.proofs.ChangeShare.{share-change}
 use Rattle.bounds.proofs.ChangeRate.{rate-change}
+use Rattle.bounds.proofs.SetMinute.{minute-change}
 use Rattle.bounds.proofs.Request.{request-change}
 use Rattle.bounds.proofs.CallSteps.{quiet-step, refused-step}
 use Rattle.bounds.proofs.TickSteps.{tick-step}
 
 -- The laws of each accepted call: the one list of calls in these proofs.
 accepted-step : (t : List ℤ) (o : Observer) (call : Call) → Agrees t o → accepts (after t call .answer) ≡ true → Step t o call
-unfolding after isTick joinTable joinAnswer leaveTable leaveAnswer changeShareTable changeShareAnswer changeRateTable changeRateAnswer requestTable requestAnswer
+unfolding after isTick joinTable joinAnswer leaveTable leaveAnswer changeShareTable changeShareAnswer changeRateTable changeRateAnswer setMinuteTable setMinuteAnswer requestTable requestAnswer
 accepted-step t o (join node parent sort kind share depth port) a h =
     quiet-step t o (join node parent sort kind share depth port) _ _ _ refl refl h (join-change t o node parent sort kind share depth port a)
 accepted-step t o (leave node) a h = quiet-step t o (leave node) _ _ _ refl refl h (leave-change t o node a)
 accepted-step t o (changeShare node kind share) a h = quiet-step t o (changeShare node kind share) _ _ _ refl refl h (share-change t o node kind share a)
 accepted-step t o (changeRate rate) a h = quiet-step t o (changeRate rate) _ _ _ refl refl h (rate-change t o rate a)
+accepted-step t o (setMinute plan windows minute) a h =
+    quiet-step t o (setMinute plan windows minute) _ _ _ refl refl h (minute-change t o plan windows minute a)
 accepted-step t o (request client tag size) a h = quiet-step t o (request client tag size) _ _ _ refl refl h (request-change t o client tag size a)
 accepted-step t o (tick first second) a h = tick-step t o first second a h
 

@@ -3,3 +3,4 @@ pub mod Counts
 pub mod Demand
 pub mod Levels
 pub mod Fakes
+pub mod AsCalls

@@ -1,6 +1,6 @@
 -- What an observer knows from calls, answers and lists alone: the tree, the disk's rate, and for each client how many
--- requests were accepted and how many entries dispatched since its join. Document 01, "What demand 3 counts", and document 02,
--- (g): the bounds cover both lists together.
+-- requests were accepted and how many entries dispatched since its join. Document 01, "What demand 3 counts", and document 02:
+-- the bounds cover both lists together (g), and set minute gives each node a kind and a share (h).
 use Prim.Native.Nat.{ℕ, zero, suc, _+_}
 use mathlib.Core.Bool.{cond}
 use mathlib.Core.List.{List, [], _∷_, _++_}
@@ -9,9 +9,11 @@ use lib.Dec.{eqb}
 use lib.IntN.{ℤ, pos}
 use Rattle.numbers.specs.Whole.{plus}
 use Rattle.definitions.specs.Limits.{root, class, wholeShare, entryLength}
-use Rattle.definitions.specs.Tree.{Tree}
+use Rattle.definitions.specs.Tree.{Tree, treeOf, there}
 use Rattle.definitions.specs.Refusals.{Outcome, accepted, refused}
-use Rattle.runs.specs.Runs.{Call, join, leave, changeShare, changeRate, request, tick, isTick, Event}
+use Rattle.hourlaws.specs.Windows.{treeAt}
+use Rattle.hourlaws.specs.SetMinute.{planned}
+use Rattle.runs.specs.Runs.{Call, join, leave, changeShare, changeRate, setMinute, request, tick, isTick, Event}
 
 -- f, with v at k.
 unfoldable pub setAt : ℕ → ℕ → (ℕ → ℕ) → ℕ → ℕ
@@ -93,9 +95,21 @@ withShare tree k kind share =
       depth = tree .depth;
     }
 
+-- The tree with the kind and share that another tree gives to each of its nodes.
+unfoldable pub withShares : Tree → Tree → Tree
+withShares tree given =
+    record {
+      sort = tree .sort;
+      parent = tree .parent;
+      level = tree .level;
+      kind = λ k. cond (there tree k) (given .kind k) (tree .kind k);
+      share = λ k. cond (there tree k) (given .share k) (tree .share k);
+      depth = tree .depth;
+    }
+
 -- What an accepted call changes: join adds a node as given, with nothing asked and nothing sent; leave takes it out;
--- change share gives it kind and share; change rate gives the root its rate; a request is one more asked; a tick sends
--- its entries.
+-- change share gives it kind and share; change rate gives the root its rate; set minute gives each node the plan's kind and its share
+-- at the minute; a request is one more asked; a tick sends its entries.
 unfoldable pub afterAccepted : Observer → Call → List Entry → Observer
 afterAccepted o (join node parent sort kind share depth port) list =
     record {
@@ -109,6 +123,8 @@ afterAccepted o (leave node) list =
 afterAccepted o (changeShare node kind share) list =
     record { tree = withShare (o .tree) (plus node) (plus kind) (plus share); disk = o .disk; asked = o .asked; sent = o .sent }
 afterAccepted o (changeRate rate) list = record { tree = o .tree; disk = plus rate; asked = o .asked; sent = o .sent }
+afterAccepted o (setMinute plan windows minute) list =
+    record { tree = withShares (o .tree) (treeAt (treeOf (planned plan)) windows (plus minute)); disk = o .disk; asked = o .asked; sent = o .sent }
 afterAccepted o (request client tag size) list =
     record { tree = o .tree; disk = o .disk; asked = setAt (plus client) (suc (o .asked (plus client))) (o .asked); sent = o .sent }
 afterAccepted o (tick first second) list =

@@ -1,4 +1,4 @@
-// The calls of document 01 for hosts in C or Rust: one exported function for each. Numbers are i64, slices are pointer and
+// The calls of documents 01 and 02 for hosts in C or Rust: one exported function for each. Numbers are i64, slices are pointer and
 // length. The answer is 0 or more where the call is accepted, else the negated number of the refusal.
 ghost use mathlib.Core.Path.{_≡_};
 ghost use lib.IntN.{pos, _-ℤ_};
@@ -7,6 +7,7 @@ ghost use Rattle.definitions.specs.Calls.{openAnswer, openTable, joinAnswer, jo
 ghost use Rattle.definitions.specs.Tick.{tickAnswer, tickTable, tickFirst, tickSecond};
 ghost use Rattle.planlaws.specs.Reading.{planAnswer, planTable};
 ghost use Rattle.planlaws.specs.Writing.{writeAnswer, writeBuffer};
+ghost use Rattle.hourlaws.specs.SetMinute.{setMinuteAnswer, setMinuteTable};
 ghost use Rattle.cabinet.specs.Exported.{exported, exportedBare, shown};
 use answers::Answer;
 use answers::Compared;
@@ -178,4 +179,18 @@ pub extern "C" fn hds_plan_write(table: &[i64], edition: i64, buffer: &mut [u8])
     ensures buffer { λ _. ⌜ now (buffer .exit) ≡ writeBuffer (now (table .entry)) edition (now (buffer .entry)) ⌝ }
 {
     answer_number(writing::write(table, edition, buffer))
+}
+
+// Gives every node its kind and share at a minute of the week: 0.
+#[no_mangle]
+pub extern "C" fn hds_set_minute(
+    table: &mut [i64],
+    plan: &[u8],
+    windows: &[i64],
+    minute: i64,
+) -> i64
+    ensures answer { λ r. ⌜ r ≡ exported (setMinuteAnswer (now (table .entry)) (now (plan .entry)) (now (windows .entry)) minute) ⌝ }
+    ensures table { λ _. ⌜ now (table .exit) ≡ setMinuteTable (now (table .entry)) (now (plan .entry)) (now (windows .entry)) minute ⌝ }
+{
+    answer_number(setting::set_minute(table, plan, windows, minute))
 }

@@ -4,21 +4,13 @@ ghost use Prim.Native.Nat.{_<_};
 ghost use lib.ListN.{length};
 ghost use Rattle.numbers.specs.Whole.{sameℤ};
 ghost use Rattle.numbers.specs.Below.{allBelow};
-ghost use Rattle.definitions.specs.Limits.{tableLength, recordLength, nodes, rateAt};
+ghost use Rattle.definitions.specs.Limits.{tableLength, nodes, rateAt};
 ghost use Rattle.definitions.specs.Places.{place};
 ghost use Rattle.answers.specs.Answers.{toldCompared};
 ghost use Rattle.definitions.specs.Calls.{sameTree, sameAnswer};
 use answers::Compared;
 use answers::Refusal;
 use table::Table;
-
-// Whether place p of node k is the same in both.
-fn same_place(first: &[i64], second: &[i64], k: usize, p: usize) -> bool
-    requires { ⌜ (length (now first) ≡ tableLength) × (length (now second) ≡ tableLength) × (k < nodes) × (p < recordLength) ⌝ }
-    ensures { λ r. ⌜ r ≡ sameℤ (place (now (first .entry)) k p) (place (now (second .entry)) k p) ⌝ }
-{
-    numbers::equal(Table::get(first, k, p), Table::get(second, k, p))
-}
 
 // Whether sort and places 1 to 5 of node k are the same in both.
 fn same_node(first: &[i64], second: &[i64], k: usize) -> bool
@@ -28,7 +20,7 @@ fn same_node(first: &[i64], second: &[i64], k: usize) -> bool
     let mut same = true;
     let mut p: usize = 0;
     while p < Table::RATE {
-        same = same & same_place(first, second, k, p);
+        same = same & Table::same_place(first, second, k, p);
         p += 1;
     }
     same
@@ -53,7 +45,7 @@ fn same_tree(first: &[i64], second: &[i64]) -> bool
     ensures { λ r. ⌜ r ≡ sameTree (now (first .entry)) (now (second .entry)) ⌝ }
 {
     let nodes = same_nodes(first, second);
-    let rates = same_place(first, second, 0, Table::RATE);
+    let rates = Table::same_place(first, second, 0, Table::RATE);
     nodes & rates
 }
 

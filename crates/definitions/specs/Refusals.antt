@@ -7,7 +7,7 @@ use lib.IntN.{ℤ}
 
 -- The greatest number of a cause.
 abbrev pub lastRefusal : ℕ
-lastRefusal = 16
+lastRefusal = 17
 
 -- A cause: its number, and whether it is there.
 pub data Cause : Type 0 where

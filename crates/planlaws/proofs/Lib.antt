@@ -9,5 +9,4 @@ pub mod Planned
 pub mod ReadWritten
 pub mod WrittenRead
 pub mod RoundTrips
-pub mod AsCalls
 pub mod Example

@@ -30,7 +30,7 @@ fn open_plan(table: &mut [i64], s: &[u8], edition: Edition) -> u64
 }
 
 // Makes the table of a plan; the number of the refusal, or 0. Refused, the table is of no use.
-fn build(table: &mut [i64], s: &[u8]) -> u64
+pub fn build(table: &mut [i64], s: &[u8]) -> u64
     requires { ⌜ length (now table) ≡ tableLength ⌝ }
     ensures number { λ r. ⌜ r ≡ planRefusal (now (table .entry)) (now (s .entry)) ⌝ }
     ensures small { λ r. ⌜ r ≤ lastRefusal ⌝ }

@@ -10,8 +10,9 @@ use Rattle.numbers.proofs.Tests.{true-false}
 use Rattle.definitions.specs.Refusals.{outcome, kept}
 use Rattle.definitions.specs.Calls.{joinTable, joinAnswer, leaveTable, leaveAnswer, changeShareTable, changeShareAnswer, changeRateTable, changeRateAnswer, requestTable, requestAnswer}
 use Rattle.definitions.specs.Tick.{tickTable, tickAnswer}
+use Rattle.hourlaws.specs.SetMinute.{setMinuteTable, setMinuteAnswer}
 use Rattle.definitions.proofs.Refusals.{kept-old, outcome-accepted, outcome-refused}
-use Rattle.runs.specs.Runs.{Call, join, leave, changeShare, changeRate, request, tick, after, accepts}
+use Rattle.runs.specs.Runs.{Call, join, leave, changeShare, changeRate, setMinute, request, tick, after, accepts}
 
 module _ (refusal : ℕ) (values : List ℤ) where
   -- An answer that accepts has no refusal.
@@ -28,10 +29,11 @@ module _ (refusal : ℕ) (values : List ℤ) where
   kept-refused new old h = kept-old refusal new old (λ e. true-false (ap accepts (outcome-accepted refusal values e)) h)
 
 pub refused-keeps : (t : List ℤ) (call : Call) → accepts (after t call .answer) ≡ false → after t call .table ≡ t
-unfolding after joinTable joinAnswer leaveTable leaveAnswer changeShareTable changeShareAnswer changeRateTable changeRateAnswer requestTable requestAnswer tickTable tickAnswer
+unfolding after joinTable joinAnswer leaveTable leaveAnswer changeShareTable changeShareAnswer changeRateTable changeRateAnswer setMinuteTable setMinuteAnswer requestTable requestAnswer tickTable tickAnswer
 refused-keeps t (join node parent sort kind share depth port) h = kept-refused _ _ _ t h
 refused-keeps t (leave node) h = kept-refused _ _ _ t h
 refused-keeps t (changeShare node kind share) h = kept-refused _ _ _ t h
 refused-keeps t (changeRate rate) h = kept-refused _ _ _ t h
+refused-keeps t (setMinute plan windows minute) h = kept-refused _ _ _ t h
 refused-keeps t (request client tag size) h = kept-refused _ _ _ t h
 refused-keeps t (tick first second) h = kept-refused _ _ _ t h

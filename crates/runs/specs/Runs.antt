@@ -1,4 +1,5 @@
--- Lists of calls on a table: what each call leaves, and what its caller sees of it. Document 01, "What demand 3 counts".
+-- Lists of calls on a table: what each call leaves, and what its caller sees of it. Document 01, "What demand 3 counts", and
+-- document 02, (h): set minute is one of them.
 -- Answers, tables and lists are those of the definitions that the calls' contracts cite.
 use Prim.Native.Nat.{ℕ}
 use mathlib.Core.Bool.{Bool, true, false}
@@ -9,6 +10,7 @@ use Rattle.numbers.specs.Whole.{plus}
 use Rattle.definitions.specs.Refusals.{Outcome, accepted, refused}
 use Rattle.definitions.specs.Calls.{joinTable, joinAnswer, leaveTable, leaveAnswer, changeShareTable, changeShareAnswer, changeRateTable, changeRateAnswer, requestTable, requestAnswer}
 use Rattle.definitions.specs.Tick.{tickTable, tickAnswer, tickFirst, tickSecond}
+use Rattle.hourlaws.specs.SetMinute.{setMinuteTable, setMinuteAnswer}
 
 -- A call with any arguments and, for a tick, any dispatch lists.
 pub data Call : Type 0 where
@@ -20,6 +22,8 @@ pub data Call : Type 0 where
   changeShare : (node kind share : ℤ) → Call
   -- `accounts::change_rate` ensures changeRateTable and changeRateAnswer.
   changeRate : (rate : ℤ) → Call
+  -- `setting::set_minute` ensures setMinuteTable and setMinuteAnswer.
+  setMinute : (plan : List ℕ) (windows : List ℤ) (minute : ℤ) → Call
   -- `accounts::request` ensures requestTable and requestAnswer.
   request : (client tag size : ℤ) → Call
   -- `accounts::tick` ensures tickTable, tickFirst, tickSecond and tickAnswer.
@@ -43,6 +47,7 @@ after t (join node parent sort kind share depth port) =
 after t (leave node) = withoutLists (leaveTable t node) (leaveAnswer t node)
 after t (changeShare node kind share) = withoutLists (changeShareTable t node kind share) (changeShareAnswer t node kind share)
 after t (changeRate rate) = withoutLists (changeRateTable t rate) (changeRateAnswer t rate)
+after t (setMinute plan windows minute) = withoutLists (setMinuteTable t plan windows minute) (setMinuteAnswer t plan windows minute)
 after t (request client tag size) = withoutLists (requestTable t client tag size) (requestAnswer t client tag size)
 after t (tick first second) =
     record {
@@ -58,6 +63,7 @@ isTick (join node parent sort kind share depth port) = false
 isTick (leave node) = false
 isTick (changeShare node kind share) = false
 isTick (changeRate rate) = false
+isTick (setMinute plan windows minute) = false
 isTick (request client tag size) = false
 isTick (tick first second) = true
 
@@ -67,6 +73,7 @@ leaves c (join node parent sort kind share depth port) = false
 leaves c (leave node) = eqb (plus node) c
 leaves c (changeShare node kind share) = false
 leaves c (changeRate rate) = false
+leaves c (setMinute plan windows minute) = false
 leaves c (request client tag size) = false
 leaves c (tick first second) = false
 

@@ -47,7 +47,7 @@ zeros-at [] h i = refl
 zeros-at (z ∷ t) h zero = same-eq z (pos 0) (and-left (isZero z) (zeros t) h)
 zeros-at (z ∷ t) h (suc i) = zeros-at t (and-right (isZero z) (zeros t) h) i
 
-far-place : (t : List ℤ) (k p : ℕ) → few t ≡ true → fewNodes ≤ k → place t k p ≡ pos 0
+pub far-place : (t : List ℤ) (k p : ℕ) → few t ≡ true → fewNodes ≤ k → place t k p ≡ pos 0
 unfolding few place
 far-place t k p h far =
     let e : headerLength + recordLength * k + p ≡ nearLength + (recordLength * (k - fewNodes) + p) = omega arith in
@@ -120,7 +120,7 @@ tree-is t =
 
 -- A test that holds from c on need not look there, steps that change nothing from c on need not be taken there, and zeros from c
 -- on need not be added.
-all-from : (c : ℕ) (p : ℕ → Bool) → ((k : ℕ) → c ≤ k → p k ≡ true) → (n : ℕ) → c ≤ n → allBelow n p ≡ allBelow c p
+pub all-from : (c : ℕ) (p : ℕ → Bool) → ((k : ℕ) → c ≤ k → p k ≡ true) → (n : ℕ) → c ≤ n → allBelow n p ≡ allBelow c p
 all-from c p h zero l = ap (λ (j : ℕ). allBelow j p) (omega arith)
 all-from c p h (suc n) l =
     below-cases (suc n) c (omega arith)
@@ -131,14 +131,14 @@ all-from c p h (suc n) l =
     ∙ all-from c p h n (omega arith))
     (λ e. ap (λ (j : ℕ). allBelow j p) (sym e))
 
-for-from : {A : Type 0} (c : ℕ) (f : ℕ → A → A) (a : A) → ((k : ℕ) → c ≤ k → f k (forBelow c f a) ≡ forBelow c f a) → (n : ℕ) → c ≤ n → forBelow n f a ≡ forBelow c f a
+pub for-from : {A : Type 0} (c : ℕ) (f : ℕ → A → A) (a : A) → ((k : ℕ) → c ≤ k → f k (forBelow c f a) ≡ forBelow c f a) → (n : ℕ) → c ≤ n → forBelow n f a ≡ forBelow c f a
 for-from c f a h zero l = ap (λ (j : ℕ). forBelow j f a) (omega arith)
 for-from c f a h (suc n) l =
     below-cases (suc n) c (omega arith)
     (λ m. for-suc n f a ∙ ap (f n) (for-from c f a h n (omega arith)) ∙ h n (omega arith))
     (λ e. ap (λ (j : ℕ). forBelow j f a) (sym e))
 
-sum-from : (c : ℕ) (f : ℕ → ℕ) → ((k : ℕ) → c ≤ k → f k ≡ 0) → (n : ℕ) → c ≤ n → sumBelow n f ≡ sumBelow c f
+pub sum-from : (c : ℕ) (f : ℕ → ℕ) → ((k : ℕ) → c ≤ k → f k ≡ 0) → (n : ℕ) → c ≤ n → sumBelow n f ≡ sumBelow c f
 sum-from c f h zero l = ap (λ (j : ℕ). sumBelow j f) (omega arith)
 sum-from c f h (suc n) l =
     below-cases (suc n) c (omega arith)
@@ -149,16 +149,16 @@ sum-from c f h (suc n) l =
 unfoldable pub nearNodes : List ℤ → ℕ
 nearNodes t = cond (few t) fewNodes nodes
 
-near-cases : (t : List ℤ) (P : ℕ → Type 0) → (few t ≡ true → P fewNodes) → P nodes → P (nearNodes t)
+pub up-to : (b : Bool) (P : ℕ → Type 0) → (b ≡ true → P fewNodes) → P nodes → P (cond b fewNodes nodes)
+up-to true P f p = f refl
+up-to false P f p = p
+
+pub near-cases : (t : List ℤ) (P : ℕ → Type 0) → (few t ≡ true → P fewNodes) → P nodes → P (nearNodes t)
 unfolding nearNodes
-near-cases t P f p = cases (few t) f
-  where
-    cases : (b : Bool) → (b ≡ true → P fewNodes) → P (cond b fewNodes nodes)
-    cases true f = f refl
-    cases false f = p
+near-cases t = up-to (few t)
 
 -- A sum over the children of a class, and tests of each node, of each class and of each client: a far node is of sort 0.
-far-sort : (t : List ℤ) (k : ℕ) → few t ≡ true → fewNodes ≤ k → treeNear t .sort k ≡ unused
+pub far-sort : (t : List ℤ) (k : ℕ) → few t ≡ true → fewNodes ≤ k → treeNear t .sort k ≡ unused
 unfolding treeNear plus
 far-sort t k h far = rw (sym (place-is t k sortAt) ∙ far-place t k sortAt h far)
 

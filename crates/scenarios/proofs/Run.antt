@@ -1,7 +1,7 @@
 -- A scenario passes where the short forms of its steps, computed in turn on the real table of 2,568 numbers, say so.
 use Prim.Native.Nat.{ℕ, zero, suc}
-use mathlib.Core.Path.{_≡_, refl, ap, _∙_}
-use mathlib.Core.Bool.{Bool, true, false, _&&_}
+use mathlib.Core.Path.{_≡_, refl, sym, ap, _∙_}
+use mathlib.Core.Bool.{Bool, true, false, _&&_, true≢false}
 use mathlib.Core.List.{List, [], _∷_, map}
 use lib.ListN.{getD}
 use lib.Dec.{T}
@@ -19,32 +19,42 @@ use Rattle.definitions.specs.Order.{isZero, headerInOrder, rootInOrder, parentI
 use Rattle.definitions.specs.Refusals.{first, outcome, kept}
 use Rattle.definitions.specs.Calls.{blank, opened, openLimits, openRefusal, openTable, openAnswer, joined, joinLimits, cleared, reshared, changeShareLimits, requested, requestLimits}
 use Rattle.definitions.specs.Tick.{grains, enough, supplierFrom, supply, isFound, nodeFound, stepsFound, supplier, stepsAbove, lower, charge, takenOut, dispatched, ready, served, supplied, better, goesBefore, choice, ofPort, listed}
+use Rattle.planformat.specs.Bytes.{byteAt, le2, le4}
+use Rattle.planformat.specs.Kinds.{sortOf, shareKindOf}
+use Rattle.planformat.specs.Format.{startOf, shareLength, lastKind, editionIn, countIn, shareFrom, entryIn, planIn, entryFormed, formed}
+use Rattle.planlaws.specs.Reading.{openedFor, refusing, standing, rising}
+use Rattle.hourlaws.specs.Windows.{wholeWindows, windowNumber, covers, valueBy, shareIn, treeAt, windowFormed, overlap, apart, timetable, shareFits, sharesFit}
+use Rattle.hourlaws.specs.SetMinute.{sameNode}
 use Rattle.scenarios.specs.Scenario.{Scenario, firstLent, secondLent, entries, keptAfter, after, sevens, Passes}
 use Rattle.scenarios.proofs.Judge.{sameList, sameOutcome, holds, run, run-hold}
 use Rattle.scenarios.proofs.Near.{zeros, few, recordOn, placeNear, putNear, treeNear, nearNodes, sumNear, eachNear, unusedAt, unusedNear, nextNear, lentNear}
-use Rattle.scenarios.proofs.Short.{by, with, each, shortChildRate, rateNear, ratesNear, shortLimits, shortSpare, shortClass, shortRate, shortChild, shortBalance, shortArrivals, shortStated, shortInOrder, shortJoinRefusal, shortLeaveRefusal, shortChangeShareRefusal, shortChangeRateRefusal, shortRequestRefusal, shortLookRefusal, shortSameRefusal, shortRates, shortLost, shortWaiting, shortAllWaiting, shortPorts, shortPortWaiting, shortTickRefusal, shortGrown, shortServed, shortCut, shortStepTwo, shortStepThree, shortTicked, shortStep}
+use Rattle.scenarios.proofs.Week.{atMinute, atTurns, minuteSum, parentsNear, nearClasses, withinNear, weekNear, windowsNear, nearShares, sharesAt, resharedNear, nearBoth, nodesNear}
+use Rattle.scenarios.proofs.Short.{Ordered, by, with, byIf, withIf, each, shortChildRate, rateNear, ratesNear, shortLimits, shortSpare, shortClass, shortRate, shortChild, shortBalance, shortArrivals, shortStated, shortInOrder, orderNear, shortJoinRefusal, shortLeaveRefusal, shortChangeShareRefusal, shortChangeRateRefusal, shortRequestRefusal, shortLookRefusal, shortSameRefusal, shortRates, shortLost, shortWaiting, shortAllWaiting, shortPorts, shortPortWaiting, shortTickRefusal, shortGrown, shortServed, shortCut, shortStepTwo, shortStepThree, shortTicked}
+use Rattle.scenarios.proofs.Plan.{shortEntry, nextEntry, entriesNear, opens, shortEntries, shortPlan, shortTimetableRefusal, shortSetMinuteRefusal, shortReshared, shortMinuteTable}
+use Rattle.scenarios.proofs.Step.{Known, sameBytes, once, readAgain, nothing, shortStep, knownAfter, ordered-after}
 
 -- A scenario run by the short forms of its steps. The line under the signature names what antt unfolds to compute it.
-unfoldable pub shortRun : Scenario → (kept t : List ℤ) → Bool
-unfolding plus sameℤ withinℤ every sumBelow sumℤBelow allBelow forBelow shareLimit portLimit place put header putHeader count tag size arrival treeOf there isClass isClient isFixed isStated childOf childless countIf testIf sumUnder eachNode eachClass eachClient kindShare kindSum fixedRate leftRate weightedRate dividedRate unstatedRate childRate rateAtLevel rateIn writeRates isZero headerInOrder rootInOrder parentInOrder cost sizeWithin requestInOrder queueInOrder differsAt statedPlaced first outcome kept blank opened openLimits openRefusal openTable openAnswer joined joinLimits cleared reshared changeShareLimits requested requestLimits grains enough supplierFrom supply isFound nodeFound stepsFound supplier stepsAbove lower charge takenOut dispatched ready served supplied better goesBefore choice ofPort listed firstLent secondLent entries sameList sameOutcome zeros few recordOn placeNear putNear treeNear nearNodes sumNear eachNear unusedAt unusedNear nextNear lentNear by with each shortChildRate rateNear ratesNear shortLimits shortSpare shortClass shortRate shortChild shortBalance shortArrivals shortStated shortInOrder shortJoinRefusal shortLeaveRefusal shortChangeShareRefusal shortChangeRateRefusal shortRequestRefusal shortLookRefusal shortSameRefusal shortRates shortLost shortWaiting shortAllWaiting shortPorts shortPortWaiting shortTickRefusal shortGrown shortServed shortCut shortStepTwo shortStepThree shortTicked shortStep
-shortRun [] = λ kept t. true
-shortRun (step ∷ steps) = λ kept t. shortStep step (shortRun steps) kept t .value
+unfoldable pub shortRun : Scenario → (kept t : List ℤ) → Known → Bool
+unfolding plus sameℤ withinℤ every sumBelow sumℤBelow allBelow forBelow shareLimit portLimit place put header putHeader count tag size arrival treeOf there isClass isClient isFixed isStated childOf childless countIf testIf sumUnder eachNode eachClass eachClient kindShare kindSum fixedRate leftRate weightedRate dividedRate unstatedRate childRate rateAtLevel rateIn writeRates isZero headerInOrder rootInOrder parentInOrder cost sizeWithin requestInOrder queueInOrder differsAt statedPlaced first outcome kept blank opened openLimits openRefusal openTable openAnswer joined joinLimits cleared reshared changeShareLimits requested requestLimits grains enough supplierFrom supply isFound nodeFound stepsFound supplier stepsAbove lower charge takenOut dispatched ready served supplied better goesBefore choice ofPort listed firstLent secondLent entries sameList sameOutcome byteAt le2 le4 sortOf shareKindOf startOf shareLength lastKind editionIn countIn shareFrom entryIn planIn entryFormed formed openedFor refusing standing rising wholeWindows windowNumber covers valueBy shareIn treeAt windowFormed overlap apart timetable shareFits sharesFit sameNode zeros few recordOn placeNear putNear treeNear nearNodes sumNear eachNear unusedAt unusedNear nextNear lentNear atMinute atTurns minuteSum parentsNear nearClasses withinNear weekNear windowsNear nearShares sharesAt resharedNear nearBoth nodesNear by with byIf withIf each shortChildRate rateNear ratesNear shortLimits shortSpare shortClass shortRate shortChild shortBalance shortArrivals shortStated shortInOrder orderNear shortJoinRefusal shortLeaveRefusal shortChangeShareRefusal shortChangeRateRefusal shortRequestRefusal shortLookRefusal shortSameRefusal shortRates shortLost shortWaiting shortAllWaiting shortPorts shortPortWaiting shortTickRefusal shortGrown shortServed shortCut shortStepTwo shortStepThree shortTicked shortEntry nextEntry entriesNear opens shortEntries shortPlan shortTimetableRefusal shortSetMinuteRefusal shortReshared shortMinuteTable sameBytes once readAgain nothing shortStep
+shortRun [] = λ kept t known. true
+shortRun (step ∷ steps) = λ kept t known. shortStep step (shortRun steps) kept t known .value
 
-run-is : (steps : Scenario) (kept t : List ℤ) → run steps kept t ≡ shortRun steps kept t
+run-is : (steps : Scenario) (kept t : List ℤ) (known : Known) → Ordered t (known .ordered) → run steps kept t ≡ shortRun steps kept t known
 unfolding run shortRun
-run-is [] kept t = refl
-run-is (step ∷ steps) kept t =
-    ap (λ (b : Bool). holds step kept t && b) (run-is steps (keptAfter step kept t) (after step t))
-    ∙ shortStep step (shortRun steps) kept t .same
+run-is [] kept t known order = refl
+run-is (step ∷ steps) kept t known order =
+    ap (λ (b : Bool). holds step kept t && b)
+    (run-is steps (keptAfter step kept t) (after step t) (knownAfter step t known) (ordered-after step t known order))
+    ∙ shortStep step (shortRun steps) kept t known .same order
 
 -- The test of a scenario.
 unfoldable pub passes : Scenario → Bool
 unfolding shortRun sevens
-passes steps = shortRun steps sevens sevens
+passes steps = shortRun steps sevens sevens nothing
 
 passed : (steps : Scenario) → passes steps ≡ true → Passes steps
-unfolding Passes passes
-passed steps h = run-hold steps sevens sevens (run-is steps sevens sevens ∙ h)
+unfolding Passes passes nothing
+passed steps h = run-hold steps sevens sevens (run-is steps sevens sevens nothing (λ e. absurd (true≢false (sym e))) ∙ h)
 
 -- Whether every one of these scenarios passes.
 unfoldable pub allPass : List Scenario → Bool

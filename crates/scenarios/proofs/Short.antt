@@ -2,17 +2,14 @@
 -- the short forms found before, and what comes out is the value that antt computes.
 use Prim.Native.Nat.{ℕ, zero, suc}
 use mathlib.Core.Path.{_≡_, refl, ap, _∙_, fun-ext}
-use mathlib.Core.Bool.{Bool, _&&_}
+use mathlib.Core.Bool.{Bool, true, false}
 use mathlib.Core.List.{List}
 use lib.IntN.{ℤ}
 use Rattle.definitions.specs.Places.{rate, balance, waiting, port, depthGrains}
-use Rattle.definitions.specs.Rates.{kindSum, dividedRate, childRate, rateAtLevel, rateIn, renewed}
+use Rattle.definitions.specs.Rates.{kindSum, dividedRate, childRate, rateAtLevel, rateIn}
 use Rattle.definitions.specs.Order.{limitsKept, spareInOrder, classInOrder, rateInOrder, childBalance, childBalances, balanceInOrder, arrivalsDiffer, statedInOrder, inOrder}
-use Rattle.definitions.specs.Calls.{sharesAbove, depthsAbove, statedWrong, sumCauses, joinRefusal, joinTable, joinAnswer, leaveRefusal, leaveTable, leaveAnswer, changeShareRefusal, changeShareTable, changeShareAnswer, changeRateRefusal, changeRateTable, changeRateAnswer, requestRefusal, requestTable, requestAnswer, lostGrains, lookRefusal, lookAnswer, sameTree, sameRefusal, sameAnswer}
-use Rattle.definitions.specs.Tick.{State, grown, servedAll, cut, allWaiting, stepTwo, stepThree, ticked, portEntries, portCount, portWaiting, listShort, tickRefusal, tickTable, tickFirst, tickSecond, tickAnswer}
-use Rattle.runs.specs.Runs.{join, leave, changeShare, changeRate, request, tick, after as afterCall}
-use Rattle.scenarios.specs.Scenario.{made, openℤ, lookℤ, same, Step, _gives_, _answers_leaving_and_, keep, fits, spoils, firstLent, secondLent, answer, called, changed, after, keptAfter}
-use Rattle.scenarios.proofs.Judge.{holds}
+use Rattle.definitions.specs.Calls.{sharesAbove, depthsAbove, statedWrong, sumCauses, joinRefusal, leaveRefusal, changeShareRefusal, changeRateRefusal, requestRefusal, lostGrains, lookRefusal, sameRefusal}
+use Rattle.definitions.specs.Tick.{State, grown, servedAll, cut, allWaiting, stepTwo, stepThree, ticked, portWaiting, listShort, tickRefusal}
 use Rattle.scenarios.proofs.Near.{treeNear, place-is, put-is, tree-is, sum-is, nodes-are, classes-are, clients-are, unused-is, lent-is}
 
 -- A short form of x: a value that is equal to it.
@@ -24,9 +21,20 @@ pub record Short {A : Type 0} (x : A) : Type 0 where
 unfoldable pub by : {A : Type 0} {x v : A} → ((y : A) → y ≡ x → y ≡ v) → Short x
 by {x = x} {v = v} f = record { value = v; same = f x refl }
 
--- A short form that uses the value of another, which is computed once.
-unfoldable pub with : {A B : Type 0} {x : A} {y : B} → Short x → ((a : A) → x ≡ a → Short y) → Short y
+-- What uses the value of a short form, which is computed once.
+unfoldable pub with : {A B : Type 0} {x : A} → Short x → ((a : A) → x ≡ a → B) → B
 with s f = f (s .value) (s .same)
+
+-- A short form of x where a fact is given: the value is equal to x there. The fact is not needed to compute the value.
+pub record ShortIf (Fact : Type 0) {A : Type 0} (x : A) : Type 0 where
+  pub value : A
+  pub same : Fact → x ≡ value
+
+unfoldable pub byIf : {Fact A : Type 0} {x v : A} → (Fact → (y : A) → y ≡ x → y ≡ v) → ShortIf Fact x
+byIf {x = x} {v = v} f = record { value = v; same = λ fact. f fact x refl }
+
+unfoldable pub withIf : {Fact A B : Type 0} {x : A} {y : B} → ShortIf Fact x → ((a : A) → ShortIf (Fact × (x ≡ a)) y) → ShortIf Fact y
+withIf s f = record { value = f (s .value) .value; same = λ fact. f (s .value) .same (fact, s .same fact) }
 
 -- Short forms of what a function gives are one of the function, and an equation at each argument.
 unfoldable pub each : {A B : Type 0} {f : A → B} → ((a : A) → Short (f a)) → Short f
@@ -101,34 +109,46 @@ shortInOrder t =
     (λ y e.
     simp (unused-is, tree-is, nodes-are, classes-are, clients-are, is shortLimits, is shortSpare, is shortClass, is shortRate, is shortBalance, is shortArrivals, is shortStated) at e)
 
+-- In order, where a number says whether the table is known to be: then nothing is computed.
+abbrev pub Ordered : List ℤ → Bool → Type 0
+Ordered t known = known ≡ true → inOrder t ≡ true
+
+unfoldable pub orderNear : List ℤ → Bool → Bool
+orderNear t known = elim known [ true ↦ true | false ↦ shortInOrder t .value ]
+
+pub order-is : (t : List ℤ) (known : Bool) → Ordered t known → inOrder t ≡ orderNear t known
+unfolding orderNear
+order-is t true h = h refl
+order-is t false h = shortInOrder t .same
+
 -- The refusals.
-unfoldable pub shortJoinRefusal : (t : List ℤ) (node parent sort kind share depth port : ℤ) → Short (joinRefusal t node parent sort kind share depth port)
+unfoldable pub shortJoinRefusal : (t : List ℤ) (known : Bool) (node parent sort kind share depth port : ℤ) → ShortIf (Ordered t known) (joinRefusal t node parent sort kind share depth port)
 unfolding joinRefusal sumCauses sharesAbove depthsAbove statedWrong kindSum
-shortJoinRefusal t node parent sort kind share depth port = by (λ y e. simp (is shortInOrder, is shortStated, tree-is, sum-is) at e)
+shortJoinRefusal t known node parent sort kind share depth port = byIf (λ h y e. simp (order-is t known h, is shortStated, tree-is, sum-is) at e)
 
-unfoldable pub shortLeaveRefusal : (t : List ℤ) (node : ℤ) → Short (leaveRefusal t node)
+unfoldable pub shortLeaveRefusal : (t : List ℤ) (known : Bool) (node : ℤ) → ShortIf (Ordered t known) (leaveRefusal t node)
 unfolding leaveRefusal
-shortLeaveRefusal t node = by (λ y e. simp (is shortInOrder, tree-is) at e)
+shortLeaveRefusal t known node = byIf (λ h y e. simp (order-is t known h, tree-is) at e)
 
-unfoldable pub shortChangeShareRefusal : (t : List ℤ) (node kind share : ℤ) → Short (changeShareRefusal t node kind share)
+unfoldable pub shortChangeShareRefusal : (t : List ℤ) (known : Bool) (node kind share : ℤ) → ShortIf (Ordered t known) (changeShareRefusal t node kind share)
 unfolding changeShareRefusal sharesAbove statedWrong kindSum
-shortChangeShareRefusal t node kind share = by (λ y e. simp (is shortInOrder, is shortStated, tree-is, sum-is) at e)
+shortChangeShareRefusal t known node kind share = byIf (λ h y e. simp (order-is t known h, is shortStated, tree-is, sum-is) at e)
 
-unfoldable pub shortChangeRateRefusal : (t : List ℤ) (rate : ℤ) → Short (changeRateRefusal t rate)
+unfoldable pub shortChangeRateRefusal : (t : List ℤ) (known : Bool) (rate : ℤ) → ShortIf (Ordered t known) (changeRateRefusal t rate)
 unfolding changeRateRefusal statedWrong
-shortChangeRateRefusal t rate = by (λ y e. simp (is shortInOrder, is shortStated) at e)
+shortChangeRateRefusal t known rate = byIf (λ h y e. simp (order-is t known h, is shortStated) at e)
 
 unfoldable pub shortSameRefusal : (a b : List ℤ) → Short (sameRefusal a b)
 unfolding sameRefusal
 shortSameRefusal a b = by (λ y e. simp (is shortInOrder) at e)
 
-unfoldable pub shortRequestRefusal : (t : List ℤ) (node tag size : ℤ) → Short (requestRefusal t node tag size)
+unfoldable pub shortRequestRefusal : (t : List ℤ) (known : Bool) (node tag size : ℤ) → ShortIf (Ordered t known) (requestRefusal t node tag size)
 unfolding requestRefusal
-shortRequestRefusal t node tag size = by (λ y e. simp (is shortInOrder) at e)
+shortRequestRefusal t known node tag size = byIf (λ h y e. simp (order-is t known h) at e)
 
-unfoldable pub shortLookRefusal : (t : List ℤ) (node : ℤ) → Short (lookRefusal t node)
+unfoldable pub shortLookRefusal : (t : List ℤ) (known : Bool) (node : ℤ) → ShortIf (Ordered t known) (lookRefusal t node)
 unfolding lookRefusal
-shortLookRefusal t node = by (λ y e. simp (is shortInOrder) at e)
+shortLookRefusal t known node = byIf (λ h y e. simp (order-is t known h) at e)
 
 -- What look shows.
 unfoldable pub shortRates : (t : List ℤ) → Short (rate t)
@@ -155,9 +175,9 @@ unfoldable pub shortPortWaiting : (t : List ℤ) (p : ℕ) → Short (portWaitin
 unfolding portWaiting
 shortPortWaiting t p = by (λ y e. simp (is shortPorts, is shortWaiting) at e)
 
-unfoldable pub shortTickRefusal : (t first second : List ℤ) → Short (tickRefusal t first second)
+unfoldable pub shortTickRefusal : (t : List ℤ) (known : Bool) (list₀ list₁ : List ℤ) → ShortIf (Ordered t known) (tickRefusal t list₀ list₁)
 unfolding tickRefusal listShort
-shortTickRefusal t first second = by (λ y e. simp (is shortInOrder, is (shortPortWaiting t)) at e)
+shortTickRefusal t known list₀ list₁ = byIf (λ h y e. simp (order-is t known h, is (shortPortWaiting t)) at e)
 
 -- The steps of tick.
 unfoldable pub shortGrown : (t : List ℤ) → Short (grown t)
@@ -183,26 +203,3 @@ shortStepThree t = with (shortStepTwo t) (λ st h. by (λ y e. simp (h, is short
 unfoldable pub shortTicked : (t : List ℤ) → Short (ticked t)
 unfolding ticked
 shortTicked t = with (shortStepThree t) (λ st h. by (λ y e. simp (h, is shortAllWaiting, lent-is) at e))
-
--- A step, and a test of the tables after it. The refusal, and what a tick does, are computed once for both.
-unfoldable pub shortStep : (step : Step) (rest : (kept t : List ℤ) → Bool) (kept t : List ℤ) → Short (holds step kept t && rest (keptAfter step kept t) (after step t))
-unfolding holds after keptAfter answer called afterCall changed joinTable joinAnswer leaveTable leaveAnswer changeShareTable changeShareAnswer changeRateTable changeRateAnswer requestTable requestAnswer lookAnswer sameTree sameAnswer tickTable tickFirst tickSecond tickAnswer portCount portEntries renewed
-shortStep (made (join node parent sort kind share depth port) gives o) rest kept t =
-    with (shortJoinRefusal t node parent sort kind share depth port) (λ n h. by (λ y e. simp (h, tree-is, rates-are) at e))
-shortStep (made (leave node) gives o) rest kept t = with (shortLeaveRefusal t node) (λ n h. by (λ y e. simp (h, tree-is, rates-are) at e))
-shortStep (made (changeShare node kind share) gives o) rest kept t =
-    with (shortChangeShareRefusal t node kind share) (λ n h. by (λ y e. simp (h, tree-is, rates-are) at e))
-shortStep (made (changeRate rate) gives o) rest kept t =
-    with (shortChangeRateRefusal t rate) (λ n h. by (λ y e. simp (h, tree-is, rates-are) at e))
-shortStep (made (request client tag size) gives o) rest kept t =
-    with (shortRequestRefusal t client tag size) (λ n h. by (λ y e. simp h at e))
-shortStep (made (tick first second) gives o) rest kept t =
-    with (shortTickRefusal t first second) (λ n h. with (shortTicked t) (λ st k. by (λ y e. simp (h, k, is shortPorts) at e)))
-shortStep (openℤ rate depth gives o) rest kept t = record { value = _; same = refl }
-shortStep (lookℤ node gives o) rest kept t = with (shortLookRefusal t node) (λ n h. by (λ y e. simp (h, is (shortLost t)) at e))
-shortStep (same gives o) rest kept t = with (shortSameRefusal kept t) (λ n h. by (λ y e. simp (h, place-is) at e))
-shortStep (c answers o leaving first and second) rest kept t =
-    with (shortTickRefusal t (firstLent c) (secondLent c)) (λ n h. with (shortTicked t) (λ st k. by (λ y e. simp (h, k, is shortPorts) at e)))
-shortStep keep rest kept t = record { value = _; same = refl }
-shortStep (fits change) rest kept t = by (λ y e. simp (is shortInOrder) at e)
-shortStep (spoils change) rest kept t = by (λ y e. simp (is shortInOrder) at e)

@@ -1,5 +1,5 @@
 -- Scenarios: calls on a table, one after the other, each with what it must give. What comes of join, leave, change share, change
--- rate, request and tick is said in runs/specs; of the others in definitions/specs.
+-- rate, set minute, request and tick is said in runs/specs; of the others in definitions/specs.
 use Prim.Native.Nat.{ℕ, zero, suc, _-_}
 use mathlib.Core.Path.{_≡_}
 use mathlib.Core.Bool.{true, false}
@@ -11,7 +11,7 @@ use Rattle.definitions.specs.Places.{put, putHeader}
 use Rattle.definitions.specs.Order.{inOrder}
 use Rattle.definitions.specs.Refusals.{Outcome, accepted, refused}
 use Rattle.definitions.specs.Calls.{openTable, openAnswer, lookAnswer, sameAnswer}
-use Rattle.runs.specs.Runs.{Call as RunCall, join as runJoin, leave as runLeave, changeShare as runChangeShare, changeRate as runChangeRate, request as runRequest, tick as runTick, after as afterCall}
+use Rattle.runs.specs.Runs.{Call as RunCall, join as runJoin, leave as runLeave, changeShare as runChangeShare, changeRate as runChangeRate, setMinute as runSetMinute, request as runRequest, tick as runTick, after as afterCall}
 
 -- A call with any whole numbers for its arguments: one of those of runs/specs, open, look, or same. Same has the table that was
 -- kept last for its first table and the table as it is for its second. A tick stands in a step of its own, which says its lists, too.
@@ -32,6 +32,9 @@ changeShareℤ node kind share = made (runChangeShare node kind share)
 
 abbrev pub changeRateℤ : (rate : ℤ) → Call
 changeRateℤ rate = made (runChangeRate rate)
+
+abbrev pub setMinuteℤ : (plan : List ℕ) (windows : List ℤ) (minute : ℤ) → Call
+setMinuteℤ plan windows minute = made (runSetMinute plan windows minute)
 
 abbrev pub requestℤ : (client tag size : ℤ) → Call
 requestℤ client tag size = made (runRequest client tag size)
@@ -54,6 +57,9 @@ changeShare node kind share = changeShareℤ (pos node) (pos kind) (pos share)
 
 abbrev pub changeRate : (rate : ℕ) → Call
 changeRate rate = changeRateℤ (pos rate)
+
+abbrev pub setMinute : (plan : List ℕ) (windows : List ℤ) (minute : ℕ) → Call
+setMinute plan windows minute = setMinuteℤ plan windows (pos minute)
 
 abbrev pub request : (client tag size : ℕ) → Call
 request client tag size = requestℤ (pos client) (pos tag) (pos size)

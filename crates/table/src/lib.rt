@@ -3,7 +3,7 @@ ghost use mathlib.Core.Path.{_≡_};
 ghost use Prim.Native.Nat.{_+_, _*_, _<_, _≤_, _^_};
 ghost use lib.ListN.{length};
 ghost use lib.IntN.{pos};
-ghost use Rattle.numbers.specs.Whole.{plus, minus};
+ghost use Rattle.numbers.specs.Whole.{plus, minus, sameℤ};
 ghost use Rattle.definitions.specs.Limits.{tableLength, headerLength, recordLength, nodes, depthAt, shareLimit, portLimit, greatestDepth, grainScale};
 ghost use Rattle.definitions.specs.Places.{place, put, header, putHeader, count, depthGrains};
 ghost use Rattle.definitions.specs.Refusals.{lastRefusal};
@@ -160,6 +160,14 @@ impl Table {
         ensures { λ r. ⌜ r ≡ plus (place (now (table .entry)) k p) ⌝ }
     {
         numbers::unsigned(Table::get(table, k, p))
+    }
+
+    // Whether it is the same in two tables.
+    pub fn same_place(first: &[i64], second: &[i64], k: usize, p: usize) -> bool
+        requires { ⌜ (length (now first) ≡ tableLength) × (length (now second) ≡ tableLength) × (k < nodes) × (p < recordLength) ⌝ }
+        ensures { λ r. ⌜ r ≡ sameℤ (place (now (first .entry)) k p) (place (now (second .entry)) k p) ⌝ }
+    {
+        numbers::equal(Table::get(first, k, p), Table::get(second, k, p))
     }
 
     // Writes v there.

@@ -153,6 +153,21 @@ pub unsafe extern "C" fn hds_plan_check(plan: *const u8, plan_length: usize) -> 
     Engine.plan_check(lent(plan, plan_length)) as u32
 }
 
+/// Set minute, with the windows of a timetable, four numbers each.
+#[no_mangle]
+pub unsafe extern "C" fn hds_set_minute(
+    table: *mut i64,
+    table_length: usize,
+    plan: *const u8,
+    plan_length: usize,
+    windows: *const i64,
+    windows_length: usize,
+    minute: i64,
+) -> i64 {
+    let (plan, windows) = (lent(plan, plan_length), lent(windows, windows_length));
+    number(Engine.set_minute(lent_mut(table, table_length), plan, windows, minute))
+}
+
 /// What C gets of an answer: its value, or the refusal's number negated.
 fn number(answer: Answer<impl Into<i64>>) -> i64 {
     answer.map_or_else(|refusal| -refusal, Into::into)

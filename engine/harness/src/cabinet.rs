@@ -40,6 +40,15 @@ extern "C" {
         buffer_len: usize,
     ) -> i64;
     fn hds_plan_check(plan: *const u8, plan_len: usize) -> u32;
+    fn hds_set_minute(
+        table: *mut i64,
+        len: usize,
+        plan: *const u8,
+        plan_len: usize,
+        windows: *const i64,
+        windows_len: usize,
+        minute: i64,
+    ) -> i64;
 }
 
 /// Our archive as a controller.
@@ -129,5 +138,22 @@ impl Controller for Cabinet {
 
     fn plan_check(&mut self, plan: &[u8]) -> i64 {
         i64::from(unsafe { hds_plan_check(plan.as_ptr(), plan.len()) })
+    }
+
+    fn set_minute(
+        &mut self,
+        table: &mut [i64],
+        plan: &[u8],
+        windows: &[i64],
+        minute: i64,
+    ) -> Answer<i64> {
+        let (numbers, len) = (table.as_mut_ptr(), table.len());
+        let (bytes, bytes_len) = (plan.as_ptr(), plan.len());
+        let (list, list_len) = (windows.as_ptr(), windows.len());
+        let told = answer(unsafe {
+            hds_set_minute(numbers, len, bytes, bytes_len, list, list_len, minute)
+        });
+        assert!(!matches!(told, Ok(1..)), "an accepted set minute answers 0");
+        told
     }
 }

@@ -2,6 +2,7 @@
 
 pub mod cabinet;
 mod editions;
+mod hours;
 mod ports;
 mod renewals;
 pub mod scenes;

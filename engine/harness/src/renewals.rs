@@ -2,7 +2,7 @@
 //! them, and tables whose rates alone are wrong, which every call refuses. Where another rate is right by chance the calls
 //! are accepted.
 
-use hds_engine::plan::Plan;
+use hds_engine::plan::{Edition, Plan};
 use hds_engine::rates::{renew_all, renew_below};
 use hds_engine::steps::{Call, Step};
 use hds_engine::table::*;
@@ -159,6 +159,7 @@ pub(crate) fn calls_on(table: &[i64]) -> Vec<Step> {
         plan_write(2, 1000),
         client(61, 0, FIXED, 1, 1),
         client(61, 0, STATED, 1, 1),
+        set_minute(&Plan::of_table(table).encode(Edition::Second), &[], 0),
     ]
 }
 

@@ -1,7 +1,7 @@
 //! Lists of steps with known numbers: the edges of document 01 with the costs of document 02's request (a), every end of
 //! the ranges of cost, the grains nobody gets before and after every change, what step 4 picks, every call at wrong
 //! lengths and at every limit, plans cut short, lengthened and changed byte by byte, a table damaged in every clause
-//! of "in order", and the scenes of `renewals`, `stated`, `editions` and `ports`. Each begins with two zeroed tables.
+//! of "in order", and the scenes of `renewals`, `stated`, `editions`, `ports` and `hours`. Each begins with two zeroed tables.
 
 use hds_engine::cost::{cost, largest_size, RANGE_ENDS};
 use hds_engine::damage;
@@ -12,7 +12,7 @@ use hds_engine::steps::{Call, Reply, Step, World};
 use hds_engine::table::*;
 use hds_engine::{Engine, NewNode};
 
-use crate::{editions, ports, renewals, stated, trees};
+use crate::{editions, hours, ports, renewals, stated, trees};
 
 /// A name and its steps.
 pub type Scene = (String, Vec<Step>);
@@ -36,6 +36,7 @@ pub fn all() -> Vec<Scene> {
     scenes.extend(stated());
     scenes.extend(editions());
     scenes.extend(ports());
+    scenes.extend(hours());
     scenes
 }
 
@@ -57,6 +58,11 @@ pub fn editions() -> Vec<Scene> {
 /// The scenes of ports.
 pub fn ports() -> Vec<Scene> {
     ports::all()
+}
+
+/// The scenes of timetables.
+pub fn hours() -> Vec<Scene> {
+    hours::all()
 }
 
 pub(crate) fn open(rate: i64, depth: i64) -> Step {
@@ -127,6 +133,10 @@ pub(crate) fn plan_read(plan: &[u8]) -> Step {
 
 pub(crate) fn plan_write(edition: i64, buffer_len: usize) -> Step {
     Step::Call(Call::PlanWrite { edition, buffer_len })
+}
+
+pub(crate) fn set_minute(plan: &[u8], windows: &[i64], minute: i64) -> Step {
+    Step::Call(Call::SetMinute { plan: plan.to_vec(), windows: windows.to_vec(), minute })
 }
 
 pub(crate) fn poke(node: usize, place: usize, value: i64) -> Step {
@@ -902,9 +912,19 @@ fn sound() -> Vec<Step> {
     ]
 }
 
+/// The plan of the sound table.
+fn sound_plan() -> Plan {
+    let mut world = World::default();
+    for step in sound() {
+        world.run(&mut Engine, &step);
+    }
+    Plan::of_table(world.table.inner())
+}
+
 /// Every call, with arguments that a sound table accepts.
 fn every_call() -> Vec<Step> {
     vec![
+        set_minute(&sound_plan().encode(Edition::First), &[2, 0, 60, 10_000], 59),
         look(2),
         request(2, -1, 1),
         tick(100),
@@ -944,11 +964,7 @@ const ONE_CLIENT: [u8; 20] = [
 /// Document 01's plan and that of the sound table, in both editions, and one with stated nodes: whole, cut short, lengthened,
 /// and with each byte changed; each of the tables written in every edition to buffers about its length.
 fn plans() -> Vec<Scene> {
-    let mut world = World::default();
-    for step in sound() {
-        world.run(&mut Engine, &step);
-    }
-    let sound = Plan::of_table(world.table.inner());
+    let sound = sound_plan();
     let first = Plan::decode(&ONE_CLIENT).expect("a plan");
     let mut scenes = Vec::new();
     for (name, plan, editions) in [

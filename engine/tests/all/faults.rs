@@ -2,16 +2,17 @@
 
 use crate::support::*;
 use hds_engine::differential::{differential, differential_runs, first_difference};
-use hds_engine::faulty::{Fault, Faulty, Pick, Ports, Stated, FAULTS};
+use hds_engine::faulty::{Fault, Faulty, Hours, Pick, Ports, Stated, FAULTS};
 use hds_engine::judge::{watch, Promise, Violation};
 use hds_engine::order::CLAUSES;
+use hds_engine::plan::{Edition, Plan};
 use hds_engine::random::{run, Profile};
 use hds_engine::steps::{Call, Step};
 use hds_engine::table::*;
 use hds_engine::{Controller, Engine};
 
 /// Faults that the judge must object to, with the promise that is broken.
-pub const LOUD: [(Fault, Promise); 32] = [
+pub const LOUD: [(Fault, Promise); 35] = [
     (Fault::CutsFirst, Promise::Client),
     (Fault::ChargesClient, Promise::Client),
     (Fault::SparesRoot, Promise::Disk),
@@ -48,6 +49,10 @@ pub const LOUD: [(Fault, Promise); 32] = [
     (Fault::WrongPorts(Ports::SecondZero), Promise::Client),
     (Fault::WrongPorts(Ports::SecondTwice), Promise::Disk),
     (Fault::WrongPorts(Ports::OwnBalances), Promise::Disk),
+    // A client has not the rate that the call gives it, or another one keeps what it had.
+    (Fault::WrongHours(Hours::RatesKept), Promise::Client),
+    (Fault::WrongHours(Hours::StartExcluded), Promise::Client),
+    (Fault::WrongHours(Hours::ShareKept), Promise::Disk),
 ];
 
 /// A list of calls that brings a fault out.
@@ -68,6 +73,7 @@ pub fn scenario(fault: Fault) -> Vec<Step> {
         Fault::CostWraps => one_client(1000, 8, i64::MAX, 12),
         Fault::WrongStated(_) => weight_beside_a_stated_rate(),
         Fault::WrongPorts(_) => one_client_on(1, 28_000, 8, 1, 30),
+        Fault::WrongHours(_) => almost_all_in_a_window(),
         _ => one_client(28_000, 8, 1, 12),
     })
 }
@@ -141,6 +147,23 @@ fn weight_beside_a_stated_rate() -> Vec<Call> {
         open(8000, 16),
         Call::Join(client(1, 0, STATED, 8000, 8)),
         Call::Join(client(2, 0, WEIGHTED, 1, 8)),
+    ];
+    for _ in 0..15 {
+        calls.extend([request(2, 1), request(1, 1), tick()]);
+    }
+    calls
+}
+
+/// Client 1 has a weight beside client 2 with almost all, and then almost all in a window,
+/// with client 2 next to nothing by the plan; both ask all the time, client 2 first.
+fn almost_all_in_a_window() -> Vec<Call> {
+    let nodes = vec![client(1, 0, FIXED, 1, 8), client(2, 0, FIXED, 1, 8)];
+    let plan = Plan { rate: 8000, depth: 16, nodes }.encode(Edition::First);
+    let mut calls = vec![
+        open(8000, 16),
+        Call::Join(client(1, 0, WEIGHTED, 1, 8)),
+        Call::Join(client(2, 0, FIXED, 9999, 8)),
+        Call::SetMinute { plan, windows: vec![1, 5, 9, 9999], minute: 5 },
     ];
     for _ in 0..15 {
         calls.extend([request(2, 1), request(1, 1), tick()]);
@@ -291,6 +314,7 @@ fn a_difference_comes_with_a_short_list_of_calls() {
         (Fault::InventsCount, 2),
         (Fault::WrongPorts(Ports::NotStored), 5),
         (Fault::WrongPorts(Ports::AllOnFirst), 10),
+        (Fault::WrongHours(Hours::PlanIsSeventeen), 2),
     ] {
         let mut seeds = (0..60).map(|seed| (seed, run(seed, 400, Profile::Clean)));
         let difference = seeds.find_map(|(seed, steps)| {

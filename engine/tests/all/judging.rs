@@ -6,6 +6,7 @@ use crate::faults::{scenario, LOUD};
 use crate::support::*;
 use hds_engine::faulty::{Fault, Faulty};
 use hds_engine::judge::{watch, Judge, Promise, Violation};
+use hds_engine::plan::Plan;
 use hds_engine::random::{run, Profile, Rng};
 use hds_engine::refusal::{BUFFER_SHORT, QUEUE_FULL};
 use hds_engine::steps::{Call, Reply, Step, World};
@@ -639,6 +640,17 @@ fn next_moment(
             (new.kind, new.share) = (kind, share);
         }
         Call::ChangeRate { rate } => next.disk_rate = rate,
+        Call::SetMinute { ref plan, ref windows, minute } => {
+            for planned in Plan::decode(plan).unwrap().nodes {
+                let new = next.tree.get_mut(&(planned.node as usize)).unwrap();
+                (new.kind, new.share) = (planned.kind, planned.share);
+                for window in windows.chunks(4).filter(|window| window[0] == planned.node) {
+                    if window[1] <= minute && minute < window[2] {
+                        new.share = window[3];
+                    }
+                }
+            }
+        }
         Call::Request { client, .. } => {
             *next.open_requests.get_mut(&(client as usize)).unwrap() += 1
         }

@@ -5,6 +5,7 @@ mod edges;
 mod editions;
 mod family;
 mod faults;
+mod hours;
 mod judging;
 mod load;
 mod loads;

@@ -258,7 +258,7 @@ fn after_ticks(
 #[test]
 fn every_dispatch_of_step_four_is_the_right_one() {
     for (profile, seeds, least) in
-        [(Profile::Clean, 100, 5), (Profile::Family, 100, 200), (Profile::Wild, 200, 1)]
+        [(Profile::Clean, 200, 5), (Profile::Family, 100, 200), (Profile::Wild, 400, 1)]
     {
         let mut met = Met::new();
         after_ticks(&mut Engine, profile, seeds, |before, after, lists| {

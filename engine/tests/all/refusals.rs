@@ -56,7 +56,7 @@ fn outside_limits(table: &[i64], calls: impl IntoIterator<Item = Call>) {
 }
 
 /// The names of the causes, in the order of the documents.
-const CAUSES: [i64; 16] = [
+const CAUSES: [i64; 17] = [
     NOT_IN_ORDER,
     OUTSIDE_LIMITS,
     NOT_THERE,
@@ -73,11 +73,12 @@ const CAUSES: [i64; 16] = [
     PLAN_WRONG,
     PLAN_OUT_OF_ORDER,
     STATED_WRONG,
+    TIMETABLE_WRONG,
 ];
 
 #[test]
-fn the_causes_are_numbered_from_1_to_16() {
-    assert!(CAUSES.into_iter().eq(1..=16));
+fn the_causes_are_numbered_from_1_to_17() {
+    assert!(CAUSES.into_iter().eq(1..=17));
 }
 
 #[test]

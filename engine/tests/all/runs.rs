@@ -59,7 +59,7 @@ fn wild_runs_reach_every_refusal_of_every_call() {
             }
         }
     }
-    let expected: [(&str, &[i64]); 12] = [
+    let expected: [(&str, &[i64]); 13] = [
         ("open", &[0, 1, 2]),
         ("join", &[0, 1, 2, 3, 4, 5, 6, 7, 8, 16]),
         ("leave", &[0, 1, 2, 3, 5, 9, 10]),
@@ -72,6 +72,7 @@ fn wild_runs_reach_every_refusal_of_every_call() {
         ("plan read", &[0, 1, 2, 3, 4, 5, 6, 7, 8, 14, 15, 16]),
         ("plan write", &[0, 1, 2, 13, 16]),
         ("plan check", &[0, 2, 3, 4, 5, 6, 7, 8, 14, 15, 16]),
+        ("set minute", &[0, 1, 2, 3, 4, 5, 6, 7, 8, 14, 15, 16, 17]),
     ];
     let expected: BTreeSet<(&str, i64)> = expected
         .iter()
@@ -94,6 +95,7 @@ fn name(call: &Call) -> &'static str {
         Call::PlanRead { .. } => "plan read",
         Call::PlanWrite { .. } => "plan write",
         Call::PlanCheck { .. } => "plan check",
+        Call::SetMinute { .. } => "set minute",
     }
 }
 
@@ -288,6 +290,15 @@ impl Controller for Panicking {
     }
     fn plan_check(&mut self, plan: &[u8]) -> i64 {
         Engine.plan_check(plan)
+    }
+    fn set_minute(
+        &mut self,
+        table: &mut [i64],
+        plan: &[u8],
+        windows: &[i64],
+        minute: i64,
+    ) -> Answer<i64> {
+        Engine.set_minute(table, plan, windows, minute)
     }
 }
 

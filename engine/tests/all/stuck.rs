@@ -21,6 +21,7 @@ enum Name {
     PlanRead,
     PlanWrite,
     PlanCheck,
+    SetMinute,
 }
 
 #[derive(Clone, Copy, Debug, PartialEq)]
@@ -122,6 +123,17 @@ impl Controller for Stuck {
         };
         self.make(Name::PlanCheck, 7, &mut [0], |_| answer).unwrap_or_else(|number| number)
     }
+
+    fn set_minute(
+        &mut self,
+        table: &mut [i64],
+        plan: &[u8],
+        windows: &[i64],
+        minute: i64,
+    ) -> Answer<i64> {
+        let set = |table: &mut [i64]| Engine.set_minute(table, plan, windows, minute);
+        self.make(Name::SetMinute, 7, table, set)
+    }
 }
 
 #[test]
@@ -140,6 +152,7 @@ fn every_stuck_call_is_found() {
         Name::PlanRead,
         Name::PlanWrite,
         Name::PlanCheck,
+        Name::SetMinute,
     ];
     for name in names {
         for way in [Way::Refuses, Way::AnswersAlike, Way::LeavesBuffers] {

@@ -60,6 +60,10 @@ impl Disk {
         self.engine.plan_read(plan, &mut self.table)
     }
 
+    pub fn set_minute(&mut self, plan: &[u8], windows: &[[i64; 4]], minute: i64) -> Answer<i64> {
+        self.engine.set_minute(&mut self.table, plan, &windows.concat(), minute)
+    }
+
     pub fn tick_with(&mut self, first: &mut [i64], second: &mut [i64]) -> Answer<Counts> {
         self.engine.tick(&mut self.table, [first, second])
     }
@@ -148,7 +152,7 @@ impl<C: Controller> Watched<C> {
         match answer {
             Ok(_) => assert!(order::in_order(table), "out of order after an accepted call"),
             Err(number) => {
-                assert!((1..=16).contains(&number));
+                assert!((1..=17).contains(&number));
                 assert!(table == before, "a refusal wrote the table");
             }
         }
@@ -233,6 +237,26 @@ impl<C: Controller> Controller for Watched<C> {
 
     fn plan_check(&mut self, plan: &[u8]) -> i64 {
         self.0.plan_check(plan)
+    }
+
+    fn set_minute(
+        &mut self,
+        table: &mut [i64],
+        plan: &[u8],
+        windows: &[i64],
+        minute: i64,
+    ) -> Answer<i64> {
+        let before = table.to_vec();
+        let answer =
+            self.change(table, |inner, table| inner.set_minute(table, plan, windows, minute));
+        for place in (0..table.len()).filter(|&place| table[place] != before[place]) {
+            let of_record = place.checked_sub(48).map(|place| place % 40);
+            assert!(matches!(of_record, Some(3 | 4 | 6)), "place {place} was written");
+        }
+        if answer.is_ok() {
+            assert_eq!((answer, self.0.plan_check(plan)), (Ok(0), 0));
+        }
+        answer
     }
 }
 

@@ -17,7 +17,7 @@ unfolding NoneOf
 above zero x least none = least
 above (suc n) x least none = let low = above n x least (none .0) in let apart = none .1 in omega arith
 
-last : tie.Need-returns-16
+last : tie.Need-returns-17
 unfolding NoneOf
 last c = omega (arith, above (lastRefusal - 1) _ (c .before .pre .0) (c .match .rest))
 
@@ -25,6 +25,7 @@ pub refusal-of-spec : {M : Type 1} → statement M
 refusal-of-spec =
     tie.close
     (tie.spec
+    (λ c. search needs)
     (λ c. search needs)
     (λ c. search needs)
     (λ c. search needs)

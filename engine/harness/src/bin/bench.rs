@@ -1,6 +1,7 @@
 //! How long the archive's calls take, over the second engine's and over one plain pass through the table: ratios of
 //! medians, both engines on copies of the same tables. The last row is the program `load` of the repository's target/bin over
-//! the second engine's, the ratio of the least times; above 1 or not measured, the bench fails. `bench [rounds]`.
+//! the second engine's, the ratio of the least times; above 1 or not measured, the bench fails. Then the archive's set minute
+//! with so many windows over its own plan read; above its bounds, the bench fails too. `bench [rounds]`.
 
 use std::fs;
 use std::hint::black_box;
@@ -10,8 +11,10 @@ use std::process::{Command, ExitCode, Stdio};
 use std::time::Instant;
 
 use harness::{trees, Cabinet};
+use hds_engine::hours::WEEK;
 use hds_engine::loads;
 use hds_engine::plan::{Edition, Plan};
+use hds_engine::random::Rng;
 use hds_engine::table::{
     at, classes, get, waiting_in_all, BALANCE, CLIENT, DEPTH, NODES, PARENT, ROOT, WEIGHTED,
 };
@@ -27,6 +30,8 @@ const LOAD_TICKS: u32 = 1_000_000;
 const LOAD_TURNS: usize = 15;
 /// The load's ratio at most.
 const LOAD_BOUND: f64 = 1.00;
+/// Windows of the set minutes that are timed beside plan read, and the calls of each in a round.
+const WINDOWS: [(usize, usize); 4] = [(0, 16), (100, 16), (1000, 4), (10_000, 1)];
 
 /// A call to be measured, on a table and the lists of a tick.
 type Call = Box<dyn Fn(&mut dyn Controller, &mut [i64], Lists)>;
@@ -47,15 +52,36 @@ fn main() -> ExitCode {
     if let Ok(ratio) = load {
         println!("| program load, {LOAD_TICKS} ticks of examples/studio.plan | {ratio:.2} | |");
     }
+    println!();
+    println!("| set minute, 63 nodes | ours / our plan read | at most |");
+    println!("|---|---|---|");
+    let minutes = minute_ratios(rounds);
+    for &(name, ratio, bound) in &minutes {
+        let bound = bound.map_or(String::new(), |bound| format!("{bound:.0} "));
+        println!("| {name} | {ratio:.2} | {bound}|");
+    }
     let quick = pass(rounds, all_at_once);
     println!();
     println!("A plain pass adds the 2,568 numbers one by one; added several at a time it takes {:.2} of that.", quick / plain);
+    let mut code = ExitCode::SUCCESS;
     match load {
-        Ok(ratio) if ratio <= LOAD_BOUND => return ExitCode::SUCCESS,
-        Ok(ratio) => println!("The load is ABOVE its bound of {LOAD_BOUND:.2}: {ratio:.3}."),
-        Err(what) => println!("The load was NOT measured: {what}."),
+        Ok(ratio) if ratio <= LOAD_BOUND => {}
+        Ok(ratio) => {
+            println!("The load is ABOVE its bound of {LOAD_BOUND:.2}: {ratio:.3}.");
+            code = ExitCode::FAILURE;
+        }
+        Err(what) => {
+            println!("The load was NOT measured: {what}.");
+            code = ExitCode::FAILURE;
+        }
     }
-    ExitCode::FAILURE
+    for (name, ratio, bound) in minutes {
+        if let Some(bound) = bound.filter(|&bound| ratio > bound) {
+            println!("Set minute, {name}, is ABOVE its bound of {bound:.0}: {ratio:.3}.");
+            code = ExitCode::FAILURE;
+        }
+    }
+    code
 }
 
 fn cases() -> Vec<Case> {
@@ -114,6 +140,10 @@ fn cases() -> Vec<Case> {
         for (what, edition) in [("first", Edition::First), ("second", Edition::Second)] {
             let read = plan_read(&table, edition);
             cases.push((name(&format!("plan read, {what} edition")), table.clone(), read));
+        }
+        for (windows, count) in [("no windows", 0), ("100 windows", 100)] {
+            let set = set_minute(&table, count);
+            cases.push((name(&format!("set minute, {windows}")), table.clone(), set));
         }
     }
     cases
@@ -178,6 +208,42 @@ fn plan_read(table: &[i64], edition: Edition) -> Call {
     Box::new(move |controller, table, _| assert!(controller.plan_read(&plan, table).is_ok()))
 }
 
+/// Sets a minute with the plan of a table in the second edition and so many windows.
+fn set_minute(table: &[i64], count: usize) -> Call {
+    let plan = Plan::of_table(table).encode(Edition::Second);
+    let windows = timetable(table, count);
+    Box::new(move |controller, table, _| {
+        assert!(controller.set_minute(table, &plan, &windows, WEEK / 2).is_ok());
+    })
+}
+
+/// So many windows of all nodes by turns, in no order. Their shares are no more than the plan's.
+fn timetable(table: &[i64], count: usize) -> Vec<i64> {
+    let nodes = Plan::of_table(table).nodes;
+    let slot = WEEK / count.div_ceil(nodes.len()).max(1) as i64;
+    let half = (slot / 2).max(1);
+    let turns = (0..).flat_map(|turn| nodes.iter().map(move |new| (turn, new)));
+    let mut windows: Vec<[i64; 4]> = turns
+        .take(count)
+        .map(|(turn, new)| {
+            let start = slot * turn + 7 * new.node % half;
+            [new.node, start, start + half, 1 + turn % new.share]
+        })
+        .collect();
+    let mut rng = Rng::new(1);
+    for place in (1..count).rev() {
+        windows.swap(place, rng.below(place + 1));
+    }
+    let windows = windows.concat();
+    let plan = Plan::of_table(table).encode(Edition::Second);
+    assert_eq!(
+        Engine.set_minute(&mut table.to_vec(), &plan, &windows, 0),
+        Ok(0),
+        "{count} windows"
+    );
+    windows
+}
+
 fn empty(_: &mut [i64]) {}
 
 /// Every balance at its depth.
@@ -237,6 +303,38 @@ fn measure(rounds: usize, table: &[i64], call: &Call) -> [f64; 2] {
         }
     }
     times.map(median)
+}
+
+/// Names and ratios of the archive's set minutes on 63 nodes, the ratio at most where there is one.
+fn minute_ratios(rounds: usize) -> [(&'static str, f64, Option<f64>); 5] {
+    let table = trees::large(1_000_000);
+    let read = plan_read(&table, Edition::Second);
+    let calls = WINDOWS.map(|(count, calls)| (set_minute(&table, count), calls));
+    let mut times = [(); 1 + WINDOWS.len()].map(|()| Vec::new());
+    let mut copies = vec![table; COPIES];
+    for _ in 0..rounds {
+        times[0].push(time_of(&read, &mut copies));
+        for (times, (call, count)) in times[1..].iter_mut().zip(&calls) {
+            times.push(time_of(call, &mut copies[..*count]));
+        }
+    }
+    let [read, none, hundred, thousand, most] = times.map(median);
+    [
+        ("no windows", none / read, None),
+        ("100 windows", hundred / read, Some(10.0)),
+        ("1,000 windows", thousand / read, None),
+        ("10,000 windows", most / read, Some(150.0)),
+        ("10,000 windows over 1,000", most / thousand, Some(10.0)),
+    ]
+}
+
+/// The time of the archive's call on each of some tables, one after the other.
+fn time_of(call: &Call, tables: &mut [Vec<i64>]) -> f64 {
+    let began = Instant::now();
+    for table in &mut *tables {
+        call(&mut Cabinet, black_box(table), [&mut [], &mut []]);
+    }
+    began.elapsed().as_nanos() as f64 / tables.len() as f64
 }
 
 /// The least time of the program `load` over that of the second engine's, from turns, on seed 1 and the sample plan. Both

@@ -1,9 +1,9 @@
 //! The second engine and the archive, call by call: after each call the answers, all lent buffers and the guards around
 //! them are compared. `differential [random calls] [first seed]`. All runs of the archive but the wild ones stand before
 //! demand 3's judge too, and each faulty engine must be told from the archive, wrong renewals of rates by the scenes of
-//! changes too, and misread stated rates, editions of plans and ports by the scenes of these. As many scenes, seeds and
-//! faulty engines are worked on at a time as there are processors. The last line counts scenes, runs, judged runs and
-//! faulty engines.
+//! changes too, and misread stated rates, editions of plans, ports and timetables by the scenes of these. As many scenes,
+//! seeds and faulty engines are worked on at a time as there are processors. The last line counts scenes, runs, judged runs
+//! and faulty engines.
 
 use std::num::NonZero;
 use std::panic::resume_unwind;
@@ -71,7 +71,7 @@ fn compare(most: usize, first: u64) -> Result<Counts, String> {
     }
     counts.calls += random;
     let (changes, stated) = (scenes::changes(), scenes::stated());
-    let (editions, ports) = (scenes::editions(), scenes::ports());
+    let (editions, ports, hours) = (scenes::editions(), scenes::ports(), scenes::hours());
     let runs = Runs::default();
     let tell = |fault| {
         let told_by_scenes = match fault {
@@ -79,6 +79,7 @@ fn compare(most: usize, first: u64) -> Result<Counts, String> {
             Fault::WrongStated(_) => told_by(fault, &stated),
             Fault::WrongEditions(_) => told_by(fault, &editions),
             Fault::WrongPorts(_) => told_by(fault, &ports),
+            Fault::WrongHours(_) => told_by(fault, &hours),
             _ => true,
         };
         if told_apart(fault, &runs) && told_by_scenes {

@@ -6,13 +6,13 @@ use lib.IntN.{ℤ, pos}
 use Rattle.treelaws.specs.Joins.{Join, afterJoin}
 use Rattle.runs.specs.Runs.{Call, after, events, tableAfterAll}
 use Rattle.runs.proofs.Divided.{table-divided}
 use Rattle.bounds.specs.Observer.{start, observedAll}
 use Rattle.bounds.specs.Demand.{Bounds, Demand3}
 use Rattle.bounds.proofs.Theorem.{demand-3}
 use Rattle.planformat.specs.Format.{Plan, planIn}
 use Rattle.planlaws.specs.Reading.{joinOf, afterEntry, afterEntries, openedFor, joinedFor, planRefusal, planTable}
-use Rattle.planlaws.specs.AsCalls.{called, firstJoins, joinsOf, AsCalls, ReadDemand3}
+use Rattle.bounds.specs.AsCalls.{called, firstJoins, joinsOf, AsCalls, ReadDemand3}
 use Rattle.planlaws.proofs.Accepted.{after-none, after-suc, entries-each, plan-accepted, plan-table}
 
 call-joins : (t : List ℤ) (j : Join) → tableAfterAll t (called j ∷ []) ≡ afterJoin t j
 unfolding called afterJoin tableAfterAll after

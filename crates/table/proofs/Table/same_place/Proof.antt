@@ -1,10 +1,10 @@
--- `comparing::same_place` meets its contract, by those of `get` and `equal`.
+-- `Table::same_place` meets its contract, by those of `get` and `equal`.
 use mathlib.Core.Path.{ap₂, _∙_}
 use mir.Facts.{toZ-ofZ}
 use borrow.Author.Needs.{needs, sfits-of}
 use Rattle.numbers.specs.Whole.{sameℤ}
-use Rattle.comparing.proofs.same_place.Statement.{statement}
-use Rattle.comparing.proofs.same_place.Tie as tie
+use Rattle.table.proofs.Table.same_place.Statement.{statement}
+use Rattle.table.proofs.Table.same_place.Tie as tie
 
 get-requires : tie.Need-get-requires
 get-requires c κs = search needs

@@ -1,0 +1,1 @@
+// The edges of opening hours, proved together in proofs/. No functions.

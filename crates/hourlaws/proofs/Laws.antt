@@ -1,0 +1,49 @@
+-- The laws of set minute, all together.
+use Prim.Native.Nat.{ℕ, _+_, _≤_, _<_}
+use mathlib.Core.Path.{_≡_, ap}
+use mathlib.Core.Bool.{true, false}
+use mathlib.Core.List.{List}
+use native.Mathlib.Omega.{arith}
+use lib.IntN.{ℤ}
+use Rattle.numbers.specs.Whole.{plus, minus}
+use Rattle.numbers.proofs.Tests.{by-test}
+use Rattle.definitions.specs.Limits.{nodes, balanceAt}
+use Rattle.definitions.specs.Places.{balance}
+use Rattle.definitions.specs.Tree.{Tree}
+use Rattle.definitions.specs.Rates.{kindSum}
+use Rattle.definitions.proofs.Facts.{facts}
+use Rattle.definitions.proofs.Refusals.{kept-new}
+use Rattle.calllaws.specs.Laws.{NoBalanceRises}
+use Rattle.hourlaws.specs.Windows.{weekMinutes, treeAt}
+use Rattle.hourlaws.specs.SetMinute.{planned, weekWithin, setMinuteRefusal, minuteTable, setMinuteTable}
+use Rattle.hourlaws.specs.Laws.{OnlyShares, MinuteLaws}
+use Rattle.hourlaws.proofs.Passed.{set-minute-passed, timetabled, planned-in-order}
+use Rattle.hourlaws.proofs.Kept.{minute-below, within-at, only-shares, set-minute-keeps-order, accepted-at-all}
+use Rattle.hourlaws.proofs.Turns.{decided}
+
+leaves : (t : List ℤ) (s : List ℕ) (ws : List ℤ) (minute : ℤ) → setMinuteRefusal t s ws minute ≡ 0 → OnlyShares t (setMinuteTable t s ws minute)
+unfolding setMinuteTable
+leaves t s ws minute h =
+    let f = set-minute-passed t s ws minute h in
+    rw (kept-new (setMinuteRefusal t s ws minute) (minuteTable t (planned s) ws (plus minute)) t h)
+    (only-shares t (planned s) ws (plus minute) (facts t (f .order)) (planned-in-order s (f .plan)) (minute-below minute (f .minutes)) (timetabled t (planned s) ws (f .timetable)))
+
+broken : (kind limit : ℕ) (tree : Tree) (ws : List ℤ) (m c : ℕ) → m < weekMinutes → c < nodes → limit < kindSum (treeAt tree ws m) kind c → weekWithin kind limit tree ws ≡ false
+broken kind limit tree ws m c hm hc above = by-test (weekWithin kind limit tree ws) (λ e. absurd (omega (arith, above, within-at kind limit tree ws m c e hm hc))) (λ e. e)
+
+pub minute-laws : MinuteLaws
+unfolding NoBalanceRises balance
+minute-laws =
+    record {
+      keeps = λ t s ws minute h.
+          record {
+            order = set-minute-keeps-order t s ws minute (set-minute-passed t s ws minute h .order);
+            balances = λ k hk.
+                let same = leaves t s ws minute h .places k balanceAt (omega arith) (omega arith) (omega arith) (omega arith) in
+                omega (arith, ap plus same, ap minus same);
+          };
+      leaves = leaves;
+      everywhere = accepted-at-all;
+      decided = decided;
+      broken = broken;
+    }

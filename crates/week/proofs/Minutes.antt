@@ -1,0 +1,140 @@
+-- From the cells of the parts to the week.
+use Prim.Native.Nat.{ℕ, zero, suc, _+_, _*_, _-_, _/_, _%_, _≤_, _<_, min}
+use mathlib.Core.Path.{_≡_, refl, sym, ap, _∙_}
+use mathlib.Core.Bool.{Bool, true, false, cond, _&&_}
+use mathlib.Core.List.{List}
+use native.Mathlib.Omega.{arith}
+use borrow.Author.Tests.{eqb-true, eq-eqb, ne-eqb}
+use lib.Dec.{eqb}
+use lib.ListN.{getD}
+use lib.IntN.{ℤ}
+use Rattle.numbers.specs.Below.{allBelow}
+use Rattle.numbers.proofs.Tests.{by-test, same-truth, true-false, cond-true, cond-false}
+use Rattle.numbers.proofs.Parts.{within-parts}
+use Rattle.numbers.proofs.All.{below-cases, all-at, all-intro, all-cong}
+use Rattle.definitions.specs.Limits.{nodes, greatestRate, shareLimit}
+use Rattle.definitions.proofs.ShareKinds.{limit-le}
+use Rattle.definitions.specs.Tree.{Tree, treeOf, testIf}
+use Rattle.definitions.proofs.Facts.{test-at, at-test}
+use Rattle.hourlaws.specs.Windows.{weekMinutes, windowCount, windowNumber, windowShareAt, windowNode, windowStart, windowEnd, windowShare, covers, valueBy, apart, shareFits, sharesFit, shareIn, treeAt, turn}
+use Rattle.hourlaws.specs.SetMinute.{kindWithin, weekWithin}
+use Rattle.hourlaws.proofs.Values.{Covers, cover-facts, covers-of, value-none, value-suc, value-has, all-append}
+use Rattle.hourlaws.proofs.SameShares.{within-same}
+use Rattle.hourlaws.proofs.Turns.{decided}
+use Rattle.hourlaws.proofs.Apart.{apart-at, apart-of}
+use Rattle.windows.specs.Timed.{Timed}
+use Rattle.cells.specs.Cells.{partMinutes, weekParts, cellAt, painted, paintedBy, clearAt, clearIn}
+use Rattle.week.specs.Week.{cellShare, cellTree, Small, withinMarked, withinAt}
+
+-- A test that is made part by part: one part more.
+pub all-part : (n m : ℕ) (p : ℕ → Bool) (ok b : Bool) → ok ≡ allBelow n p → b ≡ allBelow m (λ j. p (n + j)) → (ok && b) ≡ allBelow (n + m) p
+all-part n m p ok b e f = ap (λ (x : Bool). x && b) e ∙ ap (λ (x : Bool). allBelow n p && x) f ∙ sym (all-append n m p)
+
+-- A test that is not asked, and one that is.
+pub test-off : (b : Bool) (f : ℕ → Bool) (j : ℕ) → b ≡ false → testIf b f j ≡ true
+unfolding testIf
+test-off b f j e = ap (λ (x : Bool). testIf x f j) e
+
+pub test-on : (b : Bool) (f : ℕ → Bool) (j : ℕ) → b ≡ true → testIf b f j ≡ f j
+unfolding testIf
+test-on b f j e = ap (λ (x : Bool). testIf x f j) e
+
+-- Two tests that are asked alike and hold alike.
+test-same : (a b : Bool) (f g : ℕ → Bool) (j m : ℕ) → a ≡ b → f j ≡ g m → testIf a f j ≡ testIf b g m
+unfolding testIf
+test-same a true f g j m e same = ap (λ (x : Bool). testIf x f j) e ∙ same
+test-same a false f g j m e same = ap (λ (x : Bool). testIf x f j) e
+
+-- No window below n covers a minute that is not painted, and a minute that none covers is not.
+module _ (ws : List ℤ) (k m : ℕ) where
+  painted-some : (n : ℕ) → paintedBy ws n k m ≡ 0 → (i : ℕ) → i < n → covers ws i k m ≡ true → ⊥
+  unfolding paintedBy painted
+  painted-some zero h i l c = omega arith
+  painted-some (suc n) h i l c =
+      let last = value-suc ws (painted ws) k m 0 n in
+      by-test (covers ws n k m)
+      (λ e. omega (arith, h, last, cond-true _ (painted ws n) (valueBy ws (painted ws) n k m 0) e))
+      (λ e.
+      below-cases n i l
+      (λ b. painted-some n (sym (cond-false _ (painted ws n) (valueBy ws (painted ws) n k m 0) e) ∙ sym last ∙ h) i b c)
+      (λ same. true-false (rw same at c) e))
+
+  painted-none : (n : ℕ) → ((i : ℕ) → i < n → covers ws i k m ≡ true → ⊥) → paintedBy ws n k m ≡ 0
+  unfolding paintedBy
+  painted-none n h = value-has ws (painted ws) k m 0 (λ v. v ≡ 0) n refl (λ i hi c. absurd (h i hi c))
+
+  -- What is painted is at most the greatest rate and one more.
+  pub painted-small : (n : ℕ) → paintedBy ws n k m ≤ greatestRate + 1
+  unfolding paintedBy painted
+  painted-small n = value-has ws (painted ws) k m 0 (λ v. v ≤ greatestRate + 1) n (omega arith) (λ i hi c. omega arith)
+
+  -- Where the shares of the windows are in their limits, the share that a cell shows is the one at the minute.
+  pub painted-share : (old n : ℕ) → ((i : ℕ) → i < n → windowShare ws i ≤ greatestRate) → cond (eqb (paintedBy ws n k m) 0) old (paintedBy ws n k m - 1) ≡ valueBy ws (windowShare ws) n k m old
+  unfolding paintedBy painted
+  painted-share old zero h = rw (value-none ws (painted ws) k m 0, value-none ws (windowShare ws) k m old)
+  painted-share old (suc n) h =
+      by-test (covers ws n k m)
+      (λ e.
+      rw (value-suc ws (painted ws) k m 0 n, value-suc ws (windowShare ws) k m old n, cond-true _ (painted ws n) (valueBy ws (painted ws) n k m 0) e, cond-true _ (windowShare ws n) (valueBy ws (windowShare ws) n k m old) e)
+      (cond-false _ old _ (ne-eqb (painted ws n) 0 (λ z. omega arith)) ∙ omega (arith, h n (omega arith))))
+      (λ e.
+      rw (value-suc ws (painted ws) k m 0 n, value-suc ws (windowShare ws) k m old n, cond-false _ (painted ws n) (valueBy ws (painted ws) n k m 0) e, cond-false _ (windowShare ws n) (valueBy ws (windowShare ws) n k m old) e)
+      (painted-share old n (λ i hi. h i (omega arith))))
+
+-- No two windows overlap just where each is clear in each part.
+module _ (ws : List ℤ) (timed : (i : ℕ) → i < windowCount ws → Timed ws i) where
+  clear-minute : ((b : ℕ) → b < weekParts → (i : ℕ) → i < windowCount ws → clearIn ws (b * partMinutes) i ≡ true) → (i : ℕ) → i < windowCount ws → (m : ℕ) → Covers ws i (windowNode ws i) m → (j : ℕ) → j < i → covers ws j (windowNode ws i) m ≡ true → ⊥
+  unfolding clearIn clearAt
+  clear-minute h i hi m a j hj c =
+      let b = cover-facts ws j (windowNode ws i) m c in
+      let end = timed i hi .ends in
+      painted-some ws (windowNode ws i) (m / partMinutes * partMinutes + m % partMinutes) i
+      (eqb-true _ 0
+      (test-at _ (λ l. eqb (paintedBy ws i (windowNode ws i) (m / partMinutes * partMinutes + l)) 0) (m % partMinutes)
+      (all-at partMinutes (λ l. testIf (covers ws i (windowNode ws i) (m / partMinutes * partMinutes + l)) (λ l. eqb (paintedBy ws i (windowNode ws i) (m / partMinutes * partMinutes + l)) 0) l)
+      (h (m / partMinutes) (omega arith) i hi) (m % partMinutes) (omega arith))
+      (covers-of ws i (windowNode ws i) (m / partMinutes * partMinutes + m % partMinutes) (record { node = refl; start = omega arith; end = omega arith }))))
+      j hj
+      (covers-of ws j (windowNode ws i) (m / partMinutes * partMinutes + m % partMinutes) (record { node = b .node; start = omega arith; end = omega arith }))
+
+  minute-clear : apart ws ≡ true → (first i : ℕ) → i < windowCount ws → clearIn ws first i ≡ true
+  unfolding clearIn clearAt
+  minute-clear h first i hi =
+      all-intro partMinutes _
+      (λ l hl. at-test (covers ws i (windowNode ws i) (first + l)) (λ l. eqb (paintedBy ws i (windowNode ws i) (first + l)) 0) l
+      (λ c. eq-eqb _ 0 (painted-none ws (windowNode ws i) (first + l) i (apart-at ws h i hi (windowNode ws i) (first + l) (cover-facts ws i (windowNode ws i) (first + l) c)))))
+
+  pub parts-apart : allBelow weekParts (λ b. allBelow (windowCount ws) (clearIn ws (b * partMinutes))) ≡ apart ws
+  parts-apart =
+      same-truth _ _
+      (λ h. apart-of ws (λ i hi. timed i hi .rises) (clear-minute (λ b hb i hi. all-at (windowCount ws) (clearIn ws (b * partMinutes)) (all-at weekParts (λ b. allBelow (windowCount ws) (clearIn ws (b * partMinutes))) h b hb) i hi)))
+      (λ h. all-intro weekParts (λ b. allBelow (windowCount ws) (clearIn ws (b * partMinutes))) (λ b hb. all-intro (windowCount ws) (clearIn ws (b * partMinutes)) (minute-clear h (b * partMinutes))))
+
+-- Cells that are painted with the windows, and turns that are marked.
+module _ (t ws : List ℤ) (first : ℕ) (cells : List ℕ) (h : (k j : ℕ) → j < partMinutes → getD cells (cellAt k j) 0 ≡ paintedBy ws (windowCount ws) k (first + j)) where
+  pub cells-small : Small cells
+  cells-small k j hk hj = rw (h k j hj) (painted-small ws k (first + j) (windowCount ws))
+
+  shares : sharesFit (treeOf t) ws ≡ true → (k j : ℕ) → j < partMinutes → cellShare (treeOf t) cells j k ≡ shareIn (treeOf t) ws (first + j) k
+  unfolding cellShare shareIn sharesFit shareFits
+  shares fit k j hj =
+      rw (h k j hj)
+      (painted-share ws k (first + j) (treeOf t .share k) (windowCount ws)
+      (λ i hi.
+      let f = within-parts 1 (shareLimit (treeOf t .kind (windowNode ws i))) (windowNumber ws i windowShareAt) (all-at (windowCount ws) (shareFits (treeOf t) ws) fit i hi) in
+      omega (arith, limit-le (treeOf t .kind (windowNode ws i)))))
+
+  pub cells-within :
+      (turns : List Bool) → ((j : ℕ) → j < partMinutes → getD turns j false ≡ turn ws (first + j)) → (kind limit : ℕ) → sharesFit (treeOf t) ws ≡ true
+      → allBelow partMinutes (withinMarked kind limit (treeOf t) cells turns) ≡ allBelow partMinutes (λ j. withinAt kind limit (treeOf t) ws (first + j))
+  unfolding withinMarked withinAt cellTree treeAt
+  cells-within turns marked kind limit fit =
+      all-cong partMinutes (withinMarked kind limit (treeOf t) cells turns) (λ j. withinAt kind limit (treeOf t) ws (first + j))
+      (λ j hj.
+      test-same (getD turns j false) (turn ws (first + j)) (λ j. kindWithin kind limit (cellTree (treeOf t) cells j)) (λ m. kindWithin kind limit (treeAt (treeOf t) ws m)) j (first + j) (marked j hj)
+      (within-same (cellTree (treeOf t) cells j) (treeAt (treeOf t) ws (first + j)) (λ k hk. record { sort = refl; parent = refl; kind = refl; share = shares fit k j hj }) kind limit))
+
+-- The minutes that are turns decide the week.
+pub week-decided : (kind limit : ℕ) (tree : Tree) (ws : List ℤ) → allBelow weekMinutes (withinAt kind limit tree ws) ≡ weekWithin kind limit tree ws
+unfolding withinAt
+week-decided kind limit tree ws = sym (decided kind limit tree ws)

@@ -1,0 +1,67 @@
+use Prim.Native.Nat.{ℕ, _+_, _<_}
+use mathlib.Core.Path.{_≡_, refl, ap, _∙_}
+use Rattle.numbers.specs.Below.{allBelow}
+use Rattle.definitions.specs.Limits.{root, stated, wholeShare, fixed}
+use Rattle.definitions.specs.Places.{rate}
+use Rattle.definitions.specs.Tree.{treeOf}
+use Rattle.cells.specs.Cells.{partMinutes, cellCount, cellAt}
+use Rattle.week.specs.Week.{Shared, Small, withinMarked}
+use Rattle.week.proofs.Blank.{all-alike, first-turn}
+use Rattle.week.proofs.Minutes.{cells-small, cells-within}
+use borrow.Author.Needs.{needs}
+use Rattle.week.proofs.judge_part.Statement.{statement}
+use Rattle.week.proofs.judge_part.Tie as tie
+
+array-write-turns : tie.Need-array-write-turns
+array-write-turns c = search needs
+
+paint-requires : tie.Need-paint-requires
+paint-requires c κs =
+    let start = c .before .before in
+    (refl, refl, start .pre .1, start .pre .2, (λ k j hj. all-alike cellCount (cellAt k j) 0), λ j hj. first-turn (start .args .first) j)
+
+-- What is asked of the plan and the cells.
+asked : (c : tie.After-paint) → let start = c .before .before .before in Shared (start .args .plan .now) × Small (c .paint .last .0)
+asked c =
+    let start = c .before .before .before in
+    (start .pre .0, cells-small (start .args .plan .now) (start .args .windows .now) (start .args .first) (c .paint .last .0) (c .paint .ensures .1 .0))
+
+turns-within-requires : tie.Need-turns-within-requires
+turns-within-requires c κs = asked (c .before .before)
+
+natural-requires : tie.Need-natural-requires
+natural-requires c κs = search needs
+
+turns-within-requires-2 : tie.Need-turns-within-requires-2
+turns-within-requires-2 c κs = asked (c .before .before .before .before .before .before)
+
+returns : tie.Need-returns
+unfolding rate
+returns c =
+    let painting = c .before .before .before .before .before .before .before in
+    let fixeds = c .before .before .before .before in
+    let start = painting .before .before .before in
+    let plan = start .args .plan .now in
+    let ws = start .args .windows .now in
+    let first = start .args .first in
+    let paint = painting .paint in
+    let within = cells-within plan ws first (paint .last .0) (paint .ensures .1 .0) (paint .last .1 .0) (paint .ensures .1 .1) in
+    record {
+      apart = paint .ensures .0;
+      fixed = λ fit. fixeds .turns-within .ensures ∙ within fixed wholeShare fit;
+      stated = λ fit.
+          c .turns-within2 .ensures
+          ∙ ap (λ (disk : ℕ). allBelow partMinutes (withinMarked stated disk (treeOf plan) (paint .last .0) (paint .last .1 .0))) (c .before .before .before .natural .ensures)
+          ∙ within stated (rate plan root) fit;
+    }
+
+pub judge-part-spec : {M : Type 1} → statement M
+judge-part-spec =
+    tie.close
+    (tie.spec
+    array-write-turns
+    paint-requires
+    turns-within-requires
+    natural-requires
+    turns-within-requires-2
+    returns)
