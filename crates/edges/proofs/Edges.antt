@@ -7,7 +7,8 @@ use Rattle.scenarios.proofs.Run.{passes, allPass, at}
 use Rattle.lateredges.proofs.Edges.{later-edges-hold}
 use Rattle.statededges.proofs.Edges.{stated-edges-hold}
 use Rattle.portedges.proofs.Edges.{port-edges-hold}
-use Rattle.edges.specs.Edges.{Edge, paper, thirds, nothingLeft, nothingLeftOfThirds, aboveWhole, alone, oneAsks, bothAsk, debt, sizes, depths, ninth, listLengths, later, ofStated, ofPorts, scenario}
+use Rattle.houredges.proofs.Edges.{hour-edges-hold}
+use Rattle.edges.specs.Edges.{Edge, paper, thirds, nothingLeft, nothingLeftOfThirds, aboveWhole, alone, oneAsks, bothAsk, debt, sizes, depths, ninth, listLengths, later, ofStated, ofPorts, ofHours, scenario}
 
 -- The scenarios of document 01's edges. Those that a must-fail edit changes stand first, since the test ends at the first that fails.
 marked : List Scenario
@@ -50,3 +51,4 @@ edges-hold listLengths = at marked computed 12
 edges-hold (later edge) = later-edges-hold edge
 edges-hold (ofStated edge) = stated-edges-hold edge
 edges-hold (ofPorts edge) = port-edges-hold edge
+edges-hold (ofHours edge) = hour-edges-hold edge

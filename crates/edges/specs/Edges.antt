@@ -9,6 +9,7 @@ use Rattle.definitions.specs.Refusals.{refused}
 use Rattle.lateredges.specs.Edges.{LaterEdge, laterScenario}
 use Rattle.statededges.specs.Edges.{StatedEdge, statedScenario}
 use Rattle.portedges.specs.Edges.{PortEdge, portScenario}
+use Rattle.houredges.specs.Edges.{HourEdge, hourScenario}
 use Rattle.scenarios.specs.Scenario.{Scenario, disk, join, request, look, tick, dispatch, _gives_, _lists_, _refuses_, setBalance, times, number, seen}
 
 -- The edges by name: document 01's in its order, then those of the requests.
@@ -17,6 +18,7 @@ pub data Edge : Type 0 where
   later : LaterEdge → Edge
   ofStated : StatedEdge → Edge
   ofPorts : PortEdge → Edge
+  ofHours : HourEdge → Edge
 
 unfoldable pub scenario : Edge → Scenario
 -- "Disk 1000; class 1 fixed 5000: rate 500. Under it fixed 4000: 200; weights 4 and 6: 120 and 180." The class loses nothing,
@@ -166,3 +168,4 @@ scenario listLengths =
 scenario (later edge) = laterScenario edge
 scenario (ofStated edge) = statedScenario edge
 scenario (ofPorts edge) = portScenario edge
+scenario (ofHours edge) = hourScenario edge
