@@ -1,4 +1,4 @@
--- The week in parts of 20 minutes. A part has a cell for each node and each of its minutes, node by node. A cell is 0 where no window
+-- The week in parts of 32 minutes. A part has a cell for each node and each of its minutes, node by node. A cell is 0 where no window
 -- covers its minute for its node; else it is the share of the last window that does, and one more.
 use Prim.Native.Nat.{ℕ, _+_, _*_, _-_, _<_, min}
 use mathlib.Core.Path.{_≡_}
@@ -14,13 +14,13 @@ use Rattle.definitions.specs.Tree.{testIf}
 use Rattle.hourlaws.specs.Windows.{windowNode, windowStart, windowEnd, windowShare, covers, valueBy}
 
 abbrev pub partMinutes : ℕ
-partMinutes = 20
+partMinutes = 32
 
 abbrev pub weekParts : ℕ
-weekParts = 504
+weekParts = 315
 
 abbrev pub cellCount : ℕ
-cellCount = 1280
+cellCount = 2048
 
 -- The cell of node k at minute j of the part.
 abbrev pub cellAt : ℕ → ℕ → ℕ

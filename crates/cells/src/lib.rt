@@ -12,9 +12,9 @@ ghost use Rattle.cells.specs.Cells.{partMinutes, weekParts, cellCount, c
 use table::Table;
 
 // Minutes of a part, parts of the week, and cells of a part.
-pub const PART: usize = 20;
+pub const PART: usize = 32;
 
-pub const PARTS: usize = 504;
+pub const PARTS: usize = 315;
 
 pub const CELLS: usize = Table::NODES * PART;
 

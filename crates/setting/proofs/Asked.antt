@@ -28,22 +28,12 @@ use Rattle.hourlaws.specs.SetMinute.{planned, sameShape, weekWithin, timetableR
 use Rattle.windows.specs.Timed.{Timed}
 use Rattle.windows.proofs.Timed.{timed-of}
 use Rattle.week.specs.Week.{Shared}
-
--- The causes that follow 17.
-abbrev pub left : List ℤ → List ℤ → ℕ
-left p ws =
-    first
-    (cause 2 (not (sharesFit (treeOf p) ws))
-    ∷ cause 7 (not (weekWithin fixed wholeShare (treeOf p) ws))
-    ∷ cause 16 (not (weekWithin stated (rate p root) (treeOf p) ws))
-    ∷ [])
+use Rattle.setting.specs.Fitting.{fitting}
 
 -- Table t, a plan's table p and a list, and the tests before those over the week.
 module _ (t p ws : List ℤ) where
-  abbrev pub fitting : Bool
-  fitting = every (sameShape t p ∷ wholeWindows ws ∷ allBelow (windowCount ws) (windowFormed (treeOf p) ws) ∷ [])
-
-  pub timed : fitting ≡ true → (i : ℕ) → i < windowCount ws → Timed ws i
+  pub timed : fitting t p ws ≡ true → (i : ℕ) → i < windowCount ws → Timed ws i
+  unfolding fitting
   timed h = timed-of (treeOf p) ws (head-holds _ _ (rest-hold _ _ (rest-hold _ _ h)))
 
   pub shared : InOrder p → Shared p
@@ -59,8 +49,8 @@ module _ (t p ws : List ℤ) where
       }
 
   -- Cause 17 is these tests and the one that no two windows overlap.
-  seventeen : every (sameShape t p ∷ timetable (treeOf p) ws ∷ []) ≡ (fitting && apart ws)
-  unfolding timetable every
+  seventeen : every (sameShape t p ∷ timetable (treeOf p) ws ∷ []) ≡ (fitting t p ws && apart ws)
+  unfolding fitting timetable every
   seventeen = regrouped (sameShape t p) (wholeWindows ws) (allBelow (windowCount ws) (windowFormed (treeOf p) ws)) (apart ws)
     where
       regrouped : (a b c d : Bool) → (a && ((b && (c && (d && true))) && true)) ≡ ((a && (b && (c && true))) && d)
@@ -70,17 +60,34 @@ module _ (t p ws : List ℤ) where
       regrouped true false c d = refl
       regrouped false b c d = refl
 
-  pub unfit : fitting ≡ false → timetableRefusal t p ws ≡ 17
+  pub unfit : fitting t p ws ≡ false → timetableRefusal t p ws ≡ 17
   unfolding timetableRefusal
   unfit h = first-here 17 _ _ (ap not (seventeen ∙ ap (λ (b : Bool). b && apart ws) h))
 
-  pub overlapping : fitting ≡ true → apart ws ≡ false → timetableRefusal t p ws ≡ 17
+  pub overlapping : fitting t p ws ≡ true → apart ws ≡ false → timetableRefusal t p ws ≡ 17
   unfolding timetableRefusal
   overlapping h o = first-here 17 _ _ (ap not (seventeen ∙ ap₂ _&&_ h o))
 
-  pub timetable-left : fitting ≡ true → apart ws ≡ true → timetableRefusal t p ws ≡ left p ws
+  -- Where no two overlap, 2 for a share is the next cause.
+  pub two : fitting t p ws ≡ true → apart ws ≡ true → sharesFit (treeOf p) ws ≡ false → timetableRefusal t p ws ≡ 2
   unfolding timetableRefusal
-  timetable-left h a = first-past 17 _ _ (ap not (seventeen ∙ ap₂ _&&_ h a))
+  two h a e = first-past 17 _ _ (ap not (seventeen ∙ ap₂ _&&_ h a)) ∙ first-here 2 _ _ (ap not e)
+
+  -- Then 7 and 16.
+  pub record SumsLeft : Type 0 where
+    pub seven : weekWithin fixed wholeShare (treeOf p) ws ≡ false → timetableRefusal t p ws ≡ 7
+    pub sixteen : weekWithin fixed wholeShare (treeOf p) ws ≡ true → weekWithin stated (rate p root) (treeOf p) ws ≡ false → timetableRefusal t p ws ≡ 16
+    pub none : weekWithin fixed wholeShare (treeOf p) ws ≡ true → weekWithin stated (rate p root) (treeOf p) ws ≡ true → timetableRefusal t p ws ≡ 0
+
+  pub sums-left : fitting t p ws ≡ true → apart ws ≡ true → sharesFit (treeOf p) ws ≡ true → SumsLeft
+  unfolding timetableRefusal
+  sums-left h a fit =
+      let past = first-past 17 _ _ (ap not (seventeen ∙ ap₂ _&&_ h a)) ∙ first-past 2 _ _ (ap not fit) in
+      record {
+        seven = λ e. past ∙ first-here 7 _ _ (ap not e);
+        sixteen = λ e s. past ∙ first-past 7 _ _ (ap not e) ∙ first-here 16 _ _ (ap not s);
+        none = λ e s. past ∙ first-past 7 _ _ (ap not e) ∙ first-past 16 _ _ (ap not s) ∙ first-end;
+      }
 
 -- Every window of a timetable is one of a node's number.
 pub timed-nodes : (p ws : List ℤ) → timetable (treeOf p) ws ≡ true → (i : ℕ) → i < windowCount ws → windowNode ws i < nodes

@@ -6,7 +6,6 @@ ghost use Prim.Native.Nat.{ℕ, _≤_, _<_};
 ghost use lib.ListN.{length, getD};
 ghost use lib.IntN.{pos};
 ghost use Rattle.numbers.specs.Whole.{withinℤ};
-ghost use Rattle.numbers.specs.Tests.{every};
 ghost use Rattle.numbers.specs.Below.{allBelow};
 ghost use Rattle.definitions.specs.Limits.{tableLength, nodes, greatestRate};
 ghost use Rattle.definitions.specs.Tree.{treeOf};
@@ -14,8 +13,9 @@ ghost use Rattle.definitions.specs.Order.{inOrder};
 ghost use Rattle.definitions.specs.Refusals.{lastRefusal, cause, first, kept};
 ghost use Rattle.definitions.specs.Calls.{reshared};
 ghost use Rattle.answers.specs.Answers.{told};
-ghost use Rattle.hourlaws.specs.Windows.{weekMinutes, lastMinute, windowCount, windowNode, windowFormed, wholeWindows, shareIn, treeAt};
+ghost use Rattle.hourlaws.specs.Windows.{weekMinutes, lastMinute, windowCount, windowNode, sharesFit, shareIn, treeAt};
 ghost use Rattle.hourlaws.specs.SetMinute.{sameNode, sameShape, resharedAs, timetableRefusal, minuteTable, setMinuteRefusal, setMinuteTable, setMinuteAnswer};
+ghost use Rattle.setting.specs.Fitting.{fitting};
 use answers::Answer;
 use answers::Refusal;
 use table::Table;
@@ -61,12 +61,32 @@ fn same_shape(table: &[i64], plan: &[i64]) -> bool
 // Whether a table has the plan's shape, and a list is whole windows that are right for the plan.
 fn fitting(table: &[i64], plan: &[i64], windows: &[i64]) -> bool
     requires { ⌜ (length (now table) ≡ tableLength) × (length (now plan) ≡ tableLength) ⌝ }
-    ensures { λ r. ⌜ r ≡ every (sameShape (now (table .entry)) (now (plan .entry)) ∷ wholeWindows (now (windows .entry)) ∷ allBelow (windowCount (now (windows .entry))) (windowFormed (treeOf (now (plan .entry))) (now (windows .entry))) ∷ []) ⌝ }
+    ensures { λ r. ⌜ r ≡ fitting (now (table .entry)) (now (plan .entry)) (now (windows .entry)) ⌝ }
 {
     let shape = same_shape(table, plan);
     let whole = windows.len() % windows::WINDOW == 0;
     let formed = windows::windows_formed(plan, windows);
     shape & whole & formed
+}
+
+// The number of the first cause in the timetable that turns set minute back, or 0, once the list is whole windows that are right and their
+// shares are in their limits.
+fn week_refusal(table: &[i64], plan: &[i64], windows: &[i64]) -> u64
+    requires { ⌜ (length (now table) ≡ tableLength) × (inOrder (now plan) ≡ true) × (fitting (now table) (now plan) (now windows) ≡ true) × (sharesFit (treeOf (now plan)) (now windows) ≡ true) ⌝ }
+    ensures first { λ r. ⌜ r ≡ timetableRefusal (now (table .entry)) (now (plan .entry)) (now (windows .entry)) ⌝ }
+    ensures small { λ r. ⌜ r ≤ lastRefusal ⌝ }
+{
+    let week = week::judge(plan, windows);
+    if !week.apart {
+        return Refusal::TIMETABLE_WRONG;
+    }
+    if !week.fixed {
+        return Refusal::SHARES_ABOVE;
+    }
+    if !week.stated {
+        return Refusal::STATED_WRONG;
+    }
+    0
 }
 
 // The number of the first cause in the timetable that turns set minute back, or 0.
@@ -78,20 +98,14 @@ fn timetable_refusal(table: &[i64], plan: &[i64], windows: &[i64]) -> u64
     if !fitting(table, plan, windows) {
         return Refusal::TIMETABLE_WRONG;
     }
+    if windows::shares_fit(plan, windows) {
+        return week_refusal(table, plan, windows);
+    }
     let week = week::judge(plan, windows);
     if !week.apart {
         return Refusal::TIMETABLE_WRONG;
     }
-    if !windows::shares_fit(plan, windows) {
-        return Refusal::OUTSIDE_LIMITS;
-    }
-    if !week.fixed {
-        return Refusal::SHARES_ABOVE;
-    }
-    if !week.stated {
-        return Refusal::STATED_WRONG;
-    }
-    0
+    Refusal::OUTSIDE_LIMITS
 }
 
 // Gives node k the plan's kind, and its share of a list.
