@@ -158,8 +158,8 @@ extern "C" {
 
 /*
  * A timetable: HDS_WINDOW_LENGTH numbers for each window. A window covers the minutes from its start up to, but not
- * including, its end: 0 <= start < end <= HDS_WEEK_MINUTES. Minutes are 0 to HDS_LAST_MINUTE; which one is 0, as
- * Monday 0:00, is for the room to choose.
+ * including, its end: 0 <= start < end <= HDS_WEEK_MINUTES. Minutes are 0 to HDS_LAST_MINUTE; which one is 0,
+ * such as Monday 0:00, is for the room to choose.
  */
 #define HDS_WEEK_MINUTES 10080
 #define HDS_LAST_MINUTE 10079
@@ -444,10 +444,11 @@ uint32_t hds_plan_check(const uint8_t *plan, size_t plan_length);
  * but the root gets the plan's kind, and inside a window of its own the window's share, else the plan's; then all rates
  * but the disk's are renewed. Balances, waiting requests, ports and the count stay. Answers 0. The windows,
  * HDS_WINDOW_LENGTH numbers each, may stand in any order, and there may be none. windows_length counts numbers: four
- * windows given as 4 are one window. Kinds and shares that the table had make no difference: a share that was changed
- * since is gone, and any minute can follow any other, also after a restart. The whole week is judged, whichever minute is
- * given, so what is accepted at one minute is accepted at all. Plan and windows are the firmware's to keep. Do not write
- * that plan from the table: inside a window hds_plan_write takes the window's share for the plan's. Refused:
+ * windows given as 4 are one window. It does not count bytes: the call would read beyond the list. Kinds and shares that
+ * the table had make no difference: a share that was changed since is gone, and any minute can follow any other, also
+ * after a restart. The whole week is judged, whichever minute is given, so what is accepted at one minute is accepted at
+ * all. Plan and windows are the firmware's to keep. Do not write that plan from the table: inside a window
+ * hds_plan_write takes the window's share for the plan's. Refused:
  *   HDS_NOT_IN_ORDER      the table
  *   HDS_OUTSIDE_LIMITS    minute
  *   HDS_PLAN_WRONG        the plan's own, as hds_plan_check: its length, count, an offset or a kind, by its edition

@@ -44,7 +44,7 @@ summable which t h =
     let s = small t k (node-at t h k hk e) in
     record { rate = omega arith; credit = omega arith; debt = omega arith })
 
-pub shareable : (t : List ℤ) → recordsInOrder t ≡ true → Shareable t
+pub shareable : (t : List ℤ) → recordsInOrder t ≡ true → Shareable (treeOf t)
 shareable t h = shareable-of t (λ k hk e. limits-of t k (node-at t h k hk e .limits))
 
 pub sum-small : (which : Summand) (t : List ℤ) → recordsInOrder t ≡ true → (c : ℕ) → sumUnder (treeOf t) c (term which t) ≤ 2 ^ 63
@@ -54,14 +54,14 @@ sum-small which t h c =
 
 -- All sums are 0 at the start, and at the end those under the classes.
 pub totals-start : (t : List ℤ) → Totals t 1 (replicate shareSums 0) (replicate nodes 0) (replicate nodes 0) (replicate nodes 0)
-totals-start t = record { shares = share-sums-start t; depths = sums-start Depths t; credits = sums-start Credits t; debts = sums-start Debts t }
+totals-start t = record { shares = share-sums-start (treeOf t); depths = sums-start Depths t; credits = sums-start Credits t; debts = sums-start Debts t }
 
 pub totals-sums : (t : List ℤ) (ss ds ps ms : List ℕ) → Totals t nodes ss ds ps ms → (c : ℕ) → c < nodes → (under : UnderClass) → under .fixed ≡ getD ss (sumAt c fixed) 0 → under .stated ≡ getD ss (sumAt c stated) 0 → Sums t c under (getD ds c 0) (getD ps c 0) (getD ms c 0)
 unfolding term
 totals-sums t ss ds ps ms f c hc under fixedShares statedRates =
     record {
-      fixed = fixedShares ∙ share-sums-end t ss (f .shares) c fixed hc (omega arith);
-      stated = statedRates ∙ share-sums-end t ss (f .shares) c stated hc (omega arith);
+      fixed = fixedShares ∙ share-sums-end (treeOf t) ss (f .shares) c fixed hc (omega arith);
+      stated = statedRates ∙ share-sums-end (treeOf t) ss (f .shares) c stated hc (omega arith);
       depths = sums-end Depths t ds (f .depths) c hc;
       credits = sums-end Credits t ps (f .credits) c hc;
       debts = sums-end Debts t ms (f .debts) c hc;

@@ -41,7 +41,7 @@ pub record Sums (t : List ℤ) (c : ℕ) (shares : UnderClass) (d p m : ℕ) : T
 
 -- Four lists have the sums under each class of the nodes below n: shares by kind, depths, and both parts of balances.
 pub record Totals (t : List ℤ) (n : ℕ) (ss ds ps ms : List ℕ) : Type 0 where
-  pub shares : ShareSums t n ss
+  pub shares : ShareSums (treeOf t) n ss
   pub depths : SumsBelow Depths t n ds
   pub credits : SumsBelow Credits t n ps
   pub debts : SumsBelow Debts t n ms

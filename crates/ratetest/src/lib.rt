@@ -24,7 +24,7 @@ fn is_part(rate: u64, share: u64, by: Division) -> bool
 
 // Whether the rate of node k, where it is there, is the one that its class's rate, as it stands, gives it.
 fn rate_follows(table: &[i64], shares: &[u64; Table::SHARE_SUMS], k: usize) -> bool
-    requires { ⌜ Testable (now table) × ShareSums (now table) nodes (now shares) × (0 < k) × (k < nodes) ⌝ }
+    requires { ⌜ Testable (now table) × ShareSums (treeOf (now table)) nodes (now shares) × (0 < k) × (k < nodes) ⌝ }
     ensures { λ r. ⌜ r ≡ testIf (there (treeOf (now (table .entry))) k) (rateFollows (now (table .entry))) k ⌝ }
 {
     if !tree::there(table, k) {
@@ -43,7 +43,7 @@ fn rate_follows(table: &[i64], shares: &[u64; Table::SHARE_SUMS], k: usize) -> b
 
 // Whether every rate is that of document 01, "Rates", as document 02, (f), has it, by the sums.
 pub fn rates_in_order(table: &[i64], shares: &[u64; Table::SHARE_SUMS]) -> bool
-    requires { ⌜ Testable (now table) × ShareSums (now table) nodes (now shares) ⌝ }
+    requires { ⌜ Testable (now table) × ShareSums (treeOf (now table)) nodes (now shares) ⌝ }
     ensures { λ r. ⌜ r ≡ eachNode (treeOf (now (table .entry))) (rateInOrder (now (table .entry))) ⌝ }
 {
     let mut ok = true;

@@ -70,8 +70,8 @@ pub onward-at : (t u : List ℤ) (c m n : ℕ) (marks : List Bool) → m ≡ n �
 onward-at t u c m n marks e o = subst (λ (i : ℕ). Onward t u c i marks) e o
 
 -- The sums under the classes stay.
-pub same-share-sums : (t u : List ℤ) (sums : List ℕ) → treeOf u ≡ treeOf t → ShareSums t nodes sums → ShareSums u nodes sums
-same-share-sums t u sums same f = record { long = f .long; at = rw same (f .at) }
+pub same-share-sums : (t u : List ℤ) (sums : List ℕ) → treeOf u ≡ treeOf t → ShareSums (treeOf t) nodes sums → ShareSums (treeOf u) nodes sums
+same-share-sums t u sums same f = rw same f
 
 -- The turn of node n at level l.
 module _ (t : List ℤ) (c l n : ℕ) (marks : List Bool) (hn : n < nodes) (d : Descent t c (l * nodes + n) marks) where

@@ -28,7 +28,7 @@ fn renew_node(
     level: u64,
     k: usize,
 )
-    requires { ⌜ Descent (now table) c (level * nodes + k) (now below) × ShareSums (now table) nodes (now shares) × (0 < level) × (k < nodes) ⌝ }
+    requires { ⌜ Descent (now table) c (level * nodes + k) (now below) × ShareSums (treeOf (now table)) nodes (now shares) × (0 < level) × (k < nodes) ⌝ }
     ensures { λ _. ⌜ Onward (now (table .entry)) (now (table .exit)) c (level * nodes + k + 1) (now (below .exit)) ⌝ }
 {
     if !at_level(table, k, level) {
@@ -52,7 +52,7 @@ fn renew_level(
     c: usize,
     level: u64,
 )
-    requires { ⌜ Descent (now table) c (level * nodes) (now below) × ShareSums (now table) nodes (now shares) × (0 < level) ⌝ }
+    requires { ⌜ Descent (now table) c (level * nodes) (now below) × ShareSums (treeOf (now table)) nodes (now shares) × (0 < level) ⌝ }
     ensures { λ _. ⌜ Onward (now (table .entry)) (now (table .exit)) c (level * nodes + nodes) (now (below .exit)) ⌝ }
 {
     let mut k: usize = 0;

@@ -27,15 +27,15 @@ use Rattle.hourlaws.specs.Windows.{wholeWindows, windowNumber, covers, valueBy,
 use Rattle.hourlaws.specs.SetMinute.{sameNode}
 use Rattle.scenarios.specs.Scenario.{Scenario, firstLent, secondLent, entries, keptAfter, after, sevens, Passes}
 use Rattle.scenarios.proofs.Judge.{sameList, sameOutcome, holds, run, run-hold}
-use Rattle.scenarios.proofs.Near.{zeros, few, recordOn, placeNear, putNear, treeNear, nearNodes, sumNear, eachNear, unusedAt, unusedNear, nextNear, lentNear}
-use Rattle.scenarios.proofs.Week.{atMinute, atTurns, minuteSum, parentsNear, nearClasses, withinNear, weekNear, windowsNear, nearShares, sharesAt, resharedNear, nearBoth, nodesNear}
+use Rattle.scenarios.proofs.Near.{zeros, zeroFrom, recordOn, placeNear, putNear, treeNear, bound, nearNodes, sumNear, eachNear, unusedAt, unusedNear, nextNear, lentNear}
+use Rattle.scenarios.proofs.Week.{atMinute, atTurns, minuteSum, parentsBelow, nearClasses, withinNear, weekNear, windowsBelow, nearShares, sharesAt, resharedNear, nodesNear}
 use Rattle.scenarios.proofs.Short.{Ordered, by, with, byIf, withIf, each, shortChildRate, rateNear, ratesNear, shortLimits, shortSpare, shortClass, shortRate, shortChild, shortBalance, shortArrivals, shortStated, shortInOrder, orderNear, shortJoinRefusal, shortLeaveRefusal, shortChangeShareRefusal, shortChangeRateRefusal, shortRequestRefusal, shortLookRefusal, shortSameRefusal, shortRates, shortLost, shortWaiting, shortAllWaiting, shortPorts, shortPortWaiting, shortTickRefusal, shortGrown, shortServed, shortCut, shortStepTwo, shortStepThree, shortTicked}
 use Rattle.scenarios.proofs.Plan.{shortEntry, nextEntry, entriesNear, opens, shortEntries, shortPlan, shortTimetableRefusal, shortSetMinuteRefusal, shortReshared, shortMinuteTable}
 use Rattle.scenarios.proofs.Step.{Known, sameBytes, once, readAgain, nothing, shortStep, knownAfter, ordered-after}
 
 -- A scenario run by the short forms of its steps. The line under the signature names what antt unfolds to compute it.
 unfoldable pub shortRun : Scenario → (kept t : List ℤ) → Known → Bool
-unfolding plus sameℤ withinℤ every sumBelow sumℤBelow allBelow forBelow shareLimit portLimit place put header putHeader count tag size arrival treeOf there isClass isClient isFixed isStated childOf childless countIf testIf sumUnder eachNode eachClass eachClient kindShare kindSum fixedRate leftRate weightedRate dividedRate unstatedRate childRate rateAtLevel rateIn writeRates isZero headerInOrder rootInOrder parentInOrder cost sizeWithin requestInOrder queueInOrder differsAt statedPlaced first outcome kept blank opened openLimits openRefusal openTable openAnswer joined joinLimits cleared reshared changeShareLimits requested requestLimits grains enough supplierFrom supply isFound nodeFound stepsFound supplier stepsAbove lower charge takenOut dispatched ready served supplied better goesBefore choice ofPort listed firstLent secondLent entries sameList sameOutcome byteAt le2 le4 sortOf shareKindOf startOf shareLength lastKind editionIn countIn shareFrom entryIn planIn entryFormed formed openedFor refusing standing rising wholeWindows windowNumber covers valueBy shareIn treeAt windowFormed overlap apart timetable shareFits sharesFit sameNode zeros few recordOn placeNear putNear treeNear nearNodes sumNear eachNear unusedAt unusedNear nextNear lentNear atMinute atTurns minuteSum parentsNear nearClasses withinNear weekNear windowsNear nearShares sharesAt resharedNear nearBoth nodesNear by with byIf withIf each shortChildRate rateNear ratesNear shortLimits shortSpare shortClass shortRate shortChild shortBalance shortArrivals shortStated shortInOrder orderNear shortJoinRefusal shortLeaveRefusal shortChangeShareRefusal shortChangeRateRefusal shortRequestRefusal shortLookRefusal shortSameRefusal shortRates shortLost shortWaiting shortAllWaiting shortPorts shortPortWaiting shortTickRefusal shortGrown shortServed shortCut shortStepTwo shortStepThree shortTicked shortEntry nextEntry entriesNear opens shortEntries shortPlan shortTimetableRefusal shortSetMinuteRefusal shortReshared shortMinuteTable sameBytes once readAgain nothing shortStep
+unfolding plus sameℤ withinℤ every sumBelow sumℤBelow allBelow forBelow shareLimit portLimit place put header putHeader count tag size arrival treeOf there isClass isClient isFixed isStated childOf childless countIf testIf sumUnder eachNode eachClass eachClient kindShare kindSum fixedRate leftRate weightedRate dividedRate unstatedRate childRate rateAtLevel rateIn writeRates isZero headerInOrder rootInOrder parentInOrder cost sizeWithin requestInOrder queueInOrder differsAt statedPlaced first outcome kept blank opened openLimits openRefusal openTable openAnswer joined joinLimits cleared reshared changeShareLimits requested requestLimits grains enough supplierFrom supply isFound nodeFound stepsFound supplier stepsAbove lower charge takenOut dispatched ready served supplied better goesBefore choice ofPort listed firstLent secondLent entries sameList sameOutcome byteAt le2 le4 sortOf shareKindOf startOf shareLength lastKind editionIn countIn shareFrom entryIn planIn entryFormed formed openedFor refusing standing rising wholeWindows windowNumber covers valueBy shareIn treeAt windowFormed overlap apart timetable shareFits sharesFit sameNode zeros zeroFrom recordOn placeNear putNear treeNear bound nearNodes sumNear eachNear unusedAt unusedNear nextNear lentNear atMinute atTurns minuteSum parentsBelow nearClasses withinNear weekNear windowsBelow nearShares sharesAt resharedNear nodesNear by with byIf withIf each shortChildRate rateNear ratesNear shortLimits shortSpare shortClass shortRate shortChild shortBalance shortArrivals shortStated shortInOrder orderNear shortJoinRefusal shortLeaveRefusal shortChangeShareRefusal shortChangeRateRefusal shortRequestRefusal shortLookRefusal shortSameRefusal shortRates shortLost shortWaiting shortAllWaiting shortPorts shortPortWaiting shortTickRefusal shortGrown shortServed shortCut shortStepTwo shortStepThree shortTicked shortEntry nextEntry entriesNear opens shortEntries shortPlan shortTimetableRefusal shortSetMinuteRefusal shortReshared shortMinuteTable sameBytes once readAgain nothing shortStep
 shortRun [] = λ kept t known. true
 shortRun (step ∷ steps) = λ kept t known. shortStep step (shortRun steps) kept t known .value
 

@@ -1,9 +1,9 @@
--- The tests of a timetable over the week, near: only minute 0 and the minutes at which a window starts or ends are tested, and of a
--- plan's table with few nodes only the nodes below 8.
+-- What set minute tests and writes, near: only minute 0 and the minutes at which a window starts or ends are tested, and of tables with
+-- few nodes only these are looked at.
 use Prim.Native.Nat.{ℕ, zero, suc, _≤_, _<_}
 use mathlib.Core.Path.{_≡_, refl, sym, ap, _∙_, fun-ext}
 use mathlib.Core.Logic.{inl, inr}
-use mathlib.Core.Bool.{Bool, true, false, cond, _&&_, _||_, true≢false}
+use mathlib.Core.Bool.{Bool, true, false, _&&_, _||_, true≢false}
 use mathlib.Core.List.{List}
 use native.Mathlib.Omega.{arith}
 use borrow.Author.Tests.{ltb-true, lt-ltb, eqb-true, eq-eqb, ne-eqb, le-leb}
@@ -29,7 +29,7 @@ use Rattle.hourlaws.specs.Windows.{weekMinutes, windowCount, windowNode, window
 use Rattle.hourlaws.specs.SetMinute.{sameNode, kindWithin, weekWithin, resharedAs}
 use Rattle.hourlaws.proofs.Values.{cover-facts, value-has}
 use Rattle.hourlaws.proofs.Turns.{decided}
-use Rattle.scenarios.proofs.Near.{fewNodes, few, treeNear, nearNodes, up-to, near-cases, all-from, sum-from, for-from, far-place, far-sort, place-is}
+use Rattle.scenarios.proofs.Near.{zeroFrom, treeNear, bound, bound-cases, nearNodes, near-cases, all-from, sum-from, for-from, far-place, far-sort, place-is}
 
 -- A test at a minute, where that is one of the week; at minute 0 and at each start and end of a window.
 unfoldable pub atMinute : (ℕ → Bool) → ℕ → Bool
@@ -115,27 +115,29 @@ minute-sum : (p ws : List ℤ) (m kind c : ℕ) → kindSum (treeAt (treeNear p)
 unfolding minuteSum kindSum sumUnder treeAt childOf there countIf every
 minute-sum p ws m kind c =
     let g : ℕ → ℕ = λ k. countIf (childOf (treeNear p) c k) (kindShare (treeAt (treeNear p) ws m) kind) k in
-    near-cases p (λ n. sumBelow nodes g ≡ sumBelow n g) (λ h. sum-from fewNodes g (λ k far. rw (far-sort p k h far)) nodes (omega arith)) refl
+    near-cases p (λ n. sumBelow nodes g ≡ sumBelow n g) (λ b hb h. sum-from b g (λ k far. rw (far-sort p b k h far)) nodes hb) refl
 
--- How many numbers can be a parent's in a plan's table p.
-unfoldable pub parentsNear : List ℤ → Bool
-parentsNear p = allBelow fewNodes (λ k. ltb (treeNear p .parent k) fewNodes)
+-- Whether the first b nodes of a plan's table p have parents among these; how many numbers can be a parent's.
+unfoldable pub parentsBelow : List ℤ → ℕ → Bool
+parentsBelow p b = allBelow b (λ k. ltb (treeNear p .parent k) b)
 
 unfoldable pub nearClasses : List ℤ → ℕ
-nearClasses p = cond (few p && parentsNear p) fewNodes nodes
+nearClasses p = bound (λ b. zeroFrom b p && parentsBelow p b)
 
 -- A far number has no children there.
-no-children : (p : List ℤ) (c k : ℕ) → parentsNear p ≡ true → fewNodes ≤ c → k < fewNodes → childOf (treeNear p) c k ≡ false
-unfolding parentsNear childOf
-no-children p c k h far near =
-    let below = ltb-true (treeNear p .parent k) fewNodes (all-at fewNodes (λ k. ltb (treeNear p .parent k) fewNodes) h k near) in
+no-child : (p : List ℤ) (b c k : ℕ) → parentsBelow p b ≡ true → b ≤ c → k < b → childOf (treeNear p) c k ≡ false
+unfolding parentsBelow childOf
+no-child p b c k h far near =
+    let below = ltb-true (treeNear p .parent k) b (all-at b (λ k. ltb (treeNear p .parent k) b) h k near) in
     rest-fail _ _ (rest-fail _ _ (head-fails _ _ (ne-eqb (treeNear p .parent k) c (omega arith))))
 
-minute-none : (p ws : List ℤ) (m kind c : ℕ) → (few p && parentsNear p) ≡ true → fewNodes ≤ c → minuteSum p ws m kind c ≡ 0
-unfolding minuteSum nearNodes countIf
-minute-none p ws m kind c h far =
-    rw (and-left (few p) _ h)
-    (sum-zero fewNodes _ (λ k near. rw (no-children p c k (and-right (few p) _ h) far near)))
+minute-none : (p ws : List ℤ) (m kind b c : ℕ) → (zeroFrom b p && parentsBelow p b) ≡ true → b ≤ nodes → b ≤ c → minuteSum p ws m kind c ≡ 0
+unfolding kindSum sumUnder treeAt childOf there countIf every
+minute-none p ws m kind b c h hb far =
+    let g : ℕ → ℕ = λ k. countIf (childOf (treeNear p) c k) (kindShare (treeAt (treeNear p) ws m) kind) k in
+    sym (minute-sum p ws m kind c)
+    ∙ sum-from b g (λ k away. rw (far-sort p b k (and-left _ _ h) away)) nodes hb
+    ∙ sum-zero b g (λ k near. ap (λ (t : Bool). countIf t (kindShare (treeAt (treeNear p) ws m) kind) k) (no-child p b c k (and-right (zeroFrom b p) _ h) far near))
 
 -- Whether the shares of one kind are within a limit at minute m, and at every minute of the week.
 unfoldable pub withinNear : (kind limit : ℕ) (p ws : List ℤ) (m : ℕ) → Bool
@@ -146,8 +148,8 @@ unfolding kindWithin withinNear nearClasses
 within-is kind limit p ws m =
     let near : ℕ → Bool = λ c. leb (minuteSum p ws m kind c) limit in
     all-cong nodes _ near (λ c l. ap (λ (n : ℕ). leb n limit) (minute-sum p ws m kind c))
-    ∙ up-to (few p && parentsNear p) (λ n. allBelow nodes near ≡ allBelow n near)
-    (λ h. all-from fewNodes near (λ c far. le-leb _ limit (omega (arith, minute-none p ws m kind c h far))) nodes (omega arith))
+    ∙ bound-cases (λ b. zeroFrom b p && parentsBelow p b) (λ n. allBelow nodes near ≡ allBelow n near)
+    (λ b hb h. all-from b near (λ c far. le-leb _ limit (omega (arith, minute-none p ws m kind b c h hb far))) nodes hb)
     refl
 
 unfoldable pub weekNear : (kind limit : ℕ) (p ws : List ℤ) → Bool
@@ -157,12 +159,12 @@ pub week-is : (kind limit : ℕ) (p ws : List ℤ) → weekWithin kind limit (tr
 unfolding weekNear
 week-is kind limit p ws = decided kind limit (treeNear p) ws ∙ turns-are ws (λ m. kindWithin kind limit (treeAt (treeNear p) ws m)) ∙ ap (atTurns ws) (fun-ext (within-is kind limit p ws))
 
--- Up to which node the shares of a minute are written into table t, for a plan's table p.
-unfoldable pub windowsNear : List ℤ → Bool
-windowsNear ws = allBelow (windowCount ws) (λ i. ltb (windowNode ws i) fewNodes)
+-- Whether all windows are of the first b nodes; up to which node the shares of a minute are written into table t, for a plan's table p.
+unfoldable pub windowsBelow : List ℤ → ℕ → Bool
+windowsBelow ws b = allBelow (windowCount ws) (λ i. ltb (windowNode ws i) b)
 
 unfoldable pub nearShares : (t p ws : List ℤ) → ℕ
-nearShares t p ws = cond (few t && (few p && windowsNear ws)) fewNodes nodes
+nearShares t p ws = bound (λ b. zeroFrom b t && (zeroFrom b p && windowsBelow ws b))
 
 -- Node k with the kind and share that it has at minute m.
 unfoldable pub sharesAt : (p ws : List ℤ) (m k : ℕ) → List ℤ → List ℤ
@@ -171,70 +173,70 @@ sharesAt p ws m k u = reshared u k (pos (treeAt (treeNear p) ws m .kind k)) (pos
 unfoldable pub resharedNear : (t p ws : List ℤ) (m : ℕ) → List ℤ
 resharedNear t p ws m = forBelow (nearShares t p ws) (sharesAt p ws m) t
 
--- Far places are zero.
-FarZero : List ℤ → Type 0
-FarZero u = (k q : ℕ) → fewNodes ≤ k → q < recordLength → place u k q ≡ pos 0
+-- The places from node b on are zero.
+FarZero : ℕ → List ℤ → Type 0
+FarZero b u = (k q : ℕ) → b ≤ k → q < recordLength → place u k q ≡ pos 0
 
-zero-put : (u : List ℤ) (k q : ℕ) → FarZero u → fewNodes ≤ k → q < recordLength → put u k q (pos 0) ≡ u
+zero-put : (b : ℕ) (u : List ℤ) (k q : ℕ) → FarZero b u → b ≤ k → q < recordLength → put u k q (pos 0) ≡ u
 unfolding FarZero
-zero-put u k q h far l = ap (put u k q) (sym (h k q far l)) ∙ put-same u k q
+zero-put b u k q h far l = ap (put u k q) (sym (h k q far l)) ∙ put-same u k q
 
-module _ (p ws : List ℤ) (m : ℕ) where
-  near-keeps : (k : ℕ) (u : List ℤ) → k < fewNodes → FarZero u → FarZero (sharesAt p ws m k u)
+module _ (p ws : List ℤ) (m b : ℕ) where
+  near-keeps : (k : ℕ) (u : List ℤ) → k < b → FarZero b u → FarZero b (sharesAt p ws m k u)
   unfolding FarZero sharesAt reshared
   near-keeps k u near h j q far l =
       place-put-node _ k shareAt _ j q (omega arith) l (omega arith) ∙ place-put-node u k kindAt _ j q (omega arith) l (omega arith) ∙ h j q far l
 
-  far-kind : (k : ℕ) → few p ≡ true → fewNodes ≤ k → treeAt (treeNear p) ws m .kind k ≡ 0
+  far-kind : (k : ℕ) → zeroFrom b p ≡ true → b ≤ k → treeAt (treeNear p) ws m .kind k ≡ 0
   unfolding treeAt treeNear plus
-  far-kind k h far = rw (sym (place-is p k kindAt) ∙ far-place p k kindAt h far)
+  far-kind k h far = rw (sym (place-is p k kindAt) ∙ far-place p b k kindAt h far)
 
-  far-share : (k : ℕ) → few p ≡ true → windowsNear ws ≡ true → fewNodes ≤ k → treeAt (treeNear p) ws m .share k ≡ 0
-  unfolding treeAt treeNear shareIn plus windowsNear
+  far-share : (k : ℕ) → zeroFrom b p ≡ true → windowsBelow ws b ≡ true → b ≤ k → treeAt (treeNear p) ws m .share k ≡ 0
+  unfolding treeAt treeNear shareIn plus windowsBelow
   far-share k h near far =
-      value-has ws (windowShare ws) k m _ (λ v. v ≡ 0) (windowCount ws) (ap plus (sym (place-is p k shareAt) ∙ far-place p k shareAt h far))
+      value-has ws (windowShare ws) k m _ (λ v. v ≡ 0) (windowCount ws) (ap plus (sym (place-is p k shareAt) ∙ far-place p b k shareAt h far))
       (λ i l c.
-      absurd (omega (arith, cover-facts ws i k m c .node, ltb-true (windowNode ws i) fewNodes (all-at (windowCount ws) (λ i. ltb (windowNode ws i) fewNodes) near i l))))
+      absurd
+      (omega (arith, cover-facts ws i k m c .node, ltb-true (windowNode ws i) b (all-at (windowCount ws) (λ i. ltb (windowNode ws i) b) near i l))))
 
-  far-same : (k : ℕ) (u : List ℤ) → few p ≡ true → windowsNear ws ≡ true → FarZero u → fewNodes ≤ k → sharesAt p ws m k u ≡ u
+  far-same : (k : ℕ) (u : List ℤ) → zeroFrom b p ≡ true → windowsBelow ws b ≡ true → FarZero b u → b ≤ k → sharesAt p ws m k u ≡ u
   unfolding sharesAt reshared
-  far-same k u hp hw h far = rw (far-kind k hp far, far-share k hp hw far) (ap (λ (v : List ℤ). put v k shareAt (pos 0)) (zero-put u k kindAt h far (omega arith)) ∙ zero-put u k shareAt h far (omega arith))
+  far-same k u hp hw h far =
+      rw (far-kind k hp far, far-share k hp hw far)
+      (ap (λ (v : List ℤ). put v k shareAt (pos 0)) (zero-put b u k kindAt h far (omega arith)) ∙ zero-put b u k shareAt h far (omega arith))
 
 pub reshared-is : (t p ws : List ℤ) (m : ℕ) → resharedAs (treeAt (treeNear p) ws m) t ≡ resharedNear t p ws m
 unfolding resharedAs resharedNear nearShares sharesAt FarZero
 reshared-is t p ws m =
     let f : ℕ → List ℤ → List ℤ = sharesAt p ws m in
-    up-to (few t && (few p && windowsNear ws)) (λ n. forBelow nodes f t ≡ forBelow n f t)
-    (λ h.
-    let both = and-right (few t) (few p && windowsNear ws) h in
-    let zeros : FarZero t = λ k q far l. far-place t k q (and-left (few t) _ h) far in
-    for-from fewNodes f t
+    bound-cases (λ b. zeroFrom b t && (zeroFrom b p && windowsBelow ws b)) (λ n. forBelow nodes f t ≡ forBelow n f t)
+    (λ b hb h.
+    let both = and-right (zeroFrom b t) (zeroFrom b p && windowsBelow ws b) h in
+    let zeros : FarZero b t = λ k q far l. far-place t b k q (and-left (zeroFrom b t) _ h) far in
+    for-from b f t
     (λ k far.
-    far-same p ws m k _ (and-left (few p) (windowsNear ws) both) (and-right (few p) (windowsNear ws) both)
-    (for-keeps FarZero fewNodes f (λ k u l. near-keeps p ws m k u l) t zeros)
+    far-same p ws m b k _ (and-left (zeroFrom b p) (windowsBelow ws b) both) (and-right (zeroFrom b p) (windowsBelow ws b) both)
+    (for-keeps (FarZero b) b f (λ k u l. near-keeps p ws m b k u l) t zeros)
     far)
     nodes
-    (omega arith))
+    hb)
     refl
 
 -- Whether the nodes of tables t and p are the same.
-unfoldable pub nearBoth : (t p : List ℤ) → ℕ
-nearBoth t p = cond (few t && few p) fewNodes nodes
-
 unfoldable pub nodesNear : (t p : List ℤ) → Bool
-nodesNear t p = allBelow (nearBoth t p) (sameNode t p)
+nodesNear t p = allBelow (bound (λ b. zeroFrom b t && zeroFrom b p)) (sameNode t p)
 
-far-node : (t p : List ℤ) (k : ℕ) → (few t && few p) ≡ true → fewNodes ≤ k → sameNode t p k ≡ true
+far-node : (t p : List ℤ) (b k : ℕ) → (zeroFrom b t && zeroFrom b p) ≡ true → b ≤ k → sameNode t p k ≡ true
 unfolding sameNode
-far-node t p k h far =
+far-node t p b k h far =
     holds-with _ _ (zeros sortAt) (holds-with _ _ (zeros parentAt) (holds-with _ _ (zeros depthAt) none-left))
   where
     zeros : (q : ℕ) → sameℤ (place t k q) (place p k q) ≡ true
-    zeros q = eq-same _ _ (far-place t k q (and-left (few t) (few p) h) far ∙ sym (far-place p k q (and-right (few t) (few p) h) far))
+    zeros q = eq-same _ _ (far-place t b k q (and-left (zeroFrom b t) _ h) far ∙ sym (far-place p b k q (and-right (zeroFrom b t) _ h) far))
 
 pub nodes-same : (t p : List ℤ) → allBelow nodes (sameNode t p) ≡ nodesNear t p
-unfolding nodesNear nearBoth
+unfolding nodesNear
 nodes-same t p =
-    up-to (few t && few p) (λ n. allBelow nodes (sameNode t p) ≡ allBelow n (sameNode t p))
-    (λ h. all-from fewNodes (sameNode t p) (λ k far. far-node t p k h far) nodes (omega arith))
+    bound-cases (λ b. zeroFrom b t && zeroFrom b p) (λ n. allBelow nodes (sameNode t p) ≡ allBelow n (sameNode t p))
+    (λ b hb h. all-from b (sameNode t p) (λ k far. far-node t p b k h far) nodes hb)
     refl

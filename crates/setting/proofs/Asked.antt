@@ -42,6 +42,7 @@ module _ (t p ws : List ℤ) where
       record {
         long = o .long;
         parent = λ k hk e ne. omega (arith, zarith, o .limits k hk e .parent);
+        kind = λ k hk e ne. omega (arith, zarith, o .limits k hk e .kind);
         share = λ k hk.
             by-test (there (treeOf p) k)
             (λ e. omega (arith, within-parts _ _ _ (o .limits k hk e .share), limit-le (treeOf p .kind k)))

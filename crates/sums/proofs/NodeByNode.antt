@@ -104,48 +104,48 @@ unfolding term
 one-side t k = one-is-zero (balance t k)
 
 -- All sums of shares at once: node k's share is added to the sum of its kind under its parent.
-module _ (t : List ℤ) where
-  pub share-sums-start : ShareSums t 1 (replicate shareSums 0)
-  share-sums-start = record { long = length-replicate {A = ℕ} shareSums 0; at = λ c kind hc hk. getD-replicate shareSums (sumAt c kind) 0 0 (omega arith) ∙ sym (under-root (treeOf t) c (kindShare (treeOf t) kind)) }
+module _ (tree : Tree) where
+  pub share-sums-start : ShareSums tree 1 (replicate shareSums 0)
+  share-sums-start = record { long = length-replicate {A = ℕ} shareSums 0; at = λ c kind hc hk. getD-replicate shareSums (sumAt c kind) 0 0 (omega arith) ∙ sym (under-root tree c (kindShare tree kind)) }
 
-  pub share-sums-end : (sums : List ℕ) → ShareSums t nodes sums → (c kind : ℕ) → c < nodes → kind < kinds → getD sums (sumAt c kind) 0 ≡ kindSum (treeOf t) kind c
+  pub share-sums-end : (sums : List ℕ) → ShareSums tree nodes sums → (c kind : ℕ) → c < nodes → kind < kinds → getD sums (sumAt c kind) 0 ≡ kindSum tree kind c
   unfolding kindSum
-  share-sums-end sums f c kind hc hk = f .at c kind hc hk ∙ under-end (treeOf t) c (kindShare (treeOf t) kind)
+  share-sums-end sums f c kind hc hk = f .at c kind hc hk ∙ under-end tree c (kindShare tree kind)
 
   -- A share adds at most the greatest rate.
-  share-small : Shareable t → (kind c k : ℕ) → k < nodes → countIf (childOf (treeOf t) c k) (kindShare (treeOf t) kind) k ≤ greatestRate
+  share-small : Shareable tree → (kind c k : ℕ) → k < nodes → countIf (childOf tree c k) (kindShare tree kind) k ≤ greatestRate
   share-small s kind c k hk =
-      by-test (childOf (treeOf t) c k)
+      by-test (childOf tree c k)
       (λ e.
-      let child = child-facts (treeOf t) c k e in
-      omega (arith, counted (childOf (treeOf t) c k) (kindShare (treeOf t) kind) k e, kind-share-le (treeOf t) kind k, s .small k hk (child .there) (child .below)))
-      (λ e. omega (arith, uncounted (childOf (treeOf t) c k) (kindShare (treeOf t) kind) k e))
+      let child = child-facts tree c k e in
+      omega (arith, counted (childOf tree c k) (kindShare tree kind) k e, kind-share-le tree kind k, s .small k hk (child .there) (child .below)))
+      (λ e. omega (arith, uncounted (childOf tree c k) (kindShare tree kind) k e))
 
-  pub share-sums-small : Shareable t → (n : ℕ) → n ≤ nodes → (sums : List ℕ) → ShareSums t n sums → (c kind a : ℕ) → c < nodes → kind < kinds → a ≡ sumAt c kind → getD sums a 0 ≤ n * greatestRate
+  pub share-sums-small : Shareable tree → (n : ℕ) → n ≤ nodes → (sums : List ℕ) → ShareSums tree n sums → (c kind a : ℕ) → c < nodes → kind < kinds → a ≡ sumAt c kind → getD sums a 0 ≤ n * greatestRate
   unfolding underBelow
   share-sums-small s n hn sums f c kind a hc hk at =
-      omega (arith, ap (λ (i : ℕ). getD sums i 0) at, f .at c kind hc hk, sum-bound n greatestRate (λ k. countIf (childOf (treeOf t) c k) (kindShare (treeOf t) kind) k) (λ k h. share-small s kind c k (omega arith)))
+      omega (arith, ap (λ (i : ℕ). getD sums i 0) at, f .at c kind hc hk, sum-bound n greatestRate (λ k. countIf (childOf tree c k) (kindShare tree kind) k) (λ k h. share-small s kind c k (omega arith)))
 
   -- A node that is not there leaves all sums.
-  pub share-sums-same : (sums : List ℕ) (k : ℕ) → there (treeOf t) k ≡ false → ShareSums t k sums → ShareSums t (k + 1) sums
+  pub share-sums-same : (sums : List ℕ) (k : ℕ) → there tree k ≡ false → ShareSums tree k sums → ShareSums tree (k + 1) sums
   share-sums-same sums k gone f =
       record {
         long = f .long;
-        at = λ c kind hc hk. f .at c kind hc hk ∙ sym (under-skip (treeOf t) c (kindShare (treeOf t) kind) k (λ e. absurd (true-false (child-facts (treeOf t) c k e .there) gone)));
+        at = λ c kind hc hk. f .at c kind hc hk ∙ sym (under-skip tree c (kindShare tree kind) k (λ e. absurd (true-false (child-facts tree c k e .there) gone)));
       }
 
-  pub share-sums-next : (sums : List ℕ) (k p d a n : ℕ) → there (treeOf t) k ≡ true → (k ≡ 0 → ⊥) → treeOf t .parent k ≡ p → p < nodes → treeOf t .kind k ≡ d → d < kinds → a ≡ sumAt p d → n ≡ treeOf t .share k → ShareSums t k sums → ShareSums t (k + 1) (set sums a (getD sums a 0 + n))
+  pub share-sums-next : (sums : List ℕ) (k p d a n : ℕ) → there tree k ≡ true → (k ≡ 0 → ⊥) → tree .parent k ≡ p → p < nodes → tree .kind k ≡ d → d < kinds → a ≡ sumAt p d → n ≡ tree .share k → ShareSums tree k sums → ShareSums tree (k + 1) (set sums a (getD sums a 0 + n))
   share-sums-next sums k p d a n here below parent hp own hd at amount f =
       record {
         long = length-set sums a (getD sums a 0 + n) ∙ f .long;
         at = λ c kind hc hk.
-            let shares = kindShare (treeOf t) kind in
+            let shares = kindShare tree kind in
             elim (ℕ-discrete (sumAt c kind) a) [
               | yes e ↦
-                  (let child = child-of (treeOf t) c k (record { there = here; below = below; parent = omega (arith, parent) }) in
-                  added-here (treeOf t) c shares k sums (sumAt c kind) (f .at c kind hc hk) a n e (omega (arith, f .long)) child (amount ∙ sym (own-share (treeOf t) kind k (omega (arith, own)))))
+                  (let child = child-of tree c k (record { there = here; below = below; parent = omega (arith, parent) }) in
+                  added-here tree c shares k sums (sumAt c kind) (f .at c kind hc hk) a n e (omega (arith, f .long)) child (amount ∙ sym (own-share tree kind k (omega (arith, own)))))
               | no ne ↦
-                  added-elsewhere (treeOf t) c shares k sums (sumAt c kind) (f .at c kind hc hk) a n ne
-                  (λ child. other-share (treeOf t) kind k (λ e. ne (omega (arith, child-facts (treeOf t) c k child .parent))))
+                  added-elsewhere tree c shares k sums (sumAt c kind) (f .at c kind hc hk) a n ne
+                  (λ child. other-share tree kind k (λ e. ne (omega (arith, child-facts tree c k child .parent))))
             ];
       }

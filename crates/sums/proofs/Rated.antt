@@ -54,7 +54,7 @@ module _ (t : List ℤ) (c : ℕ) (f : Rated t c) where
       record { kind = p .kind; share = p .most; stated = λ s. omega (arith, p .most, limit-le (treeOf t .kind k)) }
 
   -- Its shares can be summed.
-  pub shareable : Shareable t
+  pub shareable : Shareable (treeOf t)
   shareable =
       record {
         parent = λ k hk e ne. f .node k hk e ne .parent;

@@ -45,7 +45,7 @@ summable-of which t limits numbers =
     }
 
 -- Their shares can be summed by kind.
-pub shareable-of : (t : List ℤ) → ((k : ℕ) → k < nodes → there (treeOf t) k ≡ true → Limits t k) → Shareable t
+pub shareable-of : (t : List ℤ) → ((k : ℕ) → k < nodes → there (treeOf t) k ≡ true → Limits t k) → Shareable (treeOf t)
 unfolding treeOf
 shareable-of t limits =
     record {

@@ -39,10 +39,10 @@ pub record SumsBelow (which : Summand) (t : List ℤ) (n : ℕ) (sums : List ℕ
 
 -- Every node that is there, but for the root, has a parent below 64, one of the three kinds, and a share of at most the
 -- greatest rate.
-pub record Shareable (t : List ℤ) : Type 0 where
-  pub parent : (k : ℕ) → k < nodes → there (treeOf t) k ≡ true → (k ≡ root → ⊥) → treeOf t .parent k < nodes
-  pub kind : (k : ℕ) → k < nodes → there (treeOf t) k ≡ true → (k ≡ root → ⊥) → treeOf t .kind k < kinds
-  pub small : (k : ℕ) → k < nodes → there (treeOf t) k ≡ true → (k ≡ root → ⊥) → treeOf t .share k ≤ greatestRate
+pub record Shareable (tree : Tree) : Type 0 where
+  pub parent : (k : ℕ) → k < nodes → there tree k ≡ true → (k ≡ root → ⊥) → tree .parent k < nodes
+  pub kind : (k : ℕ) → k < nodes → there tree k ≡ true → (k ≡ root → ⊥) → tree .kind k < kinds
+  pub small : (k : ℕ) → k < nodes → there tree k ≡ true → (k ≡ root → ⊥) → tree .share k ≤ greatestRate
 
 -- How many sums of shares there are, and where the sum of one kind under class c stands among them.
 abbrev pub shareSums : ℕ
@@ -52,6 +52,6 @@ abbrev pub sumAt : ℕ → ℕ → ℕ
 sumAt c kind = kind * nodes + c
 
 -- A list has the sums of the shares of each kind under each class, of the nodes below n.
-pub record ShareSums (t : List ℤ) (n : ℕ) (sums : List ℕ) : Type 0 where
+pub record ShareSums (tree : Tree) (n : ℕ) (sums : List ℕ) : Type 0 where
   pub long : length sums ≡ shareSums
-  pub at : (c kind : ℕ) → c < nodes → kind < kinds → getD sums (sumAt c kind) 0 ≡ underBelow n (treeOf t) c (kindShare (treeOf t) kind)
+  pub at : (c kind : ℕ) → c < nodes → kind < kinds → getD sums (sumAt c kind) 0 ≡ underBelow n tree c (kindShare tree kind)

@@ -158,7 +158,7 @@ pub fn add_one_of(
 }
 
 // Where the sum of one kind under class c stands among the sums of shares, which stand kind by kind.
-fn sum_at(c: usize, kind: usize) -> usize
+pub fn sum_at(c: usize, kind: usize) -> usize
     requires { ⌜ (c < nodes) × (kind < kinds) ⌝ }
     ensures place { λ r. ⌜ r ≡ sumAt c kind ⌝ }
     ensures small { λ r. ⌜ r < shareSums ⌝ }
@@ -168,8 +168,8 @@ fn sum_at(c: usize, kind: usize) -> usize
 
 // Adds the share of node k, where it is there, to the sum of its kind under its class.
 pub fn add_share(table: &[i64], shares: &mut [u64; Table::SHARE_SUMS], k: usize)
-    requires { ⌜ (length (now table) ≡ tableLength) × Shareable (now table) × (0 < k) × (k < nodes) × ShareSums (now table) k (now shares) ⌝ }
-    ensures { λ _. ⌜ ShareSums (now (table .entry)) (k + 1) (now (shares .exit)) ⌝ }
+    requires { ⌜ (length (now table) ≡ tableLength) × Shareable (treeOf (now table)) × (0 < k) × (k < nodes) × ShareSums (treeOf (now table)) k (now shares) ⌝ }
+    ensures { λ _. ⌜ ShareSums (treeOf (now (table .entry))) (k + 1) (now (shares .exit)) ⌝ }
 {
     if !tree::there(table, k) {
         return;
@@ -182,8 +182,8 @@ pub fn add_share(table: &[i64], shares: &mut [u64; Table::SHARE_SUMS], k: usize)
 
 // The sums of the shares of each kind under all classes, in one pass from sums of 0. The root is nobody's child.
 pub fn share_sums(table: &[i64], shares: &mut [u64; Table::SHARE_SUMS])
-    requires { ⌜ (length (now table) ≡ tableLength) × Shareable (now table) × ShareSums (now table) 1 (now shares) ⌝ }
-    ensures { λ _. ⌜ ShareSums (now (table .entry)) nodes (now (shares .exit)) ⌝ }
+    requires { ⌜ (length (now table) ≡ tableLength) × Shareable (treeOf (now table)) × ShareSums (treeOf (now table)) 1 (now shares) ⌝ }
+    ensures { λ _. ⌜ ShareSums (treeOf (now (table .entry))) nodes (now (shares .exit)) ⌝ }
 {
     let mut k: usize = 1;
     while k < Table::NODES {

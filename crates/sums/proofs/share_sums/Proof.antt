@@ -3,12 +3,13 @@ use Prim.Native.Nat.{_<_, _≤_, _-_}
 use mathlib.Core.Path.{_≡_}
 use native.Mathlib.Omega.{arith}
 use Rattle.definitions.specs.Limits.{nodes}
+use Rattle.definitions.specs.Tree.{treeOf}
 use Rattle.sums.specs.Sums.{ShareSums}
 use Rattle.sums.proofs.share_sums.Statement.{statement}
 use Rattle.sums.proofs.share_sums.Tie as tie
 
 abbrev Inv-loop : tie.InvT-loop
-Inv-loop table shares₀ k₀ shares k = (0 < k) × (k ≤ nodes) × ShareSums table k shares
+Inv-loop table shares₀ k₀ shares k = (0 < k) × (k ≤ nodes) × ShareSums (treeOf table) k shares
 
 abbrev μ-loop : tie.MeasureT-loop
 μ-loop table shares₀ k₀ shares k = nodes - k

@@ -6,15 +6,16 @@ use borrow.Author.Needs.{needs}
 use lib.ListN.{length, getD}
 use Rattle.definitions.specs.Limits.{nodes}
 use Rattle.definitions.specs.Tree.{treeOf}
-use Rattle.week.specs.Week.{cellTree, KindSums}
+use Rattle.week.specs.Week.{cellTree}
+use Rattle.sums.specs.Sums.{ShareSums}
 use Rattle.week.proofs.add_nodes.Statement.{statement}
 use Rattle.week.proofs.add_nodes.Tie as tie
 
 abbrev Inv-loop : tie.InvT-loop
-Inv-loop plan part kind j sums₀ k₀ sums k = (0 < k) × (k ≤ nodes) × KindSums (cellTree (treeOf plan) part j) kind k sums
+Inv-loop plan part j sums₀ k₀ sums k = (0 < k) × (k ≤ nodes) × ShareSums (cellTree (treeOf plan) part j) k sums
 
 abbrev μ-loop : tie.MeasureT-loop
-μ-loop plan part kind j sums₀ k₀ sums k = nodes - k
+μ-loop plan part j sums₀ k₀ sums k = nodes - k
 
 loop-holds : tie.Need-loop-holds Inv-loop μ-loop
 loop-holds c = (omega arith, omega arith, c .pre .3)

@@ -26,32 +26,28 @@ asked c =
     let start = c .before .before .before in
     (start .pre .0, cells-small (start .args .plan .now) (start .args .windows .now) (start .args .first) (c .paint .last .0) (c .paint .ensures .1 .0))
 
-turns-within-requires : tie.Need-turns-within-requires
-turns-within-requires c κs = asked (c .before .before)
-
 natural-requires : tie.Need-natural-requires
 natural-requires c κs = search needs
 
-turns-within-requires-2 : tie.Need-turns-within-requires-2
-turns-within-requires-2 c κs = asked (c .before .before .before .before .before .before)
+judge-turns-requires : tie.Need-judge-turns-requires
+judge-turns-requires c κs = asked (c .before .before .before)
 
 returns : tie.Need-returns
 unfolding rate
 returns c =
-    let painting = c .before .before .before .before .before .before .before in
-    let fixeds = c .before .before .before .before in
+    let painting = c .before .before .before .before in
     let start = painting .before .before .before in
     let plan = start .args .plan .now in
     let ws = start .args .windows .now in
-    let first = start .args .first in
     let paint = painting .paint in
-    let within = cells-within plan ws first (paint .last .0) (paint .ensures .1 .0) (paint .last .1 .0) (paint .ensures .1 .1) in
+    let judged = c .judge-turns .ensures in
+    let within = cells-within plan ws (start .args .first) (paint .last .0) (paint .ensures .1 .0) (paint .last .1 .0) (paint .ensures .1 .1) in
     record {
       apart = paint .ensures .0;
-      fixed = λ fit. fixeds .turns-within .ensures ∙ within fixed wholeShare fit;
+      fixed = λ fit. judged .fixed ∙ within fixed wholeShare fit;
       stated = λ fit.
-          c .turns-within2 .ensures
-          ∙ ap (λ (disk : ℕ). allBelow partMinutes (withinMarked stated disk (treeOf plan) (paint .last .0) (paint .last .1 .0))) (c .before .before .before .natural .ensures)
+          judged .stated
+          ∙ ap (λ (disk : ℕ). allBelow partMinutes (withinMarked stated disk (treeOf plan) (paint .last .0) (paint .last .1 .0))) (c .before .natural .ensures)
           ∙ within stated (rate plan root) fit;
     }
 
@@ -61,7 +57,6 @@ judge-part-spec =
     (tie.spec
     array-write-turns
     paint-requires
-    turns-within-requires
     natural-requires
-    turns-within-requires-2
+    judge-turns-requires
     returns)

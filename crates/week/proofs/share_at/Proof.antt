@@ -24,8 +24,8 @@ natural-requires c κs = search needs
 returns : tie.Need-returns
 unfolding cellShare treeOf
 returns c =
-    let tested = c .before in
-    c .natural .ensures ∙ sym (cond-true _ _ _ (rw (tested .before .before .cell-at .ensures) at (eq-eqb _ 0 (tested .if1 .taken))))
+    let read = c .before .before in
+    read .before .natural .ensures ∙ sym (cond-true _ _ _ (rw (read .cell-at .ensures) at (eq-eqb _ 0 (c .if1 .taken))))
 
 sub-result : tie.Need-sub-result
 sub-result c = search needs
@@ -33,11 +33,11 @@ sub-result c = search needs
 returns-2 : tie.Need-returns-2
 unfolding cellShare
 returns-2 c =
-    let args = c .before .before .before .args in
+    let args = c .before .before .before .before .args in
     let at = c .before .before .cell-at .ensures in
     ap (λ (i : ℕ). getD (args .part .now) i 0 - 1) at ∙ sym (cond-false _ _ _ (rw at at (ne-eqb _ 0 (c .if1 .left))))
 
 pub share-at-spec : {M : Type 1} → statement M
 share-at-spec =
     tie.close
-    (tie.spec cell-at-requires mul-cell element-copy-out-cell natural-requires returns sub-result returns-2)
+    (tie.spec natural-requires cell-at-requires mul-cell element-copy-out-cell returns sub-result returns-2)
