@@ -1,4 +1,4 @@
--- Which cells a window covers, and what it paints.
+-- Which cells a window covers, and what it writes there.
 use Prim.Native.Nat.{ℕ, _+_, _*_, _-_, _≤_, _<_, min}
 use mathlib.Core.Path.{_≡_, refl, sym, ap, _∙_}
 use mathlib.Core.Bool.{Bool, true, false, cond}
@@ -18,7 +18,7 @@ use Rattle.numbers.specs.Below.{allBelow}
 use Rattle.numbers.proofs.All.{all-at, all-intro, all-cong}
 use Rattle.definitions.specs.Tree.{testIf}
 use Rattle.definitions.proofs.Facts.{test-at, at-test}
-use Rattle.cells.specs.Cells.{partMinutes, cellCount, cellAt, between, painted, paintedBy, Ranged, reaches, clearAt, clearIn, PaintedBy, MarkedBy}
+use Rattle.cells.specs.Cells.{partMinutes, cellCount, cellAt, between, cellValue, valueIn, Ranged, reaches, clearAt, clearIn, FilledBy, MarkedBy}
 
 module _ (from to x : ℕ) where
   pub between-facts : between from to x ≡ true → (from ≤ x) × (x < to)
@@ -96,12 +96,12 @@ unfolding testIf
 test-cong true j f g e = e
 test-cong false j f g e = refl
 
--- Clear by the cells is clear by the windows before, where these are painted.
-pub clear-painted :
-    (ws : List ℤ) (first i : ℕ) (cells : List ℕ) → ((k j : ℕ) → j < partMinutes → getD cells (cellAt k j) 0 ≡ paintedBy ws i k (first + j))
+-- Clear by the cells is clear by the windows before, where their cells are filled.
+pub clear-filled :
+    (ws : List ℤ) (first i : ℕ) (cells : List ℕ) → ((k j : ℕ) → j < partMinutes → getD cells (cellAt k j) 0 ≡ valueIn ws i k (first + j))
     → clearAt ws first i (λ j. eqb (getD cells (cellAt (windowNode ws i) j) 0) 0) ≡ clearIn ws first i
 unfolding clearIn clearAt
-clear-painted ws first i cells h =
+clear-filled ws first i cells h =
     all-cong partMinutes _ _ (λ j hj. test-cong (covers ws i (windowNode ws i) (first + j)) j _ _ (ap (λ (n : ℕ). eqb n 0) (h (windowNode ws i) j hj)))
 
 -- A window that does not reach a part covers none of its minutes, and neither starts nor ends at one.
@@ -127,12 +127,12 @@ beyond ws i first rises h =
     }
 
 module _ (ws : List ℤ) (i first : ℕ) (far : Beyond ws i first) where
-  pub beyond-painted : (cells : List ℕ) → length cells ≡ cellCount → PaintedBy ws first i cells cells true
+  pub beyond-filled : (cells : List ℕ) → length cells ≡ cellCount → FilledBy ws first i cells cells true
   unfolding clearAt
-  beyond-painted cells long =
+  beyond-filled cells long =
       record {
         long = long;
-        at = λ k j hj. sym (cond-false _ (painted ws i) (getD cells (cellAt k j) 0) (far .covers k j hj));
+        at = λ k j hj. sym (cond-false _ (cellValue ws i) (getD cells (cellAt k j) 0) (far .covers k j hj));
         clear = sym (all-intro partMinutes _ (λ j hj. at-test _ _ j (λ e. absurd (true-false e (far .covers (windowNode ws i) j hj)))));
       }
 

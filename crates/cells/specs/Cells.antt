@@ -9,7 +9,7 @@ use lib.Dec.{eqb, leb, ltb}
 use lib.IntN.{ℤ}
 use Rattle.numbers.specs.Tests.{every}
 use Rattle.numbers.specs.Below.{allBelow}
-use Rattle.definitions.specs.Limits.{greatestRate}
+use Rattle.definitions.specs.Limits.{nodes, greatestRate}
 use Rattle.definitions.specs.Tree.{testIf}
 use Rattle.hourlaws.specs.Windows.{windowNode, windowStart, windowEnd, windowShare, covers, valueBy}
 
@@ -20,7 +20,7 @@ abbrev pub weekParts : ℕ
 weekParts = 315
 
 abbrev pub cellCount : ℕ
-cellCount = 2048
+cellCount = nodes * partMinutes
 
 -- The cell of node k at minute j of the part.
 abbrev pub cellAt : ℕ → ℕ → ℕ
@@ -31,12 +31,12 @@ unfoldable pub between : ℕ → ℕ → ℕ → Bool
 between from to x = every (leb from x ∷ ltb x to ∷ [])
 
 -- What window i writes into its cells. A share above every limit is written as the greatest rate, so that sums of cells fit 64 bits.
-unfoldable pub painted : List ℤ → ℕ → ℕ
-painted ws i = min (windowShare ws i) greatestRate + 1
+unfoldable pub cellValue : List ℤ → ℕ → ℕ
+cellValue ws i = min (windowShare ws i) greatestRate + 1
 
--- The cell of node k at minute m once the first n windows are painted.
-unfoldable pub paintedBy : List ℤ → ℕ → ℕ → ℕ → ℕ
-paintedBy ws n k m = valueBy ws (painted ws) n k m 0
+-- The cell of node k at minute m once the first n windows are added.
+unfoldable pub valueIn : List ℤ → ℕ → ℕ → ℕ → ℕ
+valueIn ws n k m = valueBy ws (cellValue ws) n k m 0
 
 -- Cells `old` become `new`: those from .. to - 1 get v; `wasClear` is whether all of them were 0.
 pub record Filled (old new : List ℕ) (from to v : ℕ) (wasClear : Bool) : Type 0 where
@@ -57,14 +57,15 @@ reaches ws i first = every (leb first (windowEnd ws i) ∷ ltb (windowStart ws i
 unfoldable pub clearAt : List ℤ → ℕ → ℕ → (ℕ → Bool) → Bool
 clearAt ws first i f = allBelow partMinutes (λ j. testIf (covers ws i (windowNode ws i) (first + j)) f j)
 
--- Whether none of the windows before it has painted such a minute for its node.
+-- Whether none of the windows before it has filled the cell of such a minute for its node.
 unfoldable pub clearIn : List ℤ → ℕ → ℕ → Bool
-clearIn ws first i = clearAt ws first i (λ j. eqb (paintedBy ws i (windowNode ws i) (first + j)) 0)
+clearIn ws first i = clearAt ws first i (λ j. eqb (valueIn ws i (windowNode ws i) (first + j)) 0)
 
--- The same of the cells of the minutes that window i covers in the part that begins at `first`.
-pub record PaintedBy (ws : List ℤ) (first i : ℕ) (old new : List ℕ) (wasClear : Bool) : Type 0 where
+-- Cells `old` become `new` by window i, in the part that begins at `first`: those of the minutes that it covers get its value; `wasClear`
+-- is whether all of them were 0.
+pub record FilledBy (ws : List ℤ) (first i : ℕ) (old new : List ℕ) (wasClear : Bool) : Type 0 where
   pub long : length new ≡ cellCount
-  pub at : (k j : ℕ) → j < partMinutes → getD new (cellAt k j) 0 ≡ cond (covers ws i k (first + j)) (painted ws i) (getD old (cellAt k j) 0)
+  pub at : (k j : ℕ) → j < partMinutes → getD new (cellAt k j) 0 ≡ cond (covers ws i k (first + j)) (cellValue ws i) (getD old (cellAt k j) 0)
   pub clear : wasClear ≡ clearAt ws first i (λ j. eqb (getD old (cellAt (windowNode ws i) j) 0) 0)
 
 -- Turns `old` become `new`: minute m is marked, where it is one of the part.

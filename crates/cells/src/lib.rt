@@ -8,7 +8,7 @@ ghost use Rattle.numbers.specs.Below.{allBelow};
 ghost use Rattle.definitions.specs.Limits.{nodes};
 ghost use Rattle.hourlaws.specs.Windows.{windowLength, windowShareAt, windowCount, windowStart, windowEnd, turn};
 ghost use Rattle.windows.specs.Timed.{Timed};
-ghost use Rattle.cells.specs.Cells.{partMinutes, weekParts, cellCount, cellAt, painted, paintedBy, Filled, Ranged, reaches, clearIn, PaintedBy, Marked, MarkedBy};
+ghost use Rattle.cells.specs.Cells.{partMinutes, weekParts, cellCount, cellAt, cellValue, valueIn, Filled, Ranged, reaches, clearIn, FilledBy, Marked, MarkedBy};
 use table::Table;
 
 // Minutes of a part, parts of the week, and cells of a part.
@@ -74,9 +74,9 @@ fn cover_of(windows: &[i64], i: usize, first: u64) -> Cover
 }
 
 // What window i writes into its cells: its share and one more.
-fn paint_of(windows: &[i64], i: usize) -> u64
+fn value_of(windows: &[i64], i: usize) -> u64
     requires { ⌜ windowLength * i + windowShareAt < length (now windows) ⌝ }
-    ensures { λ r. ⌜ r ≡ painted (now (windows .entry)) i ⌝ }
+    ensures { λ r. ⌜ r ≡ cellValue (now (windows .entry)) i ⌝ }
 {
     let share = windows::number(windows, i, windows::SHARE);
     if share <= Table::GREATEST_RATE {
@@ -85,15 +85,15 @@ fn paint_of(windows: &[i64], i: usize) -> u64
     Table::GREATEST_RATE + 1
 }
 
-// Paints the cells of the minutes that window i covers, and answers whether all of them were 0.
-fn paint_window(cells: &mut [u64; CELLS], windows: &[i64], i: usize, first: u64) -> bool
+// Fills the cells of the minutes that window i covers, and answers whether all of them were 0.
+fn fill_window(cells: &mut [u64; CELLS], windows: &[i64], i: usize, first: u64) -> bool
     requires { ⌜ (length (now cells) ≡ cellCount) × Timed (now windows) i ⌝ }
-    ensures { λ r. ⌜ PaintedBy (now (windows .entry)) first i (now (cells .entry)) (now (cells .exit)) r ⌝ }
+    ensures { λ r. ⌜ FilledBy (now (windows .entry)) first i (now (cells .entry)) (now (cells .exit)) r ⌝ }
 {
     let at = cover_of(windows, i, first);
     let from = at.from;
     let to = at.to;
-    let v = paint_of(windows, i);
+    let v = value_of(windows, i);
     fill(cells, from, to, v)
 }
 
@@ -129,8 +129,8 @@ fn reaches(windows: &[i64], i: usize, first: u64) -> bool
     ends & starts
 }
 
-// Paints and marks window i, where it reaches the part, and answers whether the cells that it covers were 0.
-fn draw(
+// Fills the cells of window i and marks its start and end, where it reaches the part, and answers whether the cells that it covers were 0.
+fn add_window(
     cells: &mut [u64; CELLS],
     turns: &mut [bool; PART],
     windows: &[i64],
@@ -138,18 +138,18 @@ fn draw(
     first: u64,
 ) -> bool
     requires { ⌜ (length (now cells) ≡ cellCount) × (length (now turns) ≡ partMinutes) × Timed (now windows) i × (first ≤ weekParts * partMinutes) ⌝ }
-    ensures painted { λ r. ⌜ PaintedBy (now (windows .entry)) first i (now (cells .entry)) (now (cells .exit)) r ⌝ }
+    ensures cellValue { λ r. ⌜ FilledBy (now (windows .entry)) first i (now (cells .entry)) (now (cells .exit)) r ⌝ }
     ensures marked { λ _. ⌜ MarkedBy (now (windows .entry)) first i (now (turns .entry)) (now (turns .exit)) ⌝ }
 {
     if !reaches(windows, i, first) {
         return true;
     }
     mark_window(turns, windows, i, first);
-    paint_window(cells, windows, i, first)
+    fill_window(cells, windows, i, first)
 }
 
-// Paints and marks each window, in turn, and answers whether the cells that each covers were 0.
-pub fn paint(
+// The same of every window, in turn: answers whether the cells that each covers were 0.
+pub fn add_windows(
     cells: &mut [u64; CELLS],
     turns: &mut [bool; PART],
     windows: &[i64],
@@ -157,14 +157,14 @@ pub fn paint(
 ) -> bool
     requires { ⌜ (length (now cells) ≡ cellCount) × (length (now turns) ≡ partMinutes) × ((i : ℕ) → i < windowCount (now windows) → Timed (now windows) i) × (first ≤ weekParts * partMinutes) × ((k j : ℕ) → j < partMinutes → getD (now cells) (cellAt k j) 0 ≡ 0) × ((j : ℕ) → j < partMinutes → getD (now turns) j false ≡ eqb (first + j) 0) ⌝ }
     ensures apart { λ r. ⌜ r ≡ allBelow (windowCount (now (windows .entry))) (clearIn (now (windows .entry)) first) ⌝ }
-    ensures cells { λ _. ⌜ ((k j : ℕ) → j < partMinutes → getD (now (cells .exit)) (cellAt k j) 0 ≡ paintedBy (now (windows .entry)) (windowCount (now (windows .entry))) k (first + j)) ⌝ }
+    ensures cells { λ _. ⌜ ((k j : ℕ) → j < partMinutes → getD (now (cells .exit)) (cellAt k j) 0 ≡ valueIn (now (windows .entry)) (windowCount (now (windows .entry))) k (first + j)) ⌝ }
     ensures turns { λ _. ⌜ ((j : ℕ) → j < partMinutes → getD (now (turns .exit)) j false ≡ turn (now (windows .entry)) (first + j)) ⌝ }
 {
     let n = windows.len() / windows::WINDOW;
     let mut clear = true;
     let mut i: usize = 0;
     while i < n {
-        clear = clear & draw(cells, turns, windows, i, first);
+        clear = clear & add_window(cells, turns, windows, i, first);
         i += 1;
     }
     clear

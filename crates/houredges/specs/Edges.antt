@@ -356,8 +356,8 @@ hourScenario statedHours =
     ∷ look 3 gives seen 200 (pos 0) 0 0
     ∷ []
 -- 7 at one minute of the week is 7 at every minute: fixed 8001 beside 2000 at minute 5000 alone, and at the last minute alone; two
--- windows that are both there at minute 99 alone. Where the second starts at 100, they never meet: 5001 of 1000 are 500, 2999 are 299, and
--- one grain is lost.
+-- windows that are both there at minute 99 alone; 9000 beside 1000, whose window ends first, so that 2000 count again. Where the second
+-- starts at 100, they never meet: 5001 of 1000 are 500, 2999 are 299, and one grain is lost.
 hourScenario oneMinute =
     disk 1000 40 gives number 0
     ∷ join 1 root client weighted 1 10 gives number 0
@@ -368,6 +368,7 @@ hourScenario oneMinute =
     ∷ setMinute suites (window 1 5000 5001 8001) 5001 gives refused 7
     ∷ setMinute suites (window 1 10079 10080 8001) 0 gives refused 7
     ∷ setMinute suites (window 1 0 100 5000 ++ window 2 99 200 5001) 300 gives refused 7
+    ∷ setMinute suites (window 1 0 100 1000 ++ window 2 50 200 9000) 50 gives refused 7
     ∷ look 1 gives seen 333 (pos 0) 0 0
     ∷ setMinute suites (window 1 5000 5001 8000) 5000 gives number 0
     ∷ look 1 gives seen 800 (pos 0) 0 0

@@ -4,7 +4,6 @@ use mathlib.Core.Path.{_≡_, refl, sym, ap, _∙_}
 use mathlib.Core.Bool.{Bool, true, false, not}
 use mathlib.Core.List.{List, [], _∷_}
 use native.Mathlib.Omega.{arith}
-use native.Mathlib.Decide.{ℕ-discrete}
 use borrow.Author.Tests.{leb-true}
 use lib.Dec.{leb}
 use lib.IntN.{ℤ, pos}
@@ -27,13 +26,15 @@ use Rattle.definitions.specs.Order.{inOrder}
 use Rattle.definitions.proofs.Facts.{InOrder, facts, root-there, root-level}
 use Rattle.definitions.specs.Refusals.{kept}
 use Rattle.definitions.proofs.Refusals.{kept-new}
-use Rattle.treelaws.proofs.Renewed.{renewed-length, renewed-header, renewed-place, renewed-rate, renewed-unused, rate-at-root, same-renewed}
+use Rattle.treelaws.proofs.Renewed.{renewed-header, renewed-place, renewed-rate, rate-at-root}
 use Rattle.calllaws.proofs.Nodes.{ready, there-same}
 use Rattle.calllaws.proofs.Ready.{ready-renewed, kept-in-order}
-use Rattle.hourlaws.specs.Windows.{weekMinutes, lastMinute, windowCount, windowNumber, windowNodeAt, windowNode, windowShare, covers, windowFormed, timetable, shareFits, sharesFit, shareIn, treeAt}
+use Rattle.hourlaws.specs.Windows.{weekMinutes, lastMinute, windowCount, windowNumber, windowNodeAt, windowShareAt, windowNode, windowShare, covers, windowFormed, timetable, shareFits, sharesFit, shareIn, treeAt}
 use Rattle.hourlaws.specs.SetMinute.{planned, sameNode, sameShape, kindWithin, weekWithin, setMinuteRefusal, resharedAs, minuteTable, setMinuteTable}
 use Rattle.hourlaws.specs.Laws.{AtEveryMinute, OnlyShares}
-use Rattle.hourlaws.proofs.Values.{Covers, cover-facts, value-has}
+use Rattle.hourlaws.proofs.Values.{cover-facts, value-has, value-only}
+use Rattle.hourlaws.proofs.Apart.{apart-one}
+use Rattle.hourlaws.proofs.Alike.{set-alike}
 use Rattle.hourlaws.proofs.Reshared.{Suits, Reshared, all-reshared, suited-ready}
 use Rattle.hourlaws.proofs.Passed.{Timetabled, timetabled, of-timetabled, SetMinutePassed, set-minute-passed, set-minute-accepted, planned-in-order}
 
@@ -183,40 +184,45 @@ module _ (t p ws : List ℤ) (m : ℕ) (order : InOrder t) (plan : InOrder p) (h
   -- Only kinds, shares and rates change.
   pub only-shares : OnlyShares t (minuteTable t p ws m)
   unfolding minuteTable
-  only-shares = record { header = λ q hq. renewed-header _ q hq ∙ edited .heading q hq; places = stays }
+  only-shares = record { header = λ q hq. renewed-header _ q hq ∙ edited .heading q hq; places = stays; disk = disk-stays }
 
-  -- A later minute writes over all that this one has changed.
-  pub overwritten : (n : ℕ) → minuteTable (minuteTable t p ws m) p ws n ≡ minuteTable t p ws n
-  unfolding minuteTable rate treeOf
-  overwritten n =
-      let u : List ℤ = renewed (resharedAs (treeAt (treeOf p) ws m) t) in
-      let later = all-reshared (treeAt (treeOf p) ws n) u (renewed-length (resharedAs (treeAt (treeOf p) ws m) t) ∙ edited .long) in
-      let alone = all-reshared (treeAt (treeOf p) ws n) t (order .long) in
-      same-renewed (resharedAs (treeAt (treeOf p) ws n) u) (resharedAs (treeAt (treeOf p) ws n) t) (later .long) (alone .long)
-      (λ q hq. later .heading q hq ∙ renewed-header (resharedAs (treeAt (treeOf p) ws m) t) q hq ∙ edited .heading q hq ∙ sym (alone .heading q hq))
-      (λ k q hk hq n6.
-      elim (ℕ-discrete q kindAt) [
-        | yes three ↦ rw three (later .kind k hk ∙ sym (alone .kind k hk))
-        | no n3 ↦
-            elim (ℕ-discrete q shareAt) [
-              | yes four ↦ rw four (later .share k hk ∙ sym (alone .share k hk))
-              | no n4 ↦ later .rest k q hq n3 n4 ∙ stays k q hq n3 n4 n6 ∙ sym (alone .rest k q hq n3 n4)
-            ]
-      ])
-      (ap plus (later .rest root rateAt (omega arith) (omega arith) (omega arith) ∙ disk-stays ∙ sym (alone .rest root rateAt (omega arith) (omega arith) (omega arith))))
-      (λ k hk e.
-      later .rest k rateAt (omega arith) (omega arith) (omega arith)
-      ∙ renewed-unused (resharedAs (treeAt (treeOf p) ws m) t) k (gone k n e)
-      ∙ edited .rest k rateAt (omega arith) (omega arith) (omega arith)
-      ∙ sym (alone .rest k rateAt (omega arith) (omega arith) (omega arith)))
-    where
-      gone : (k n : ℕ) → there (treeOf (resharedAs (treeAt (treeOf p) ws n) (renewed (resharedAs (treeAt (treeOf p) ws m) t)))) k ≡ false → there (treeOf (resharedAs (treeAt (treeOf p) ws m) t)) k ≡ false
-      gone k n e =
-          let u : List ℤ = renewed (resharedAs (treeAt (treeOf p) ws m) t) in
-          let later = all-reshared (treeAt (treeOf p) ws n) u (renewed-length (resharedAs (treeAt (treeOf p) ws m) t) ∙ edited .long) in
-          there-same (treeOf (resharedAs (treeAt (treeOf p) ws m) t)) (treeOf (resharedAs (treeAt (treeOf p) ws n) u)) k
-          (sym (ap plus (later .rest k sortAt (omega arith) (omega arith) (omega arith) ∙ renewed-place (resharedAs (treeAt (treeOf p) ws m) t) k sortAt (omega arith) (omega arith))))
-          ∙ e
+  -- A number of the plan's table is the natural number that its tree has.
+  plan-kind : (k : ℕ) → k < nodes → pos (treeOf p .kind k) ≡ place p k kindAt
+  unfolding treeOf
+  plan-kind k hk =
+      by-test (there (treeOf p) k)
+      (λ e. pos-of-within fixed stated (place p k kindAt) (plan .limits k hk e .kind))
+      (λ e. rw (plan .empty k hk e kindAt (omega arith)) (ap pos (plus-pos 0)))
+
+  plan-share : (k : ℕ) → k < nodes → pos (treeOf p .share k) ≡ place p k shareAt
+  unfolding treeOf
+  plan-share k hk =
+      by-test (there (treeOf p) k)
+      (λ e. pos-of-within 1 (shareLimit (treeOf p .kind k)) (place p k shareAt) (plan .limits k hk e .share))
+      (λ e. rw (plan .empty k hk e shareAt (omega arith)) (ap pos (plus-pos 0)))
+
+  -- What it writes at node k.
+  written-share : (k : ℕ) → k < nodes → place (minuteTable t p ws m) k shareAt ≡ pos (shareIn (treeOf p) ws m k)
+  unfolding minuteTable treeAt
+  written-share k hk = renewed-place _ k shareAt (omega arith) (omega arith) ∙ edited .share k hk
+
+  pub written-kind : (k : ℕ) → k < nodes → place (minuteTable t p ws m) k kindAt ≡ place p k kindAt
+  unfolding minuteTable treeAt
+  written-kind k hk = renewed-place _ k kindAt (omega arith) (omega arith) ∙ edited .kind k hk ∙ plan-kind k hk
+
+  pub written-inside : (k i : ℕ) → k < nodes → i < windowCount ws → covers ws i k m ≡ true → place (minuteTable t p ws m) k shareAt ≡ windowNumber ws i windowShareAt
+  unfolding shareIn sharesFit shareFits timetable
+  written-inside k i hk hi c =
+      written-share k hk
+      ∙ ap pos (value-only ws (windowShare ws) k m (treeOf p .share k) i c (windowCount ws) hi (λ j hj d. apart-one ws (head-holds _ _ (rest-hold _ _ (rest-hold _ _ (f .table)))) i j k m hi hj c d))
+      ∙ pos-of-within 1 (shareLimit (treeOf p .kind (windowNode ws i))) (windowNumber ws i windowShareAt) (all-at (windowCount ws) (shareFits (treeOf p) ws) (f .given) i hi)
+
+  pub written-outside : (k : ℕ) → k < nodes → ((i : ℕ) → i < windowCount ws → covers ws i k m ≡ false) → place (minuteTable t p ws m) k shareAt ≡ place p k shareAt
+  unfolding shareIn
+  written-outside k hk none =
+      written-share k hk
+      ∙ ap pos (value-has ws (windowShare ws) k m (treeOf p .share k) (λ n. n ≡ treeOf p .share k) (windowCount ws) refl (λ i hi c. absurd (true-false c (none i hi))))
+      ∙ plan-share k hk
 
   pub still-shaped : Shaped (renewed (resharedAs (treeAt (treeOf p) ws m) t)) p
   still-shaped =
@@ -284,9 +290,5 @@ accepted-at-all t s ws minute other h within = record { here = here; after = aga
     again : setMinuteRefusal (kept (setMinuteRefusal t s ws minute) u t) s ws other ≡ 0
     again = rw left after
 
-    same : kept (setMinuteRefusal (kept (setMinuteRefusal t s ws minute) u t) s ws other) (minuteTable (kept (setMinuteRefusal t s ws minute) u t) (planned s) ws (plus other)) (kept (setMinuteRefusal t s ws minute) u t) ≡ kept (setMinuteRefusal t s ws other) (minuteTable t (planned s) ws (plus other)) t
-    same =
-        rw left
-        (kept-new (setMinuteRefusal u s ws other) (minuteTable u (planned s) ws (plus other)) u after
-        ∙ overwritten t (planned s) ws (plus minute) (facts t (f .order)) (planned-in-order s (f .plan)) (minute-below minute (f .minutes)) g (plus other)
-        ∙ sym (kept-new (setMinuteRefusal t s ws other) (minuteTable t (planned s) ws (plus other)) t here))
+    same : setMinuteTable (setMinuteTable t s ws minute) s ws other ≡ setMinuteTable t s ws other
+    same = set-alike t (setMinuteTable t s ws minute) (rw left (only-shares t (planned s) ws (plus minute) (facts t (f .order)) (planned-in-order s (f .plan)) (minute-below minute (f .minutes)) g)) s ws other (f .order) (rw left (made t s ws minute f)) .table here

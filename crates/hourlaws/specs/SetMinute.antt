@@ -18,7 +18,7 @@ use Rattle.planformat.specs.Format.{planIn}
 use Rattle.planlaws.specs.Reading.{refusing, joinedFor, checkAnswer}
 use Rattle.hourlaws.specs.Windows.{weekMinutes, lastMinute, treeAt, timetable, sharesFit}
 
--- The table that reading plan bytes into a blank table makes: a function of the bytes alone.
+-- The table that reading the bytes of an accepted plan into a blank table makes: a function of the bytes alone.
 unfoldable pub planned : List ℕ → List ℤ
 planned s = joinedFor blank (planIn s)
 

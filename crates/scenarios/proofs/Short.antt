@@ -109,7 +109,7 @@ shortInOrder t =
     (λ y e.
     simp (unused-is, tree-is, nodes-are, classes-are, clients-are, is shortLimits, is shortSpare, is shortClass, is shortRate, is shortBalance, is shortArrivals, is shortStated) at e)
 
--- In order, where a number says whether the table is known to be: then nothing is computed.
+-- In order. Where the table is known to be, nothing is computed.
 abbrev pub Ordered : List ℤ → Bool → Type 0
 Ordered t known = known ≡ true → inOrder t ≡ true
 

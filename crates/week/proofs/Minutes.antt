@@ -23,7 +23,7 @@ use Rattle.hourlaws.proofs.SameShares.{within-same}
 use Rattle.hourlaws.proofs.Turns.{decided}
 use Rattle.hourlaws.proofs.Apart.{apart-at, apart-of}
 use Rattle.windows.specs.Timed.{Timed}
-use Rattle.cells.specs.Cells.{partMinutes, weekParts, cellAt, painted, paintedBy, clearAt, clearIn}
+use Rattle.cells.specs.Cells.{partMinutes, weekParts, cellAt, cellValue, valueIn, clearAt, clearIn}
 use Rattle.week.specs.Week.{cellShare, cellTree, Small, withinMarked, withinAt}
 
 -- A test that is made part by part: one part more.
@@ -45,41 +45,41 @@ unfolding testIf
 test-same a true f g j m e same = ap (λ (x : Bool). testIf x f j) e ∙ same
 test-same a false f g j m e same = ap (λ (x : Bool). testIf x f j) e
 
--- No window below n covers a minute that is not painted, and a minute that none covers is not.
+-- No window below n covers a minute whose cell is 0, and the cell of a minute that none covers is 0.
 module _ (ws : List ℤ) (k m : ℕ) where
-  painted-some : (n : ℕ) → paintedBy ws n k m ≡ 0 → (i : ℕ) → i < n → covers ws i k m ≡ true → ⊥
-  unfolding paintedBy painted
-  painted-some zero h i l c = omega arith
-  painted-some (suc n) h i l c =
-      let last = value-suc ws (painted ws) k m 0 n in
+  filled-some : (n : ℕ) → valueIn ws n k m ≡ 0 → (i : ℕ) → i < n → covers ws i k m ≡ true → ⊥
+  unfolding valueIn cellValue
+  filled-some zero h i l c = omega arith
+  filled-some (suc n) h i l c =
+      let last = value-suc ws (cellValue ws) k m 0 n in
       by-test (covers ws n k m)
-      (λ e. omega (arith, h, last, cond-true _ (painted ws n) (valueBy ws (painted ws) n k m 0) e))
+      (λ e. omega (arith, h, last, cond-true _ (cellValue ws n) (valueBy ws (cellValue ws) n k m 0) e))
       (λ e.
       below-cases n i l
-      (λ b. painted-some n (sym (cond-false _ (painted ws n) (valueBy ws (painted ws) n k m 0) e) ∙ sym last ∙ h) i b c)
+      (λ b. filled-some n (sym (cond-false _ (cellValue ws n) (valueBy ws (cellValue ws) n k m 0) e) ∙ sym last ∙ h) i b c)
       (λ same. true-false (rw same at c) e))
 
-  painted-none : (n : ℕ) → ((i : ℕ) → i < n → covers ws i k m ≡ true → ⊥) → paintedBy ws n k m ≡ 0
-  unfolding paintedBy
-  painted-none n h = value-has ws (painted ws) k m 0 (λ v. v ≡ 0) n refl (λ i hi c. absurd (h i hi c))
+  filled-none : (n : ℕ) → ((i : ℕ) → i < n → covers ws i k m ≡ true → ⊥) → valueIn ws n k m ≡ 0
+  unfolding valueIn
+  filled-none n h = value-has ws (cellValue ws) k m 0 (λ v. v ≡ 0) n refl (λ i hi c. absurd (h i hi c))
 
-  -- What is painted is at most the greatest rate and one more.
-  pub painted-small : (n : ℕ) → paintedBy ws n k m ≤ greatestRate + 1
-  unfolding paintedBy painted
-  painted-small n = value-has ws (painted ws) k m 0 (λ v. v ≤ greatestRate + 1) n (omega arith) (λ i hi c. omega arith)
+  -- A cell is at most the greatest rate and one more.
+  pub filled-small : (n : ℕ) → valueIn ws n k m ≤ greatestRate + 1
+  unfolding valueIn cellValue
+  filled-small n = value-has ws (cellValue ws) k m 0 (λ v. v ≤ greatestRate + 1) n (omega arith) (λ i hi c. omega arith)
 
   -- Where the shares of the windows are in their limits, the share that a cell shows is the one at the minute.
-  pub painted-share : (old n : ℕ) → ((i : ℕ) → i < n → windowShare ws i ≤ greatestRate) → cond (eqb (paintedBy ws n k m) 0) old (paintedBy ws n k m - 1) ≡ valueBy ws (windowShare ws) n k m old
-  unfolding paintedBy painted
-  painted-share old zero h = rw (value-none ws (painted ws) k m 0, value-none ws (windowShare ws) k m old)
-  painted-share old (suc n) h =
+  pub filled-share : (old n : ℕ) → ((i : ℕ) → i < n → windowShare ws i ≤ greatestRate) → cond (eqb (valueIn ws n k m) 0) old (valueIn ws n k m - 1) ≡ valueBy ws (windowShare ws) n k m old
+  unfolding valueIn cellValue
+  filled-share old zero h = rw (value-none ws (cellValue ws) k m 0, value-none ws (windowShare ws) k m old)
+  filled-share old (suc n) h =
       by-test (covers ws n k m)
       (λ e.
-      rw (value-suc ws (painted ws) k m 0 n, value-suc ws (windowShare ws) k m old n, cond-true _ (painted ws n) (valueBy ws (painted ws) n k m 0) e, cond-true _ (windowShare ws n) (valueBy ws (windowShare ws) n k m old) e)
-      (cond-false _ old _ (ne-eqb (painted ws n) 0 (λ z. omega arith)) ∙ omega (arith, h n (omega arith))))
+      rw (value-suc ws (cellValue ws) k m 0 n, value-suc ws (windowShare ws) k m old n, cond-true _ (cellValue ws n) (valueBy ws (cellValue ws) n k m 0) e, cond-true _ (windowShare ws n) (valueBy ws (windowShare ws) n k m old) e)
+      (cond-false _ old _ (ne-eqb (cellValue ws n) 0 (λ z. omega arith)) ∙ omega (arith, h n (omega arith))))
       (λ e.
-      rw (value-suc ws (painted ws) k m 0 n, value-suc ws (windowShare ws) k m old n, cond-false _ (painted ws n) (valueBy ws (painted ws) n k m 0) e, cond-false _ (windowShare ws n) (valueBy ws (windowShare ws) n k m old) e)
-      (painted-share old n (λ i hi. h i (omega arith))))
+      rw (value-suc ws (cellValue ws) k m 0 n, value-suc ws (windowShare ws) k m old n, cond-false _ (cellValue ws n) (valueBy ws (cellValue ws) n k m 0) e, cond-false _ (windowShare ws n) (valueBy ws (windowShare ws) n k m old) e)
+      (filled-share old n (λ i hi. h i (omega arith))))
 
 -- No two windows overlap just where each is clear in each part.
 module _ (ws : List ℤ) (timed : (i : ℕ) → i < windowCount ws → Timed ws i) where
@@ -88,10 +88,10 @@ module _ (ws : List ℤ) (timed : (i : ℕ) → i < windowCount ws → Timed ws 
   clear-minute h i hi m a j hj c =
       let b = cover-facts ws j (windowNode ws i) m c in
       let end = timed i hi .ends in
-      painted-some ws (windowNode ws i) (m / partMinutes * partMinutes + m % partMinutes) i
+      filled-some ws (windowNode ws i) (m / partMinutes * partMinutes + m % partMinutes) i
       (eqb-true _ 0
-      (test-at _ (λ l. eqb (paintedBy ws i (windowNode ws i) (m / partMinutes * partMinutes + l)) 0) (m % partMinutes)
-      (all-at partMinutes (λ l. testIf (covers ws i (windowNode ws i) (m / partMinutes * partMinutes + l)) (λ l. eqb (paintedBy ws i (windowNode ws i) (m / partMinutes * partMinutes + l)) 0) l)
+      (test-at _ (λ l. eqb (valueIn ws i (windowNode ws i) (m / partMinutes * partMinutes + l)) 0) (m % partMinutes)
+      (all-at partMinutes (λ l. testIf (covers ws i (windowNode ws i) (m / partMinutes * partMinutes + l)) (λ l. eqb (valueIn ws i (windowNode ws i) (m / partMinutes * partMinutes + l)) 0) l)
       (h (m / partMinutes) (omega arith) i hi) (m % partMinutes) (omega arith))
       (covers-of ws i (windowNode ws i) (m / partMinutes * partMinutes + m % partMinutes) (record { node = refl; start = omega arith; end = omega arith }))))
       j hj
@@ -101,8 +101,8 @@ module _ (ws : List ℤ) (timed : (i : ℕ) → i < windowCount ws → Timed ws 
   unfolding clearIn clearAt
   minute-clear h first i hi =
       all-intro partMinutes _
-      (λ l hl. at-test (covers ws i (windowNode ws i) (first + l)) (λ l. eqb (paintedBy ws i (windowNode ws i) (first + l)) 0) l
-      (λ c. eq-eqb _ 0 (painted-none ws (windowNode ws i) (first + l) i (apart-at ws h i hi (windowNode ws i) (first + l) (cover-facts ws i (windowNode ws i) (first + l) c)))))
+      (λ l hl. at-test (covers ws i (windowNode ws i) (first + l)) (λ l. eqb (valueIn ws i (windowNode ws i) (first + l)) 0) l
+      (λ c. eq-eqb _ 0 (filled-none ws (windowNode ws i) (first + l) i (apart-at ws h i hi (windowNode ws i) (first + l) (cover-facts ws i (windowNode ws i) (first + l) c)))))
 
   pub parts-apart : allBelow weekParts (λ b. allBelow (windowCount ws) (clearIn ws (b * partMinutes))) ≡ apart ws
   parts-apart =
@@ -110,16 +110,16 @@ module _ (ws : List ℤ) (timed : (i : ℕ) → i < windowCount ws → Timed ws 
       (λ h. apart-of ws (λ i hi. timed i hi .rises) (clear-minute (λ b hb i hi. all-at (windowCount ws) (clearIn ws (b * partMinutes)) (all-at weekParts (λ b. allBelow (windowCount ws) (clearIn ws (b * partMinutes))) h b hb) i hi)))
       (λ h. all-intro weekParts (λ b. allBelow (windowCount ws) (clearIn ws (b * partMinutes))) (λ b hb. all-intro (windowCount ws) (clearIn ws (b * partMinutes)) (minute-clear h (b * partMinutes))))
 
--- Cells that are painted with the windows, and turns that are marked.
-module _ (t ws : List ℤ) (first : ℕ) (cells : List ℕ) (h : (k j : ℕ) → j < partMinutes → getD cells (cellAt k j) 0 ≡ paintedBy ws (windowCount ws) k (first + j)) where
+-- Cells that the windows have filled, and turns that are marked.
+module _ (t ws : List ℤ) (first : ℕ) (cells : List ℕ) (h : (k j : ℕ) → j < partMinutes → getD cells (cellAt k j) 0 ≡ valueIn ws (windowCount ws) k (first + j)) where
   pub cells-small : Small cells
-  cells-small k j hk hj = rw (h k j hj) (painted-small ws k (first + j) (windowCount ws))
+  cells-small k j hk hj = rw (h k j hj) (filled-small ws k (first + j) (windowCount ws))
 
   shares : sharesFit (treeOf t) ws ≡ true → (k j : ℕ) → j < partMinutes → cellShare (treeOf t) cells j k ≡ shareIn (treeOf t) ws (first + j) k
   unfolding cellShare shareIn sharesFit shareFits
   shares fit k j hj =
       rw (h k j hj)
-      (painted-share ws k (first + j) (treeOf t .share k) (windowCount ws)
+      (filled-share ws k (first + j) (treeOf t .share k) (windowCount ws)
       (λ i hi.
       let f = within-parts 1 (shareLimit (treeOf t .kind (windowNode ws i))) (windowNumber ws i windowShareAt) (all-at (windowCount ws) (shareFits (treeOf t) ws) fit i hi) in
       omega (arith, limit-le (treeOf t .kind (windowNode ws i)))))

@@ -41,7 +41,13 @@ fn share_at(plan: &[i64], part: &[u64; cells::CELLS], j: usize, k: usize) -> u64
 }
 
 // Adds the share of node k at minute j of the part, where it is there, to the sum of its kind under its class.
-fn add_node(plan: &[i64], part: &[u64; cells::CELLS], j: usize, sums: &mut [u64; Table::SHARE_SUMS], k: usize)
+fn add_node(
+    plan: &[i64],
+    part: &[u64; cells::CELLS],
+    j: usize,
+    sums: &mut [u64; Table::SHARE_SUMS],
+    k: usize,
+)
     requires { ⌜ Shared (now plan) × Small (now part) × (j < partMinutes) × (0 < k) × (k < nodes) × ShareSums (cellTree (treeOf (now plan)) (now part) j) k (now sums) ⌝ }
     ensures { λ _. ⌜ ShareSums (cellTree (treeOf (now (plan .entry))) (now (part .entry)) j) (k + 1) (now (sums .exit)) ⌝ }
 {
@@ -55,7 +61,12 @@ fn add_node(plan: &[i64], part: &[u64; cells::CELLS], j: usize, sums: &mut [u64;
 }
 
 // The sums of each kind under all classes.
-fn add_nodes(plan: &[i64], part: &[u64; cells::CELLS], j: usize, sums: &mut [u64; Table::SHARE_SUMS])
+fn add_nodes(
+    plan: &[i64],
+    part: &[u64; cells::CELLS],
+    j: usize,
+    sums: &mut [u64; Table::SHARE_SUMS],
+)
     requires { ⌜ Shared (now plan) × Small (now part) × (j < partMinutes) × ShareSums (cellTree (treeOf (now plan)) (now part) j) 1 (now sums) ⌝ }
     ensures { λ _. ⌜ ShareSums (cellTree (treeOf (now (plan .entry))) (now (part .entry)) j) nodes (now (sums .exit)) ⌝ }
 {
@@ -93,7 +104,13 @@ fn judge_minute(plan: &[i64], part: &[u64; cells::CELLS], disk: u64, j: usize) -
 }
 
 // The same, where the minute is marked.
-fn judge_turn(plan: &[i64], part: &[u64; cells::CELLS], turns: &[bool; cells::PART], disk: u64, j: usize) -> Within
+fn judge_turn(
+    plan: &[i64],
+    part: &[u64; cells::CELLS],
+    turns: &[bool; cells::PART],
+    disk: u64,
+    j: usize,
+) -> Within
     requires { ⌜ Shared (now plan) × Small (now part) × (j < partMinutes) ⌝ }
     ensures { λ r. ⌜ TurnJudged (treeOf (now (plan .entry))) (now (part .entry)) (now (turns .entry)) disk j (r .fixed) (r .stated) ⌝ }
 {
@@ -107,7 +124,12 @@ fn judge_turn(plan: &[i64], part: &[u64; cells::CELLS], turns: &[bool; cells::PA
 }
 
 // The same at each minute of the part that is marked.
-fn judge_turns(plan: &[i64], part: &[u64; cells::CELLS], turns: &[bool; cells::PART], disk: u64) -> Within
+fn judge_turns(
+    plan: &[i64],
+    part: &[u64; cells::CELLS],
+    turns: &[bool; cells::PART],
+    disk: u64,
+) -> Within
     requires { ⌜ Shared (now plan) × Small (now part) ⌝ }
     ensures { λ r. ⌜ TurnsJudged (treeOf (now (plan .entry))) (now (part .entry)) (now (turns .entry)) disk partMinutes (r .fixed) (r .stated) ⌝ }
 {
@@ -131,7 +153,7 @@ fn judge_part(plan: &[i64], windows: &[i64], first: u64) -> Week
     let mut part: [u64; cells::CELLS] = [0; cells::CELLS];
     let mut turns: [bool; cells::PART] = [false; cells::PART];
     turns[0] = first == 0;
-    let apart = cells::paint(&mut part, &mut turns, windows, first);
+    let apart = cells::add_windows(&mut part, &mut turns, windows, first);
     let within = judge_turns(plan, &part, &turns, Table::natural(plan, 0, Table::RATE));
     Week {
         apart,
