@@ -3,6 +3,7 @@ use mathlib.Core.Path.{_≡_, sym, _∙_}
 use mathlib.Core.Bool.{true, false}
 use native.Mathlib.Omega.{arith}
 use borrow.Author.Tests.{not-true, not-false}
+use borrow.Author.Needs.{needs}
 use Rattle.definitions.proofs.Facts.{facts}
 use Rattle.definitions.proofs.Passed.{long}
 use Rattle.definitions.proofs.Refusals.{holds}
@@ -21,7 +22,7 @@ returns : tie.Need-returns
 returns c = (sym (unfit _ _ _ (sym (c .before .fitting .ensures) ∙ not-true _ (c .if1 .taken))), omega arith)
 
 shares-fit-requires : tie.Need-shares-fit-requires
-shares-fit-requires c κs = (long _ (c .before .before .pre .1), λ i hi. timed _ _ _ (fits c) i hi .node)
+shares-fit-requires c κs = (search (needs, long), λ i hi. timed _ _ _ (fits c) i hi .node)
 
 week-refusal-requires : tie.Need-week-refusal-requires
 week-refusal-requires c κs =
