@@ -113,7 +113,7 @@ pub fn stated_wrong(table: &[i64], c: usize, old: u64, kind: u64, share: u64) ->
 }
 
 // Adds an amount to the sum of class c.
-pub fn add_to(sums: &mut [u64; Table::NODES], c: usize, amount: u64)
+fn add_to(sums: &mut [u64; Table::NODES], c: usize, amount: u64)
     requires { ⌜ (c < nodes) × (getD (now sums) c 0 + amount < 2 ^ 64) ⌝ }
     ensures { λ _. ⌜ now (sums .exit) ≡ set (now (sums .entry)) c (getD (now (sums .entry)) c 0 + amount) ⌝ }
 {
