@@ -13,6 +13,7 @@ use Rattle.definitions.specs.Limits.{nodes, greatestRate}
 use Rattle.definitions.specs.Tree.{testIf}
 use Rattle.hourlaws.specs.Windows.{windowNode, windowStart, windowEnd, windowShare, covers, valueBy}
 
+-- Minutes of a part, parts of the week, and cells of a part.
 abbrev pub partMinutes : ℕ
 partMinutes = 32
 
