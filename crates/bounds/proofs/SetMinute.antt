@@ -1,26 +1,27 @@
 -- An accepted set minute: balances and requests stay, and each node of the observer's tree gets the kind and share of the tree at
 -- the minute.
-use Prim.Native.Nat.{ℕ, _+_, _≤_, _<_}
+use Prim.Native.Nat.{ℕ, _+_, _≤_}
 use mathlib.Core.Path.{_≡_, refl, sym, ap, _∙_, fun-ext}
 use mathlib.Core.Bool.{true, false, not, cond}
 use mathlib.Core.List.{List, []}
 use native.Mathlib.Omega.{arith}
 use native.Mathlib.Decide.{decLt}
 use lib.Dec.{eqb}
-use lib.ListN.{length, List·getD-eq-default}
-use lib.IntN.{ℤ, pos}
+use lib.ListN.{length}
+use lib.IntN.{ℤ}
 use Rattle.numbers.specs.Whole.{plus}
 use Rattle.numbers.proofs.Tests.{by-test, true-false, cond-true, cond-false}
 use Rattle.numbers.proofs.Parts.{plus-pos}
-use Rattle.definitions.specs.Limits.{tableLength, headerLength, recordLength, nodes, sortAt, kindAt, shareAt, rateAt, balanceAt, waitingAt, root}
+use Rattle.definitions.specs.Limits.{tableLength, nodes, sortAt, kindAt, shareAt, rateAt, balanceAt, waitingAt, root}
 use Rattle.definitions.specs.Places.{place, rate as rateOf, balance, waiting}
 use Rattle.definitions.specs.Tree.{Tree, treeOf, there, isClient}
 use Rattle.definitions.specs.Rates.{renewed}
 use Rattle.definitions.specs.Order.{inOrder}
 use Rattle.definitions.proofs.Facts.{InOrder, facts}
+use Rattle.treelaws.proofs.Renewed.{beyond}
 use Rattle.hourlaws.specs.Windows.{treeAt}
 use Rattle.hourlaws.specs.SetMinute.{planned, setMinuteRefusal, resharedAs, minuteTable}
-use Rattle.hourlaws.proofs.Passed.{SetMinutePassed, set-minute-passed, Timetabled, timetabled, planned-in-order}
+use Rattle.hourlaws.proofs.Passed.{SetMinutePassed, set-minute-passed, timetabled, planned-in-order}
 use Rattle.hourlaws.proofs.Reshared.{Reshared, all-reshared, Suits, new-kind, new-share, same-sort, same-parent, same-level, same-depth}
 use Rattle.hourlaws.proofs.Kept.{minute-below, suits, changed}
 use Rattle.runs.specs.Runs.{setMinute, leaves}
@@ -32,7 +33,7 @@ use Rattle.bounds.proofs.Renewing.{renewed-agrees, renewed-same}
 -- Nobody is there beyond the table's end.
 nobody : (t : List ℤ) (k : ℕ) → length t ≡ tableLength → nodes ≤ k → there (treeOf t) k ≡ false
 unfolding there treeOf place plus
-nobody t k long far = ap (λ (z : ℤ). not (eqb (plus z) 0)) (List·getD-eq-default t (pos 0) (omega arith))
+nobody t k long far = ap (λ (z : ℤ). not (eqb (plus z) 0)) (beyond t k sortAt long far)
 
 -- A column of which the nodes that are there have the given number, and the others the old one.
 given-column : (old : Tree) (f g given : ℕ → ℕ) → ((j : ℕ) → there old j ≡ true → g j ≡ given j) → ((j : ℕ) → there old j ≡ false → g j ≡ f j) → g ≡ (λ j. cond (there old j) (given j) (f j))

@@ -17,7 +17,7 @@ use Rattle.hourlaws.proofs.Values.{cover-facts, covers-of}
 use Rattle.numbers.specs.Below.{allBelow}
 use Rattle.numbers.proofs.All.{all-at, all-intro, all-cong}
 use Rattle.definitions.specs.Tree.{testIf}
-use Rattle.definitions.proofs.Facts.{test-at, at-test}
+use Rattle.definitions.proofs.Facts.{test-at, at-test, test-same}
 use Rattle.cells.specs.Cells.{partMinutes, cellCount, cellAt, between, cellValue, valueIn, Ranged, reaches, clearAt, clearIn, FilledBy, MarkedBy}
 
 module _ (from to x : ℕ) where
@@ -91,18 +91,13 @@ clear-covered ws i first from to cells r rises =
     empty : ℕ → Bool
     empty y = eqb (getD cells y 0) 0
 
-test-cong : (b : Bool) (j : ℕ) (f g : ℕ → Bool) → f j ≡ g j → testIf b f j ≡ testIf b g j
-unfolding testIf
-test-cong true j f g e = e
-test-cong false j f g e = refl
-
 -- Clear by the cells is clear by the windows before, where their cells are filled.
 pub clear-filled :
     (ws : List ℤ) (first i : ℕ) (cells : List ℕ) → ((k j : ℕ) → j < partMinutes → getD cells (cellAt k j) 0 ≡ valueIn ws i k (first + j))
     → clearAt ws first i (λ j. eqb (getD cells (cellAt (windowNode ws i) j) 0) 0) ≡ clearIn ws first i
 unfolding clearIn clearAt
 clear-filled ws first i cells h =
-    all-cong partMinutes _ _ (λ j hj. test-cong (covers ws i (windowNode ws i) (first + j)) j _ _ (ap (λ (n : ℕ). eqb n 0) (h (windowNode ws i) j hj)))
+    all-cong partMinutes _ _ (λ j hj. test-same _ _ _ _ j j refl (ap (λ (n : ℕ). eqb n 0) (h (windowNode ws i) j hj)))
 
 -- A window that does not reach a part covers none of its minutes, and neither starts nor ends at one.
 pub record Beyond (ws : List ℤ) (i first : ℕ) : Type 0 where

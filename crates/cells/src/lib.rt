@@ -6,7 +6,7 @@ ghost use lib.ListN.{length, getD};
 ghost use lib.Dec.{eqb};
 ghost use Rattle.numbers.specs.Below.{allBelow};
 ghost use Rattle.definitions.specs.Limits.{nodes};
-ghost use Rattle.hourlaws.specs.Windows.{windowLength, windowShareAt, windowCount, windowStart, windowEnd, turn};
+ghost use Rattle.hourlaws.specs.Windows.{windowLength, windowShareAt, windowCount, turn};
 ghost use Rattle.windows.specs.Timed.{Timed};
 ghost use Rattle.cells.specs.Cells.{partMinutes, weekParts, cellCount, cellAt, cellValue, valueIn, Filled, Ranged, reaches, clearIn, FilledBy, Marked, MarkedBy};
 use table::Table;
@@ -138,7 +138,7 @@ fn add_window(
     first: u64,
 ) -> bool
     requires { ⌜ (length (now cells) ≡ cellCount) × (length (now turns) ≡ partMinutes) × Timed (now windows) i × (first ≤ weekParts * partMinutes) ⌝ }
-    ensures cellValue { λ r. ⌜ FilledBy (now (windows .entry)) first i (now (cells .entry)) (now (cells .exit)) r ⌝ }
+    ensures filled { λ r. ⌜ FilledBy (now (windows .entry)) first i (now (cells .entry)) (now (cells .exit)) r ⌝ }
     ensures marked { λ _. ⌜ MarkedBy (now (windows .entry)) first i (now (turns .entry)) (now (turns .exit)) ⌝ }
 {
     if !reaches(windows, i, first) {

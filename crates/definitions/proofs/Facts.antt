@@ -113,6 +113,21 @@ unfolding testIf
 at-test true p k h = h refl
 at-test false p k h = refl
 
+-- A test that is not asked, and one that is.
+pub test-off : (b : Bool) (f : ℕ → Bool) (j : ℕ) → b ≡ false → testIf b f j ≡ true
+unfolding testIf
+test-off b f j e = ap (λ (x : Bool). testIf x f j) e
+
+pub test-on : (b : Bool) (f : ℕ → Bool) (j : ℕ) → b ≡ true → testIf b f j ≡ f j
+unfolding testIf
+test-on b f j e = ap (λ (x : Bool). testIf x f j) e
+
+-- Two tests that are asked alike and hold alike.
+pub test-same : (a b : Bool) (f g : ℕ → Bool) (j m : ℕ) → a ≡ b → f j ≡ g m → testIf a f j ≡ testIf b g m
+unfolding testIf
+test-same a true f g j m e same = ap (λ (x : Bool). testIf x f j) e ∙ same
+test-same a false f g j m e same = ap (λ (x : Bool). testIf x f j) e
+
 pub each-at : (f : ℕ → Bool) (p : ℕ → Bool) → allBelow nodes (λ k. testIf (f k) p k) ≡ true → (k : ℕ) → k < nodes → f k ≡ true → p k ≡ true
 each-at f p h k hk e = test-at (f k) p k (all-at nodes (λ k. testIf (f k) p k) h k hk) e
 

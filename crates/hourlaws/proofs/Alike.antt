@@ -1,5 +1,5 @@
 -- The kinds, shares and rates that a table had make no difference to set minute: it compares none of them, and writes over all of them.
-use Prim.Native.Nat.{ℕ, _<_}
+use Prim.Native.Nat.{ℕ}
 use mathlib.Core.Path.{_≡_, sym, ap, _∙_}
 use mathlib.Core.Bool.{true, false}
 use mathlib.Core.List.{List}
@@ -9,11 +9,10 @@ use lib.IntN.{ℤ}
 use Rattle.numbers.specs.Whole.{plus}
 use Rattle.numbers.proofs.All.{all-cong}
 use Rattle.definitions.specs.Limits.{nodes, root, sortAt, parentAt, kindAt, shareAt, depthAt, rateAt}
-use Rattle.definitions.specs.Places.{place, rate}
+use Rattle.definitions.specs.Places.{rate}
 use Rattle.definitions.specs.Tree.{Tree, treeOf, there}
 use Rattle.definitions.specs.Rates.{renewed}
 use Rattle.definitions.specs.Order.{inOrder}
-use Rattle.definitions.specs.Refusals.{kept}
 use Rattle.definitions.proofs.Facts.{InOrder, facts}
 use Rattle.definitions.proofs.Refusals.{kept-new}
 use Rattle.treelaws.proofs.Renewed.{same-renewed}

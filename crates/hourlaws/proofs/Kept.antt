@@ -1,22 +1,20 @@
 -- An accepted set minute leaves a table in order, of the same shape; so it is accepted again, at every minute.
-use Prim.Native.Nat.{ℕ, _+_, _≤_, _<_}
+use Prim.Native.Nat.{ℕ, _≤_, _<_}
 use mathlib.Core.Path.{_≡_, refl, sym, ap, _∙_}
-use mathlib.Core.Bool.{Bool, true, false, not}
-use mathlib.Core.List.{List, [], _∷_}
+use mathlib.Core.Bool.{true, false}
+use mathlib.Core.List.{List, []}
 use native.Mathlib.Omega.{arith}
 use borrow.Author.Tests.{leb-true}
 use lib.Dec.{leb}
 use lib.IntN.{ℤ, pos}
-use Rattle.numbers.specs.Whole.{plus, withinℤ, sameℤ}
-use Rattle.numbers.specs.Tests.{every}
-use Rattle.numbers.specs.Below.{allBelow}
+use Rattle.numbers.specs.Whole.{plus, withinℤ}
 use Rattle.numbers.proofs.Tests.{by-test, true-false}
 use Rattle.definitions.proofs.ShareKinds.{limit-le}
 use Rattle.treelaws.specs.Renewal.{RenewsAll}
 use Rattle.treelaws.proofs.Below.{renewed-by-root}
 use Rattle.calllaws.proofs.OneChild.{ways-before}
 use Rattle.numbers.proofs.Every.{head-holds, rest-hold, holds-with, none-left}
-use Rattle.numbers.proofs.Parts.{zarith, within-parts, plus-pos, pos-of-within, same-eq, eq-same}
+use Rattle.numbers.proofs.Parts.{within-parts, plus-pos, pos-of-within, same-eq, eq-same}
 use Rattle.numbers.proofs.All.{all-at, all-intro}
 use Rattle.definitions.specs.Limits.{nodes, root, lastNode, recordLength, sortAt, parentAt, kindAt, shareAt, depthAt, rateAt, fixed, stated, wholeShare, greatestRate, shareLimit}
 use Rattle.definitions.specs.Places.{place, rate}

@@ -1,31 +1,29 @@
 -- A table that gets the kinds and shares of a tree stays ready where these suit it.
-use Prim.Native.Nat.{ℕ, suc, _+_, _*_, _≤_, _<_}
+use Prim.Native.Nat.{ℕ, suc, _+_, _≤_, _<_}
 use mathlib.Core.Path.{_≡_, refl, sym, ap, _∙_}
-use mathlib.Core.Bool.{true, false, cond}
+use mathlib.Core.Bool.{true, false}
 use mathlib.Core.List.{List}
 use native.Mathlib.Omega.{arith}
 use native.Mathlib.Decide.{ℕ-discrete}
 use lib.ListN.{length}
 use lib.IntN.{ℤ, pos}
-use lib.Signed.{leZ}
 use Rattle.numbers.specs.Whole.{plus, minus, withinℤ}
-use Rattle.numbers.proofs.Tests.{true-false}
 use Rattle.numbers.proofs.Parts.{zarith, plus-pos, minus-pos, parts-within}
 use Rattle.numbers.proofs.All.{below-cases}
 use Rattle.numbers.proofs.Steps.{for-reaches}
 use Rattle.numbers.proofs.Sums.{sum-cong, sumℤ-cong}
 use Rattle.definitions.specs.Limits.{tableLength, headerLength, recordLength, nodes, sortAt, parentAt, levelAt, kindAt, shareAt, depthAt, rateAt, balanceAt, waitingAt, portAt, arrivalAt, fixed, stated, root, wholeShare, shareLimit}
 use Rattle.definitions.specs.Places.{queuePlace, place, header, count, rate, balance, waiting, arrival}
-use Rattle.definitions.specs.Tree.{Tree, treeOf, there, isClass, isStated, childOf, countIf, sumUnder}
+use Rattle.definitions.specs.Tree.{Tree, treeOf, there, isStated, childOf, countIf, sumUnder}
 use Rattle.definitions.specs.Rates.{kindSum, fixedSum, statedSum}
 use Rattle.definitions.specs.Order.{childBalance, childBalances}
 use Rattle.definitions.specs.Calls.{reshared}
-use Rattle.definitions.proofs.Facts.{Child, Class, Stated, Limits}
+use Rattle.definitions.proofs.Facts.{Class, Limits}
 use Rattle.definitions.proofs.Edits.{reshared-edit, reshared-rest}
-use Rattle.calllaws.proofs.Nodes.{Ready, Sums, Node, node-limited, child-kept, differ-kept, root-kept, most-waiting, there-same}
+use Rattle.calllaws.proofs.Nodes.{Ready, Sums, Node, node-limited, child-kept, differ-kept, most-waiting, there-same}
 use Rattle.calllaws.proofs.OneNode.{child-same, count-same}
 use Rattle.hourlaws.specs.SetMinute.{resharedAs}
-use Rattle.hourlaws.proofs.SameShares.{SameShare, kind-sum-same}
+use Rattle.hourlaws.proofs.SameShares.{kind-sum-same}
 
 -- Table u is t, but that its nodes below n have the kinds and shares of the tree.
 pub record Reshared (tree : Tree) (t : List ℤ) (n : ℕ) (u : List ℤ) : Type 0 where

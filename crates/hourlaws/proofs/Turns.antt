@@ -1,6 +1,6 @@
 -- Shares change only where a window starts or ends. So what holds of the tree at minute 0, at each start and at each end holds at
 -- every minute of the week: from one minute to the next it holds again, or the next one was tested.
-use Prim.Native.Nat.{ℕ, zero, suc, _+_, _≤_, _<_}
+use Prim.Native.Nat.{ℕ, zero, suc, _<_}
 use mathlib.Core.Path.{_≡_, refl, sym, ap, _∙_}
 use mathlib.Core.Bool.{Bool, true, false, cond, _||_}
 use mathlib.Core.List.{List}

@@ -1,5 +1,5 @@
 -- A test over the numbers below a bound passes just where it passes at each of them.
-use Prim.Native.Nat.{ℕ, zero, suc, _+_, _<_}
+use Prim.Native.Nat.{ℕ, zero, suc, _+_, _-_, _<_}
 use native.Mathlib.Numerals.{add-one}
 use native.Mathlib.Decide.{ℕ-discrete}
 use native.Mathlib.Omega.{arith}
@@ -57,3 +57,21 @@ all-grows n p ok b e f = ap (λ (x : Bool). x && b) e ∙ ap (λ (x : Bool). all
 
 pub all-done : (m n : ℕ) (p : ℕ → Bool) (ok : Bool) → ok ≡ allBelow m p → m ≡ n → ok ≡ allBelow n p
 all-done m n p ok e end = e ∙ ap (λ (i : ℕ). allBelow i p) end
+
+-- A test over two neighbouring stretches.
+all-append : (n m : ℕ) (p : ℕ → Bool) → allBelow (n + m) p ≡ (allBelow n p && allBelow m (λ j. p (n + j)))
+all-append n m p =
+    same-truth _ _
+    (λ h. and-true _ _ (all-intro n p (λ k l. all-at (n + m) p h k (omega arith))) (all-intro m (λ j. p (n + j)) (λ j l. all-at (n + m) p h (n + j) (omega arith))))
+    (λ h.
+    all-intro (n + m) p
+    (λ k l.
+    by-test (ltb k n) (λ y. all-at n p (and-left _ _ h) k (ltb-true k n y))
+    (λ f.
+    let past = ltb-false k n f in
+    let back : n + (k - n) ≡ k = omega arith in
+    sym (ap p back) ∙ all-at m (λ j. p (n + j)) (and-right (allBelow n p) _ h) (k - n) (omega arith))))
+
+-- A test that is made part by part: one part more.
+pub all-part : (n m : ℕ) (p : ℕ → Bool) (ok b : Bool) → ok ≡ allBelow n p → b ≡ allBelow m (λ j. p (n + j)) → (ok && b) ≡ allBelow (n + m) p
+all-part n m p ok b e f = ap (λ (x : Bool). x && b) e ∙ ap (λ (x : Bool). allBelow n p && x) f ∙ sym (all-append n m p)

@@ -1,6 +1,6 @@
 -- What the tests over the week ask is there once the list is whole windows that are right for the plan; the refusal of set minute,
 -- stage by stage.
-use Prim.Native.Nat.{ℕ, _≤_, _<_}
+use Prim.Native.Nat.{ℕ, _<_}
 use mathlib.Core.Path.{_≡_, refl, sym, ap, ap₂, _∙_}
 use mathlib.Core.Bool.{Bool, true, false, not, _&&_}
 use mathlib.Core.List.{List, [], _∷_}
@@ -13,7 +13,7 @@ use Rattle.numbers.specs.Below.{allBelow}
 use Rattle.numbers.proofs.Tests.{by-test}
 use Rattle.numbers.proofs.Every.{head-holds, rest-hold}
 use Rattle.numbers.proofs.Parts.{zarith, within-parts, plus-pos}
-use Rattle.definitions.specs.Limits.{nodes, root, shareAt, fixed, stated, wholeShare, greatestRate}
+use Rattle.definitions.specs.Limits.{nodes, root, shareAt, fixed, stated, wholeShare}
 use Rattle.definitions.specs.Places.{rate}
 use Rattle.definitions.specs.Tree.{treeOf, there}
 use Rattle.definitions.specs.Order.{inOrder}

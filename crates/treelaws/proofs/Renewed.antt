@@ -99,7 +99,7 @@ same-tree t u h =
     λ i. record { sort = column sortAt (omega arith) i; parent = column parentAt (omega arith) i; level = column levelAt (omega arith) i; kind = column kindAt (omega arith) i; share = column shareAt (omega arith) i; depth = column depthAt (omega arith) i }
 
 -- Nothing stands beyond the table's end, so the nodes below 64 settle it.
-beyond : (t : List ℤ) (k p : ℕ) → length t ≡ tableLength → nodes ≤ k → place t k p ≡ pos 0
+pub beyond : (t : List ℤ) (k p : ℕ) → length t ≡ tableLength → nodes ≤ k → place t k p ≡ pos 0
 unfolding place
 beyond t k p nt h = List·getD-eq-default t (pos 0) (omega arith)
 

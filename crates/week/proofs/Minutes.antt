@@ -1,7 +1,7 @@
 -- From the cells of the parts to the week.
-use Prim.Native.Nat.{ℕ, zero, suc, _+_, _*_, _-_, _/_, _%_, _≤_, _<_, min}
-use mathlib.Core.Path.{_≡_, refl, sym, ap, _∙_}
-use mathlib.Core.Bool.{Bool, true, false, cond, _&&_}
+use Prim.Native.Nat.{ℕ, zero, suc, _+_, _*_, _-_, _/_, _%_, _≤_, _<_}
+use mathlib.Core.Path.{_≡_, refl, sym, _∙_}
+use mathlib.Core.Bool.{Bool, true, false, cond}
 use mathlib.Core.List.{List}
 use native.Mathlib.Omega.{arith}
 use borrow.Author.Tests.{eqb-true, eq-eqb, ne-eqb}
@@ -12,38 +12,19 @@ use Rattle.numbers.specs.Below.{allBelow}
 use Rattle.numbers.proofs.Tests.{by-test, same-truth, true-false, cond-true, cond-false}
 use Rattle.numbers.proofs.Parts.{within-parts}
 use Rattle.numbers.proofs.All.{below-cases, all-at, all-intro, all-cong}
-use Rattle.definitions.specs.Limits.{nodes, greatestRate, shareLimit}
+use Rattle.definitions.specs.Limits.{greatestRate, shareLimit}
 use Rattle.definitions.proofs.ShareKinds.{limit-le}
 use Rattle.definitions.specs.Tree.{Tree, treeOf, testIf}
-use Rattle.definitions.proofs.Facts.{test-at, at-test}
-use Rattle.hourlaws.specs.Windows.{weekMinutes, windowCount, windowNumber, windowShareAt, windowNode, windowStart, windowEnd, windowShare, covers, valueBy, apart, shareFits, sharesFit, shareIn, treeAt, turn}
+use Rattle.definitions.proofs.Facts.{test-at, at-test, test-same}
+use Rattle.hourlaws.specs.Windows.{weekMinutes, windowCount, windowNumber, windowShareAt, windowNode, windowShare, covers, valueBy, apart, shareFits, sharesFit, shareIn, treeAt, turn}
 use Rattle.hourlaws.specs.SetMinute.{kindWithin, weekWithin}
-use Rattle.hourlaws.proofs.Values.{Covers, cover-facts, covers-of, value-none, value-suc, value-has, all-append}
+use Rattle.hourlaws.proofs.Values.{Covers, cover-facts, covers-of, value-none, value-suc, value-has}
 use Rattle.hourlaws.proofs.SameShares.{within-same}
 use Rattle.hourlaws.proofs.Turns.{decided}
 use Rattle.hourlaws.proofs.Apart.{apart-at, apart-of}
 use Rattle.windows.specs.Timed.{Timed}
 use Rattle.cells.specs.Cells.{partMinutes, weekParts, cellAt, cellValue, valueIn, clearAt, clearIn}
 use Rattle.week.specs.Week.{cellShare, cellTree, Small, withinMarked, withinAt}
-
--- A test that is made part by part: one part more.
-pub all-part : (n m : ℕ) (p : ℕ → Bool) (ok b : Bool) → ok ≡ allBelow n p → b ≡ allBelow m (λ j. p (n + j)) → (ok && b) ≡ allBelow (n + m) p
-all-part n m p ok b e f = ap (λ (x : Bool). x && b) e ∙ ap (λ (x : Bool). allBelow n p && x) f ∙ sym (all-append n m p)
-
--- A test that is not asked, and one that is.
-pub test-off : (b : Bool) (f : ℕ → Bool) (j : ℕ) → b ≡ false → testIf b f j ≡ true
-unfolding testIf
-test-off b f j e = ap (λ (x : Bool). testIf x f j) e
-
-pub test-on : (b : Bool) (f : ℕ → Bool) (j : ℕ) → b ≡ true → testIf b f j ≡ f j
-unfolding testIf
-test-on b f j e = ap (λ (x : Bool). testIf x f j) e
-
--- Two tests that are asked alike and hold alike.
-test-same : (a b : Bool) (f g : ℕ → Bool) (j m : ℕ) → a ≡ b → f j ≡ g m → testIf a f j ≡ testIf b g m
-unfolding testIf
-test-same a true f g j m e same = ap (λ (x : Bool). testIf x f j) e ∙ same
-test-same a false f g j m e same = ap (λ (x : Bool). testIf x f j) e
 
 -- No window below n covers a minute whose cell is 0, and the cell of a minute that none covers is 0.
 module _ (ws : List ℤ) (k m : ℕ) where

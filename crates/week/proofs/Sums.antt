@@ -1,6 +1,6 @@
 -- The shares that the cells of a minute show are in their limits, so that their sums fit; and the sums of one kind are the test of that
 -- kind.
-use Prim.Native.Nat.{ℕ, _+_, _*_, _-_, _≤_, _<_}
+use Prim.Native.Nat.{ℕ, _+_, _-_, _≤_, _<_}
 use mathlib.Core.Path.{_≡_, ap}
 use mathlib.Core.List.{List}
 use native.Mathlib.Omega.{arith}

@@ -1,7 +1,7 @@
 // The windows of a timetable: four numbers each, node, start minute, end minute and share. Document 02, (h).
 ghost use mathlib.Core.Path.{_≡_};
 ghost use mathlib.Core.Bool.{cond};
-ghost use Prim.Native.Nat.{ℕ, _+_, _*_, _≤_, _<_};
+ghost use Prim.Native.Nat.{ℕ, _+_, _*_, _<_};
 ghost use lib.ListN.{length, getD};
 ghost use Rattle.numbers.specs.Whole.{plus, withinℤ};
 ghost use Rattle.numbers.specs.Below.{allBelow};

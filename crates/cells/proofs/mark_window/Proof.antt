@@ -1,7 +1,4 @@
-use Prim.Native.Nat.{ℕ}
-use mathlib.Core.Path.{ap}
 use borrow.Author.Needs.{needs}
-use Rattle.cells.specs.Cells.{Marked}
 use Rattle.cells.proofs.Turns.{both-marked}
 use Rattle.cells.proofs.mark_window.Statement.{statement}
 use Rattle.cells.proofs.mark_window.Tie as tie

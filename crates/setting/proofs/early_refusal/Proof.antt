@@ -1,8 +1,8 @@
-use mathlib.Core.Path.{_≡_, sym, ap, _∙_}
+use mathlib.Core.Path.{_≡_, ap, _∙_}
 use native.Mathlib.Omega.{arith}
 use mir.Facts.{toZ-ofZ}
 use Rattle.numbers.specs.Whole.{withinℤ}
-use Rattle.definitions.proofs.Refusals.{causes, found, holds}
+use Rattle.definitions.proofs.Refusals.{causes, found}
 use Rattle.hourlaws.specs.Windows.{lastMinute}
 use borrow.Author.Needs.{needs}
 use Rattle.setting.proofs.early_refusal.Statement.{statement}

@@ -2,7 +2,7 @@ use Rattle.numbers.specs.Whole.{plus}
 use Rattle.definitions.proofs.Facts.{from-facts}
 use Prim.Native.Nat.{ℕ}
 use mathlib.Core.Path.{_≡_, sym, ap, _∙_}
-use mathlib.Core.Bool.{true, not}
+use mathlib.Core.Bool.{not}
 use mathlib.Core.List.{List, [], _∷_}
 use native.Mathlib.Omega.{arith}
 use lib.IntN.{ℤ}
@@ -12,10 +12,10 @@ use Rattle.numbers.specs.Whole.{withinℤ}
 use Rattle.definitions.specs.Order.{inOrder}
 use Rattle.definitions.specs.Refusals.{cause, first, kept}
 use Rattle.definitions.specs.Calls.{blank}
-use Rattle.definitions.proofs.Refusals.{kept-new, kept-old, natural-of}
+use Rattle.definitions.proofs.Refusals.{kept-old, natural-of}
 use Rattle.planlaws.specs.Reading.{checkAnswer}
 use Rattle.hourlaws.specs.Windows.{lastMinute}
-use Rattle.hourlaws.specs.SetMinute.{planned, timetableRefusal, minuteTable, setMinuteRefusal, setMinuteTable}
+use Rattle.hourlaws.specs.SetMinute.{planned, timetableRefusal, minuteTable, setMinuteTable}
 use Rattle.hourlaws.proofs.Passed.{planned-in-order}
 use Rattle.hourlaws.proofs.Kept.{minute-below}
 use Rattle.setting.proofs.Asked.{Early, early-refused, early-passed, plan-refused, plan-passed}

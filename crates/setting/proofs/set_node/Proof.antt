@@ -2,13 +2,12 @@ use Prim.Native.Nat.{ℕ}
 use mathlib.Core.Path.{_≡_, ap, _∙_}
 use mathlib.Core.List.{List}
 use native.Mathlib.Omega.{arith}
-use lib.ListN.{length, getD}
+use lib.ListN.{getD}
 use lib.IntN.{ℤ, pos}
 use Rattle.definitions.specs.Limits.{kindAt, shareAt}
 use Rattle.definitions.specs.Places.{put}
 use Rattle.definitions.specs.Tree.{treeOf}
 use Rattle.definitions.specs.Calls.{reshared}
-use Rattle.definitions.proofs.Places.{length-put}
 use borrow.Author.Needs.{needs}
 use Rattle.setting.proofs.set_node.Statement.{statement}
 use Rattle.setting.proofs.set_node.Tie as tie

@@ -1,6 +1,6 @@
 -- `setting::timetable_refusal` meets its contract: where the shares are not in their limits, only an overlap comes before 2.
 use mathlib.Core.Path.{_≡_, sym, _∙_}
-use mathlib.Core.Bool.{true, false}
+use mathlib.Core.Bool.{true}
 use native.Mathlib.Omega.{arith}
 use borrow.Author.Tests.{not-true, not-false}
 use borrow.Author.Needs.{needs}

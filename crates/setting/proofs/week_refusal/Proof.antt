@@ -1,11 +1,9 @@
 -- `setting::week_refusal` meets its contract: of cause 17 only the overlap is left, and 2 is not there.
-use mathlib.Core.Path.{_≡_, sym, ap, _∙_}
-use mathlib.Core.Bool.{true, not}
+use mathlib.Core.Path.{sym, _∙_}
 use native.Mathlib.Omega.{arith}
 use borrow.Author.Tests.{not-true, not-false}
 use Rattle.definitions.proofs.Facts.{facts}
-use Rattle.definitions.proofs.Refusals.{first-here, first-past, first-end, holds}
-use Rattle.hourlaws.specs.SetMinute.{timetableRefusal}
+use Rattle.definitions.proofs.Refusals.{holds}
 use Rattle.setting.proofs.Asked.{timed, shared, overlapping, sums-left, SumsLeft}
 use Rattle.setting.proofs.week_refusal.Statement.{statement}
 use Rattle.setting.proofs.week_refusal.Tie as tie

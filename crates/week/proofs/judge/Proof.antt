@@ -1,16 +1,16 @@
-use Prim.Native.Nat.{ℕ, _+_, _*_, _-_, _≤_, _<_}
-use mathlib.Core.Path.{_≡_, refl, sym, ap, _∙_}
+use Prim.Native.Nat.{ℕ, _+_, _*_, _-_, _≤_}
+use mathlib.Core.Path.{_≡_, refl, _∙_}
 use mathlib.Core.Bool.{Bool, true, _&&_}
 use native.Mathlib.Omega.{arith}
 use Rattle.numbers.specs.Below.{allBelow}
-use Rattle.numbers.proofs.All.{all-grows, all-done}
+use Rattle.numbers.proofs.All.{all-grows, all-done, all-part}
 use Rattle.definitions.specs.Limits.{root, fixed as fixedKind, stated as statedKind, wholeShare}
 use Rattle.definitions.specs.Places.{rate}
 use Rattle.definitions.specs.Tree.{treeOf}
 use Rattle.hourlaws.specs.Windows.{weekMinutes, windowCount, sharesFit}
 use Rattle.cells.specs.Cells.{partMinutes, weekParts, clearIn}
 use Rattle.week.specs.Week.{withinAt}
-use Rattle.week.proofs.Minutes.{parts-apart, all-part, week-decided}
+use Rattle.week.proofs.Minutes.{parts-apart, week-decided}
 use Rattle.week.proofs.judge.Statement.{statement}
 use Rattle.week.proofs.judge.Tie as tie
 

@@ -1,5 +1,5 @@
-use Prim.Native.Nat.{ℕ, _+_, _<_}
-use mathlib.Core.Path.{_≡_, refl, ap, _∙_}
+use Prim.Native.Nat.{ℕ}
+use mathlib.Core.Path.{refl, ap, _∙_}
 use Rattle.numbers.specs.Below.{allBelow}
 use Rattle.definitions.specs.Limits.{root, stated, wholeShare, fixed}
 use Rattle.definitions.specs.Places.{rate}

@@ -1,8 +1,8 @@
-use mathlib.Core.Path.{_≡_, sym, _∙_}
+use mathlib.Core.Path.{sym, _∙_}
 use borrow.Author.Tests.{not-true, not-false}
 use borrow.Author.Needs.{needs}
 use Rattle.week.specs.Week.{withinMarked}
-use Rattle.week.proofs.Minutes.{test-off, test-on}
+use Rattle.definitions.proofs.Facts.{test-off, test-on}
 use Rattle.week.proofs.judge_turn.Statement.{statement}
 use Rattle.week.proofs.judge_turn.Tie as tie
 

@@ -1,8 +1,8 @@
-use Prim.Native.Nat.{ℕ, _-_, _≤_, _<_}
+use Prim.Native.Nat.{_-_, _≤_}
 use mathlib.Core.Path.{_≡_, refl}
 use native.Mathlib.Omega.{arith}
 use Rattle.numbers.specs.Below.{allBelow}
-use Rattle.numbers.proofs.All.{all-grows, all-done}
+use Rattle.numbers.proofs.All.{all-grows}
 use Rattle.definitions.specs.Limits.{fixed as fixedKind, stated as statedKind, wholeShare}
 use Rattle.definitions.specs.Tree.{treeOf}
 use Rattle.cells.specs.Cells.{partMinutes}

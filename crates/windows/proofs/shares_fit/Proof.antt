@@ -1,10 +1,8 @@
-use Prim.Native.Nat.{ℕ, _+_, _*_, _-_, _≤_, _<_}
-use mathlib.Core.Path.{_≡_, refl, sym, ap, _∙_}
+use Prim.Native.Nat.{_-_, _≤_}
+use mathlib.Core.Path.{_≡_, refl}
 use native.Mathlib.Omega.{arith}
-use borrow.Author.Needs.{needs}
 use Rattle.numbers.specs.Below.{allBelow}
 use Rattle.numbers.proofs.All.{all-grows, all-done}
-use Rattle.definitions.specs.Limits.{nodes}
 use Rattle.definitions.specs.Tree.{treeOf}
 use Rattle.hourlaws.specs.Windows.{windowCount, shareFits, sharesFit}
 use Rattle.windows.proofs.shares_fit.Statement.{statement}

@@ -1,9 +1,8 @@
-use mathlib.Core.Path.{_≡_, sym, ap, ap₂, _∙_}
+use mathlib.Core.Path.{sym, ap, ap₂, _∙_}
 use borrow.Author.Tests.{not-true, not-false}
 use Rattle.definitions.specs.Limits.{lastNode}
 use Rattle.definitions.specs.Tree.{treeOf, there}
 use native.Mathlib.Omega.{arith}
-use Prim.Native.Nat.{ℕ}
 use lib.Dec.{ltb}
 use Rattle.numbers.proofs.Every.{joined-as, same-tests, last-test, head-fails, rest-fail}
 use Rattle.numbers.proofs.Parts.{within-parts}
