@@ -1,8 +1,7 @@
 //! Opening hours for shares: document 02's request (h).
 //!
-//! "A timetable is a list of windows: node, start minute, end minute, share." "Inside a
-//! window a node has the window's share, otherwise the plan's; its kind is always the
-//! plan's."
+//! A timetable has windows of four numbers each. A node has the share of the window
+//! that covers the minute, and the plan's where none does. Its kind is that of the plan.
 
 use crate::plan::Plan;
 use crate::rates;
@@ -45,12 +44,12 @@ impl Window {
         [self.node, self.start, self.end, self.share]
     }
 
-    /// "A window covers start up to, but not including, end".
+    /// From its start on, and before its end.
     pub fn covers(&self, minute: i64) -> bool {
         self.start <= minute && minute < self.end
     }
 
-    /// "0 ≤ start < end ≤ 10,080".
+    /// Whether it lies in the week and is not empty.
     pub fn has_good_minutes(&self) -> bool {
         0 <= self.start && self.start < self.end && self.end <= WEEK
     }
@@ -81,8 +80,8 @@ pub(crate) fn set_minute(table: &mut [i64], plan: &[u8], list: &[i64], minute: i
     Ok(0)
 }
 
-/// Whether a table and the one that its plan makes have the same "nodes, parents, sorts,
-/// depths" and "disk rate".
+/// Whether a table and the one that its plan makes have the same nodes, with their sorts,
+/// parents and depths, and the same disk rate.
 fn is_of_plan(table: &[i64], planned: &[i64]) -> bool {
     let are_equal =
         |node: usize, place: usize| get(table, node, place) == get(planned, node, place);
@@ -125,7 +124,7 @@ fn changes(windows: &[Window]) -> Vec<i64> {
 /// The shares of all node numbers at a minute.
 type Shares = [i64; NODES];
 
-/// "Inside a window a node has the window's share, otherwise the plan's".
+/// The window's share where a window of the node covers the minute, else the plan's.
 fn shares_at(planned: &[i64], windows: &[Window], minute: i64) -> Shares {
     std::array::from_fn(|node| match window_at(windows, node as i64, minute) {
         Some(window) => window.share,
