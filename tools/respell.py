@@ -57,15 +57,33 @@ def in_code(text, names):
     return TOKEN.sub(lambda m: names(m[0], text[m.start() - 1] if m.start() else ""), text)
 
 
-def name(word, before):
-    return word.replace("-", "_") if before == "." and (word in LAWS or word in TURNED) else spelled(word)
+IMPORT = re.compile(r"(?m)^\s*use ([\w.·]+)\.\{([^}]*)\}")
+
+
+def imported(text, own):
+    """The names that a file takes from libraries: these keep their spelling."""
+    names = set()
+    for module, listed in IMPORT.findall(text):
+        if module.split(".")[:2] not in own:
+            for item in listed.split(","):
+                names |= set(item.split())
+    return names - {"as"}
+
+
+def naming(library, fields):
+    def name(word, before):
+        if before == ".":
+            return word if word not in fields else word.replace("-", "_") if word in LAWS or word in TURNED else spelled(word)
+        return word if word in library else spelled(word)
+
+    return name
 
 
 def camel_name(word, before):
     return spelled(word) if camel(word) and "-" not in word else word
 
 
-def antt(text):
+def antt(text, name):
     """Names outside comments, and names in camel case within them."""
     lines = []
     for line in text.split("\n"):
@@ -79,11 +97,17 @@ def antt(text):
 def main():
     files = [p for p in sorted(ROOT.glob("crates/**/*")) if p.suffix in (".antt", ".rt", ".edit") and "/out/" not in str(p)]
     texts = {p: p.read_text() for p in files}
+    own = [["Rattle", p.name] for p in ROOT.glob("crates/*")]
+    library = {p: imported(text, own) for p, text in texts.items()}
+    fields = set()
+    for p, text in texts.items():
+        if p.suffix == ".antt" and p.name != "Proof.antt":
+            fields |= set(re.findall(r"(?<!\.)" + TOKEN.pattern, re.sub(r"--[^\n]*", "", text))) - library[p]
     together = collections.defaultdict(set)
     for p, text in texts.items():
         if p.suffix == ".antt":
             for word in re.findall(r"(?<!\.)" + TOKEN.pattern, re.sub(r"--[^\n]*", "", text)):
-                if word not in LAWS and ("-" in word or camel(word)):
+                if word not in library[p] and word not in LAWS and ("-" in word or camel(word)):
                     together[spelled(word)].add(word)
     bad = {new: old for new, old in together.items() if len({re.sub(r"[-_]", "", w.lower()) + str(camel(w)) for w in old}) > 1}
     if bad:
@@ -91,7 +115,7 @@ def main():
     for p, text in texts.items():
         if str(p).endswith(NUMBER_OF):
             text = re.sub(r"(?<![.\w])number_of\b", "number_of_law", text)
-        new = antt(text) if p.suffix == ".antt" else in_code(text, camel_name)
+        new = antt(text, naming(library[p], fields)) if p.suffix == ".antt" else in_code(text, camel_name)
         if new != p.read_text():
             p.write_text(new)
     pages([w for t in texts.values() for w in TOKEN.findall(t)])
@@ -107,7 +131,7 @@ def pages(old):
     for p in [ROOT / "README.md", *sorted(ROOT.glob("docs/**/*.md"))]:
         p.write_text(re.sub(r"`([^`\n]*)`", quoted, p.read_text()))
     for p in sorted(ROOT.glob("checks/*.txt")):
-        p.write_text(antt(p.read_text()))
+        p.write_text(antt(p.read_text(), naming(set(), set(known))))
 
 
 main()

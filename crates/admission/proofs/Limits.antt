@@ -3,7 +3,7 @@ use mathlib.Core.Path.{◌≡◌, ap, ◌∙◌}
 use mathlib.Core.Bool.{true}
 use mathlib.Core.List.{List}
 use native.Mathlib.Omega.{arith}
-use borrow.Author.Tests.{not_false}
+use borrow.Author.Tests.{not-false}
 use lib.IntN.{ℤ, pos}
 use Rattle.numbers.specs.Whole.{plus, within_ℤ}
 use Rattle.numbers.proofs.Every.{head_holds, rest_hold}
@@ -75,7 +75,7 @@ pub accepted_limits : (t : List ℤ) (j : Join) → refusal_of t j ≡ 0 → lim
 unfolding refusal_of join_refusal limits_of
 accepted_limits t j h =
     let p1 = none_first 1 _ _ (omega arith) h in
-    not_false _ (none_first 2 _ _ (omega arith) p1.1).0
+    not-false _ (none_first 2 _ _ (omega arith) p1.1).0
 
 pub writable : (t : List ℤ) (n : NewNode) (j : Join) → Natural n j → refusal_of t j ≡ 0 → Writable t n
 unfolding refusal_of tree_of

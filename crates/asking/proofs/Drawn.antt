@@ -4,7 +4,7 @@ use mathlib.Core.Path.{◌≡◌, sym, ap, ◌∙◌}
 use mathlib.Core.Bool.{true, not}
 use mathlib.Core.List.{List}
 use native.Mathlib.Omega.{arith}
-use borrow.Author.Tests.{eq_eqb, ne_eqb, eqb_true}
+use borrow.Author.Tests.{eq-eqb, ne_eqb, eqb-true}
 use lib.ListN.{length, get_or}
 use lib.Dec.{eqb}
 use lib.IntN.{ℤ, pos}
@@ -26,13 +26,13 @@ use Rattle.asking.proofs.Listing.{Picked}
 pub picked_depth : (t : List ℤ) (d k : ℕ) → in_order t ≡ true → Picked t d k → (1 ≤ plus (place t k depth_at)) × (plus (place t k depth_at) ≤ greatest_depth)
 unfolding there is_client tree_of
 picked_depth t d k order p =
-    let here : there (tree_of t) k ≡ true = ap not (ne_eqb ((tree_of t).sort k) unused (λ z. omega (arith, eqb_true ((tree_of t).sort k) client p.sort))) in
+    let here : there (tree_of t) k ≡ true = ap not (ne_eqb ((tree_of t).sort k) unused (λ z. omega (arith, eqb-true ((tree_of t).sort k) client p.sort))) in
     let l = (facts t order).limits k p.small here in
     (omega (arith, zarith, l.depth), omega (arith, zarith, l.depth))
 
 pub asked_none : (load : Load) → length (clients load.table) ≡ 0 → load ≡ asked load
 unfolding asked
-asked_none load h = sym (cond_true (eqb (length (clients load.table)) 0) load _ (eq_eqb _ 0 h))
+asked_none load h = sym (cond_true (eqb (length (clients load.table)) 0) load _ (eq-eqb _ 0 h))
 
 asked_some : (load : Load) → (length (clients load.table) ≡ 0 → ⊥) → after_request load ≡ asked load
 unfolding asked

@@ -2,12 +2,12 @@
 use Prim.Native.Nat.{ℕ, zero, suc, ◌+◌, ◌%◌, ◌≤◌, ◌<◌}
 use mathlib.Core.Path.{◌≡◌, sym, ap, ◌∙◌}
 use mathlib.Core.Bool.{true, false}
-use mathlib.Core.List.{List, [], ◌∷◌, ◌++◌, append_nil}
-use native.Mathlib.Nat.{mod_lt}
-use native.Mathlib.Numerals.{add_one}
+use mathlib.Core.List.{List, [], ◌∷◌, ◌++◌, append-nil}
+use native.Mathlib.Nat.{mod-lt}
+use native.Mathlib.Numerals.{add-one}
 use native.Mathlib.Omega.{arith}
-use lib.ListN.{length, get_or, take, set, length_set, length_append, get_or_append}
-use lib.Seq.{length_take_le, get_or_append_seam, take_suc_set}
+use lib.ListN.{length, get_or, take, set, length-set, length-append, get_or-append}
+use lib.Seq.{length-take-le, get_or-append_seam, take-suc-set}
 use lib.IntN.{ℤ}
 use Rattle.io.specs.Counts.{IsPrefixLen}
 use Rattle.numbers.proofs.Tests.{by_test, cond_true, cond_false}
@@ -25,21 +25,21 @@ module _ (tree : Tree) where
   without_client : (n : ℕ) → is_client tree n ≡ false → clients_below tree (suc n) ≡ clients_below tree n
   unfolding clients_below
   without_client n e =
-      ap (λ (xs : List ℕ). clients_below tree n ++ xs) (cond_false (is_client tree n) (n ∷ []) [] e) ∙ append_nil (clients_below tree n)
+      ap (λ (xs : List ℕ). clients_below tree n ++ xs) (cond_false (is_client tree n) (n ∷ []) [] e) ∙ append-nil (clients_below tree n)
 
   -- The same as a loop counts.
   pub clients_more : (n : ℕ) → is_client tree n ≡ true → clients_below tree (n + 1) ≡ clients_below tree n ++ (n ∷ [])
-  clients_more n e = ap (clients_below tree) (add_one n) ∙ with_client n e
+  clients_more n e = ap (clients_below tree) (add-one n) ∙ with_client n e
 
   pub clients_stay : (n : ℕ) → is_client tree n ≡ false → clients_below tree (n + 1) ≡ clients_below tree n
-  clients_stay n e = ap (clients_below tree) (add_one n) ∙ without_client n e
+  clients_stay n e = ap (clients_below tree) (add-one n) ∙ without_client n e
 
   pub clients_few : (n : ℕ) → length (clients_below tree n) ≤ n
   unfolding clients_below
   clients_few zero = omega arith
   clients_few (suc n) =
       by_test (is_client tree n)
-      (λ e. omega (arith, clients_few n, ap length (with_client n e), length_append (clients_below tree n) (n ∷ [])))
+      (λ e. omega (arith, clients_few n, ap length (with_client n e), length-append (clients_below tree n) (n ∷ [])))
       (λ e. omega (arith, clients_few n, ap length (without_client n e)))
 
   -- Each member is a client.
@@ -49,11 +49,11 @@ module _ (tree : Tree) where
   client_listed (suc n) i h =
       by_test (is_client tree n)
       (λ e.
-      below_cases (length (clients_below tree n)) i (omega (arith, ap length (with_client n e), length_append (clients_below tree n) (n ∷ [])))
+      below_cases (length (clients_below tree n)) i (omega (arith, ap length (with_client n e), length-append (clients_below tree n) (n ∷ [])))
       (λ l.
       let old = client_listed n i l in
-      rw (with_client n e, get_or_append (clients_below tree n) (n ∷ []) 0 i l) (omega (arith, old.0), old.1))
-      (λ last. rw (with_client n e, last, get_or_append_seam (clients_below tree n) n [] 0) (omega arith, e)))
+      rw (with_client n e, get_or-append (clients_below tree n) (n ∷ []) 0 i l) (omega (arith, old.0), old.1))
+      (λ last. rw (with_client n e, last, get_or-append_seam (clients_below tree n) n [] 0) (omega arith, e)))
       (λ e. let old = client_listed n i (omega (arith, ap length (without_client n e))) in rw (without_client n e) (omega (arith, old.0), old.1))
 
 -- The list xs has the clients below k at its start, count of them.
@@ -70,11 +70,11 @@ module _ (tree : Tree) (k count : ℕ) (xs : List ℕ) (l : Lists tree k count x
   lists_more h e =
       let more = clients_more tree k e in
       record {
-        room = omega (arith, length_set xs count k, l.room);
-        size = omega (arith, l.size, ap length more, length_append (clients_below tree k) (k ∷ []));
+        room = omega (arith, length-set xs count k, l.room);
+        size = omega (arith, l.size, ap length more, length-append (clients_below tree k) (k ∷ []));
         members =
-            ap (λ (n : ℕ). take n (set xs count k)) (add_one count)
-            ∙ take_suc_set xs count k (lists_room h)
+            ap (λ (n : ℕ). take n (set xs count k)) (add-one count)
+            ∙ take-suc-set xs count k (lists_room h)
             ∙ ap (λ (ys : List ℕ). ys ++ (k ∷ [])) l.members
             ∙ sym more;
       }
@@ -90,7 +90,7 @@ unfolding clients
 lists_all t k count xs end l =
     let few = clients_few (tree_of t) k in
     let within : count ≤ length xs = omega (arith, l.room, l.size) in
-    ((within, sym (length_take_le count xs within)), l.members ∙ ap (clients_below (tree_of t)) end)
+    ((within, sym (length-take-le count xs within)), l.members ∙ ap (clients_below (tree_of t)) end)
 
 pub few_clients : (t : List ℤ) → length (clients t) ≤ nodes
 unfolding clients
@@ -105,7 +105,7 @@ pub record Picked (t : List ℤ) (draw k : ℕ) : Type 0 where
 pub picked : (t : List ℤ) (xs : List ℕ) (draw : ℕ) → xs ≡ clients t → (length xs ≡ 0 → ⊥) → Picked t draw (get_or xs (draw % length xs) 0)
 unfolding clients
 picked t xs draw is some =
-    let below : draw % length xs < length xs = mod_lt draw (omega arith) in
+    let below : draw % length xs < length xs = mod-lt draw (omega arith) in
     let l = client_listed (tree_of t) nodes (draw % length xs) (omega (arith, ap length is)) in
     let same : get_or xs (draw % length xs) 0 ≡ get_or (clients t) (draw % length xs) 0 = ap (λ (ys : List ℕ). get_or ys (draw % length xs) 0) is in
     record {

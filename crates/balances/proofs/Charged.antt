@@ -4,7 +4,7 @@ use Prim.Native.Nat.{ℕ, zero, suc, ◌+◌, ◌*◌, ◌-◌, ◌^◌, ◌≤�
 use mathlib.Core.Path.{◌≡◌, refl, ◌∙◌}
 use mathlib.Core.List.{List}
 use native.Mathlib.Omega.{arith}
-use native.Mathlib.Nat.{mul_le_mul_right}
+use native.Mathlib.Nat.{mul-le-mul_right}
 use native.Mathlib.Decide.{ℕ_discrete}
 use lib.ListN.{length}
 use lib.IntN.{ℤ, pos, ◌-ℤ◌}
@@ -66,7 +66,7 @@ chargeable_first t w amount l small few =
     record {
       long = w.long;
       same = refl;
-      debt = λ j h. omega (arith, w.debt j h, mul_le_mul_right amount few);
+      debt = λ j h. omega (arith, w.debt j h, mul-le-mul_right amount few);
     }
 
 pub chargeable_next : (tree : Tree) (amount l : ℕ) (u : List ℤ) → Chargeable tree amount l u → 0 < l → (k : ℕ) → k < nodes → Chargeable tree amount (l - 1) (lower u amount k)

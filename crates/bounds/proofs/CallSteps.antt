@@ -2,7 +2,7 @@
 -- a request waiting keep balance and depth. A refused call, whichever it is, leaves the table and the observer as they were.
 use Prim.Native.Nat.{ℕ}
 use mathlib.Core.Path.{◌≡◌, refl, sym, ap, ◌∙◌}
-use mathlib.Core.Bool.{Bool, true, false, cond, ◌&&◌, and_true}
+use mathlib.Core.Bool.{Bool, true, false, cond, ◌&&◌, and-true}
 use mathlib.Core.Logic.{◌⊎◌, inl, ⊎_elim}
 use mathlib.Core.List.{List, [], ◌∷◌}
 use native.Mathlib.Omega.{arith}
@@ -86,7 +86,7 @@ unfolding accepted_tick takes_out entries event_of observed after_answer
 quiet_step t o call a refusal new values quiet made h change =
     let e = accepted_none refusal values (rw made at h) in
     idle_step t o call a (head_fails _ _ quiet) (λ c. leaves c call)
-    (λ c. every_two (leaves c call) (accepts (after t call).answer) ∙ ap (λ (b : Bool). leaves c call && b) h ∙ and_true (leaves c call))
+    (λ c. every_two (leaves c call) (accepts (after t call).answer) ∙ ap (λ (b : Bool). leaves c call && b) h ∙ and-true (leaves c call))
     (rw (made, quiet, kept_new refusal new t e, outcome_accepted refusal values e) (change e))
 
 -- A refused call.

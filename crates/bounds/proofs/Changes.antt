@@ -4,11 +4,11 @@ use Prim.Native.Nat.{ℕ, ◌≤◌, ◌<◌}
 use mathlib.Core.Path.{◌≡◌, refl, sym, ap, ap₂, ◌∙◌}
 use mathlib.Core.Bool.{Bool, true, false}
 use mathlib.Core.Logic.{◌⊎◌}
-use mathlib.Core.List.{List, [], ◌++◌, append_nil, append_assoc}
+use mathlib.Core.List.{List, [], ◌++◌, append-nil, append_assoc}
 use native.Mathlib.Omega.{arith}
 use native.Mathlib.Decide.{ℕ_discrete}
 use lib.ListN.{length, drop}
-use lib.Seq.{drop_append_seam}
+use lib.Seq.{drop-append_seam}
 use lib.IntN.{ℤ}
 use Rattle.definitions.specs.Limits.{root, record_length, balance_at, waiting_at}
 use Rattle.definitions.specs.Places.{place, balance}
@@ -32,14 +32,14 @@ pub record Grows (o p : Observer) (k : ℕ) : Type 0 where
   pub sent : p.sent k ≡ o.sent k
 
 pub grows_none : (o p : Observer) (k : ℕ) → p.asked k ≡ o.asked k → p.sent k ≡ o.sent k → Grows o p k
-grows_none o p k asked sent = record { more = []; asked = asked ∙ sym (append_nil (o.asked k)); sent = sent }
+grows_none o p k asked sent = record { more = []; asked = asked ∙ sym (append-nil (o.asked k)); sent = sent }
 
 -- Those that are added stand behind those that wait.
 pub queue_grows :
     (t u : List ℤ) (o p : Observer) → Agrees t o → Agrees u p → (k : ℕ) → is_client o.tree k ≡ true → is_client p.tree k ≡ true
     → (g : Grows o p k) → queue_of u k ≡ queue_of t k ++ g.more
 queue_grows t u o p a b k old new g =
-    sym (drop_append_seam (o.sent k) (queue_of u k)) ∙ ap (λ (l : List Request). drop (length (o.sent k)) l) both ∙ drop_append_seam (o.sent k) (queue_of t k ++ g.more)
+    sym (drop-append_seam (o.sent k) (queue_of u k)) ∙ ap (λ (l : List Request). drop (length (o.sent k)) l) both ∙ drop-append_seam (o.sent k) (queue_of t k ++ g.more)
   where
     both : o.sent k ++ queue_of u k ≡ o.sent k ++ (queue_of t k ++ g.more)
     both =

@@ -4,10 +4,10 @@
 use Prim.Native.Nat.{ℕ, zero, suc, ◌+◌, ◌*◌, ◌/◌, ◌≤◌}
 use mathlib.Core.Path.{◌≡◌, refl, sym, ap, ◌∙◌}
 use mathlib.Core.Bool.{Bool, true, false, cond}
-use mathlib.Core.List.{List, [], ◌∷◌, ◌++◌, append_nil, append_assoc}
+use mathlib.Core.List.{List, [], ◌∷◌, ◌++◌, append-nil, append_assoc}
 use native.Mathlib.Omega.{arith}
-use native.Mathlib.Nat.{zero_add, suc_add}
-use borrow.Author.Tests.{eqb_true, eqb_false, ne_eqb}
+use native.Mathlib.Nat.{zero-add, suc-add}
+use borrow.Author.Tests.{eqb-true, eqb-false, ne_eqb}
 use lib.Dec.{eqb}
 use lib.ListN.{length}
 use lib.IntN.{ℤ, pos}
@@ -26,13 +26,13 @@ use Rattle.bounds.proofs.Queue.{request_at}
 -- The entries of a list of numbers, and then those of what stands behind it.
 pub entries_append : (n m : ℕ) (list more : List ℤ) → length list ≡ entry_length * n → entries_in (n + m) (list ++ more) ≡ entries_in n list ++ entries_in m more
 unfolding entries_in
-entries_append zero m [] more e = rw (zero_add m)
+entries_append zero m [] more e = rw (zero-add m)
 entries_append zero m (a ∷ list) more e = absurd (omega arith)
 entries_append (suc n) m [] more e = absurd (omega arith)
 entries_append (suc n) m (a ∷ []) more e = absurd (omega arith)
 entries_append (suc n) m (a ∷ b ∷ []) more e = absurd (omega arith)
 entries_append (suc n) m (a ∷ b ∷ c ∷ []) more e = absurd (omega arith)
-entries_append (suc n) m (a ∷ b ∷ c ∷ d ∷ list) more e = rw (suc_add n m, entries_in, entries_append n m list more (omega arith))
+entries_append (suc n) m (a ∷ b ∷ c ∷ d ∷ list) more e = rw (suc-add n m, entries_in, entries_append n m list more (omega arith))
 
 -- A sum over entries with one entry more.
 pub sum_last : (f : Entry → ℕ) (list : List Entry) (e : Entry) → sum_over f (list ++ (e ∷ [])) ≡ sum_over f list + f e
@@ -53,7 +53,7 @@ for_append k (a ∷ list) more =
 
 pub for_last : (k : ℕ) (list : List Entry) (e : Entry) → requests_for k (list ++ (e ∷ [])) ≡ requests_for k list ++ request_for k e
 unfolding requests_for
-for_last k list e = for_append k list (e ∷ []) ∙ ap (λ (l : List Request). requests_for k list ++ l) (append_nil (request_for k e))
+for_last k list e = for_append k list (e ∷ []) ∙ ap (λ (l : List Request). requests_for k list ++ l) (append-nil (request_for k e))
 
 -- The entries that a list of whole entries holds.
 unfoldable pub told : List ℤ → List Entry
@@ -71,7 +71,7 @@ pub told_first : (list more : List ℤ) → whole list → entries_in (length li
 unfolding told whole entries_in
 told_first list more w =
     let none : length list / entry_length ≡ length list / entry_length + 0 = omega arith in
-    ap (λ (n : ℕ). entries_in n (list ++ more)) none ∙ entries_append (length list / entry_length) 0 list more w ∙ append_nil (told list)
+    ap (λ (n : ℕ). entries_in n (list ++ more)) none ∙ entries_append (length list / entry_length) 0 list more w ∙ append-nil (told list)
 
 -- The entry of a dispatch for client k with node s as supplier.
 unfoldable pub entry_of : List ℤ → ℕ → ℕ → Entry
@@ -128,12 +128,12 @@ module _ (port_of : ℕ → ℕ) (p k : ℕ) where
       (λ a b c d l e.
       by_test (eqb (port_of (plus a)) p)
       (λ y.
-      ap of (port_here port_of p a b c d l (eqb_true _ p y))
+      ap of (port_here port_of p a b c d l (eqb-true _ p y))
       ∙ for_first k a b c d (of_port port_of p l)
       ∙ ap (λ (m : List Request). cond (eqb (plus a) k) (record { tag = b; size = plus c } ∷ []) [] ++ m) e
       ∙ sym (for_first k a b c d l))
       (λ n.
-      let ne = eqb_false _ p n in
+      let ne = eqb-false _ p n in
       ap of (port_other port_of p a b c d l ne) ∙ e ∙ sym (for_not k a b c d l (λ same. ne (ap port_of same ∙ at)))))
 
   pub for_other : (port_of k ≡ p → ⊥) → (list : List ℤ) → whole list → requests_for k (told (of_port port_of p list)) ≡ []
@@ -144,9 +144,9 @@ module _ (port_of : ℕ → ℕ) (p k : ℕ) where
       (λ a b c d l e.
       by_test (eqb (port_of (plus a)) p)
       (λ y.
-      let here = eqb_true _ p y in
+      let here = eqb-true _ p y in
       ap of (port_here port_of p a b c d l here) ∙ for_not k a b c d (of_port port_of p l) (λ same. off (sym (ap port_of same) ∙ here)) ∙ e)
-      (λ n. ap of (port_other port_of p a b c d l (eqb_false _ p n)) ∙ e))
+      (λ n. ap of (port_other port_of p a b c d l (eqb-false _ p n)) ∙ e))
 
 -- A sum over the entries of both ports is that over all.
 pub sum_ports : (f : Entry → ℕ) (port_of : ℕ → ℕ) → ((k : ℕ) → port_of k ≤ second_port) → (list : List ℤ) → whole list → sum_over f (told (of_port port_of first_port list)) + sum_over f (told (of_port port_of second_port list)) ≡ sum_over f (told list)

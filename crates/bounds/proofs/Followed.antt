@@ -4,10 +4,10 @@
 use Prim.Native.Nat.{ℕ, ◌+◌, ◌≤◌, ◌<◌}
 use mathlib.Core.Path.{◌≡◌, refl, sym, ap, ap₂, ◌∙◌}
 use mathlib.Core.Bool.{true}
-use mathlib.Core.List.{List, [], ◌∷◌, ◌++◌, append_nil, append_assoc}
+use mathlib.Core.List.{List, [], ◌∷◌, ◌++◌, append-nil, append_assoc}
 use native.Mathlib.Omega.{arith}
 use native.Mathlib.Decide.{ℕ_discrete}
-use borrow.Author.Tests.{eq_eqb, ne_eqb}
+use borrow.Author.Tests.{eq-eqb, ne_eqb}
 use lib.Dec.{eqb}
 use lib.IntN.{ℤ, pos}
 use Rattle.numbers.specs.Whole.{plus, minus}
@@ -56,7 +56,7 @@ module _ (tree : Tree) (st : State) (k s : ℕ) (d : Dispatch tree st.table (dis
       let v = (dispatched st k s).table in
       let es = requests_for k (told st.entries) in
       ap (λ (l : List Request). l ++ queue_of v k)
-      (sent_more st k s w k ∙ ap (λ (l : List Request). es ++ l) (cond_true (eqb k k) (request_at u k 0 ∷ []) [] (eq_eqb k k refl)))
+      (sent_more st k s w k ∙ ap (λ (l : List Request). es ++ l) (cond_true (eqb k k) (request_at u k 0 ∷ []) [] (eq-eqb k k refl)))
       ∙ append_assoc es (request_at u k 0 ∷ []) (queue_of v k)
       ∙ ap (λ (l : List Request). es ++ l) (sym (queue_taken u v k few d.own))
 
@@ -65,7 +65,7 @@ module _ (tree : Tree) (st : State) (k s : ℕ) (d : Dispatch tree st.table (dis
       let u = st.table in
       let es = requests_for j (told st.entries) in
       ap₂ (λ (l q : List Request). l ++ q)
-      (sent_more st k s w j ∙ ap (λ (l : List Request). es ++ l) (cond_false (eqb k j) (request_at u k 0 ∷ []) [] (ne_eqb k j (λ e. ne (sym e)))) ∙ append_nil es)
+      (sent_more st k s w j ∙ ap (λ (l : List Request). es ++ l) (cond_false (eqb k j) (request_at u k 0 ∷ []) [] (ne_eqb k j (λ e. ne (sym e)))) ∙ append-nil es)
       (queue_stays u (dispatched st k s).table j few (d.other j ne))
 
   one_balance :
@@ -109,7 +109,7 @@ fair_next tree w st k s at way f =
           let g = grains (size st.table k 0) in
           by_test (at_or_above tree s x)
           (λ on.
-          let own = eq_eqb k x (sym (own_supplier tree w k s x at way on client)) in
+          let own = eq-eqb k x (sym (own_supplier tree w k s x at way on client)) in
           omega (
             arith,
             f.own x client,

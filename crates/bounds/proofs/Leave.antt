@@ -5,7 +5,7 @@ use mathlib.Core.Bool.{true}
 use mathlib.Core.Logic.{⊎_elim}
 use mathlib.Core.List.{List, []}
 use native.Mathlib.Omega.{arith}
-use borrow.Author.Tests.{eqb_true, eqb_false, ne_eqb}
+use borrow.Author.Tests.{eqb-true, eqb-false, ne_eqb}
 use lib.IntN.{ℤ}
 use Rattle.numbers.specs.Whole.{plus}
 use Rattle.definitions.specs.Limits.{rate_at, client, root}
@@ -35,7 +35,7 @@ leave_change t o node a h =
           renewed_agrees u order p tree (ap plus (others.places root rate_at (λ e. passed.below (sym e)) (omega arith)) ∙ a.disk)
           (queues t u o p k others a (λ e. absurd (no_client k e refl)));
       root = ne_eqb k root passed.below;
-      class = λ c e stays. same c (λ at. eqb_false k c stays (sym at));
+      class = λ c e stays. same c (λ at. eqb-false k c stays (sym at));
       client = λ j busy.
           let other : j ≡ k → ⊥ = ⊎_elim (λ was at. omega (arith, was.waits, passed.idle, ap (waiting t) at)) (λ is. no_client j is.client) busy in
           record { same = same j other; grows = other_grows t u o p k others j other };
@@ -79,4 +79,4 @@ leave_change t o node a h =
     same j ne = renewed_same u order t o p j (other_same t u o p k others j ne)
 
     no_client : (j : ℕ) → is_client p.tree j ≡ true → j ≡ k → ⊥
-    no_client j e at = omega (arith, eqb_true (p.tree.sort j) client e, set_here k 0 o.tree.sort j at)
+    no_client j e at = omega (arith, eqb-true (p.tree.sort j) client e, set_here k 0 o.tree.sort j at)

@@ -4,7 +4,7 @@ use mathlib.Core.Path.{◌≡◌, sym, ap, ◌∙◌}
 use mathlib.Core.List.{List}
 use native.Mathlib.Omega.{arith}
 use native.Mathlib.Decide.{dec_lt, ℕ_discrete}
-use lib.ListN.{length, length_replicate, get_or_eq_default}
+use lib.ListN.{length, length-replicate, get_or-eq_default}
 use lib.IntN.{ℤ, pos}
 use Rattle.numbers.specs.Whole.{plus}
 use Rattle.numbers.proofs.Parts.{plus_pos}
@@ -25,8 +25,8 @@ use Rattle.bounds.proofs.Trees.{set_column, same_column}
 blank_beyond : (j p : ℕ) → nodes ≤ j → place blank j p ≡ pos 0
 unfolding place blank
 blank_beyond j p far =
-    let past : length blank ≤ header_length + record_length * j + p = omega (arith, length_replicate table_length (pos 0)) in
-    get_or_eq_default blank (pos 0) past
+    let past : length blank ≤ header_length + record_length * j + p = omega (arith, length-replicate table_length (pos 0)) in
+    get_or-eq_default blank (pos 0) past
 
 blank_everywhere : (j p : ℕ) → p < record_length → place blank j p ≡ pos 0
 blank_everywhere j p hp = elim (dec_lt j nodes) [ yes l ↦ blank_place j p l hp | no l ↦ blank_beyond j p (omega arith) ]

@@ -3,7 +3,7 @@
 use Prim.Native.Nat.{ℕ}
 use mathlib.Core.Path.{◌≡◌, refl, sym, ap, ap₂, ◌∙◌}
 use mathlib.Core.Bool.{true}
-use mathlib.Core.List.{List, [], ◌∷◌, ◌++◌, append_nil}
+use mathlib.Core.List.{List, [], ◌∷◌, ◌++◌, append-nil}
 use lib.ListN.{length, drop}
 use lib.IntN.{ℤ, pos}
 use Rattle.numbers.specs.Whole.{plus}
@@ -87,7 +87,7 @@ module _ (t : List ℤ) (o : Observer) (first second : List ℤ) (h : accepts (a
       ∙ by_port (port t) (ports_small t order) k
       (λ here other.
       ap₂ (λ (a b : List Request). a ++ b) (for_here (port t) first_port k here (ticked t).entries all) (for_other (port t) second_port k other (ticked t).entries all)
-      ∙ append_nil (requests_for k (told (ticked t).entries)))
+      ∙ append-nil (requests_for k (told (ticked t).entries)))
       (λ other here. ap₂ (λ (a b : List Request). a ++ b) (for_other (port t) first_port k other (ticked t).entries all) (for_here (port t) second_port k here (ticked t).entries all))
 
   answered : after_answer o (tick first second) (tick_answer t first second) (entries (event_of t (tick first second))) ≡ after_accepted o (tick first second) both

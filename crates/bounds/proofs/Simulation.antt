@@ -8,9 +8,9 @@ use mathlib.Core.Logic.{◌⊎◌}
 use mathlib.Core.List.{List, [], ◌++◌}
 use native.Mathlib.Omega.{arith}
 use native.Mathlib.Decide.{dec_lt}
-use borrow.Author.Tests.{ltb_true}
+use borrow.Author.Tests.{ltb-true}
 use lib.Dec.{eqb}
-use lib.ListN.{length, length_append, take, get_or_eq_default}
+use lib.ListN.{length, length-append, take, get_or-eq_default}
 use lib.IntN.{ℤ, pos}
 use Rattle.numbers.specs.Whole.{plus, minus}
 use Rattle.numbers.proofs.Tests.{true_false, cond_true, cond_false}
@@ -42,7 +42,7 @@ there_below t k long e =
       | yes low ↦ low
       | no high ↦
           let beyond : length t ≤ header_length + record_length * k + 0 = omega arith in
-          absurd (true_false e (ap (λ (z : ℤ). not (eqb (plus z) 0)) (get_or_eq_default t (pos 0) beyond ∙ refl)))
+          absurd (true_false e (ap (λ (z : ℤ). not (eqb (plus z) 0)) (get_or-eq_default t (pos 0) beyond ∙ refl)))
     ]
 
 module _ (t : List ℤ) (o : Observer) (a : Agrees t o) (k : ℕ) (client : is_client o.tree k ≡ true) where
@@ -55,7 +55,7 @@ module _ (t : List ℤ) (o : Observer) (a : Agrees t o) (k : ℕ) (client : is_c
   -- Where the observer sees a request waiting, one waits in the table.
   pub waits_there : waits o k ≡ true → 0 < waiting t k
   unfolding waits
-  waits_there h = omega (arith, ltb_true, ap length (a.queue k client), length_append (o.sent k) (queue_of t k), queue_length_law t k)
+  waits_there h = omega (arith, ltb-true, ap length (a.queue k client), length-append (o.sent k) (queue_of t k), queue_length_law t k)
 
 -- A node's rate at an event that is no accepted tick, and at one.
 pub idle_rate : (o : Observer) (k : ℕ) (e : Event) → accepted_tick e ≡ false → rate_at o k e ≡ 0

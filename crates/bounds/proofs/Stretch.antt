@@ -6,8 +6,8 @@ use mathlib.Core.Bool.{true, not}
 use mathlib.Core.Logic.{⊎_elim}
 use mathlib.Core.List.{List, [], ◌∷◌}
 use native.Mathlib.Omega.{arith}
-use native.Mathlib.Nat.{suc_mul, mul_le_mul_right}
-use borrow.Author.Tests.{eq_eqb}
+use native.Mathlib.Nat.{suc-mul, mul-le-mul_right}
+use borrow.Author.Tests.{eq-eqb}
 use lib.IntN.{ℤ}
 use Rattle.numbers.specs.Whole.{plus, minus}
 use Rattle.numbers.proofs.Every.{none_left, holds_with}
@@ -37,7 +37,7 @@ root_stays laws t o (call ∷ calls) a =
 
 root_class : (t : List ℤ) → InOrder t → is_class (tree_of t) 0 ≡ true
 unfolding is_class tree_of
-root_class t f = eq_eqb _ 1 (ap plus f.root.sort ∙ plus_pos 1)
+root_class t f = eq-eqb _ 1 (ap plus f.root.sort ∙ plus_pos 1)
 
 depth_in_grains : (t : List ℤ) (o : Observer) (k : ℕ) → Agrees t o → depth_grains t k ≡ o.tree.depth k * grain_scale
 unfolding depth_grains tree_of
@@ -99,14 +99,14 @@ module _ (laws : Steps) (t : List ℤ) (o : Observer) (a : Agrees t o) (calls : 
   levels_from c e h =
       let over = class_over laws t o calls a c e h in
       let ends = class_ends c e over in
-      omega (arith, over.line, ends.before, ends.after, suc_mul (last_level - o.tree.level c) (o.tree.depth c * grain_scale))
+      omega (arith, over.line, ends.before, ends.after, suc-mul (last_level - o.tree.level c) (o.tree.depth c * grain_scale))
 
   -- So whatever its level, by at most five depths.
   five_depths : (c : ℕ) → is_class o.tree c ≡ true → stays_throughout c (events t calls) ≡ true → charged_over o c (events t calls) ≤ rates_over o c (events t calls) + 5 * (o.tree.depth c * grain_scale)
   unfolding LevelBounds
   five_depths c e h =
       let most : suc (last_level - o.tree.level c) ≤ 5 = omega arith in
-      omega (arith, levels_from c e h, mul_le_mul_right (o.tree.depth c * grain_scale) most)
+      omega (arith, levels_from c e h, mul-le-mul_right (o.tree.depth c * grain_scale) most)
 
   pub bounds_from : Bounds o (events t calls)
   bounds_from =

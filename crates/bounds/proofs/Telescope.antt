@@ -7,7 +7,7 @@ use mathlib.Core.Bool.{true}
 use mathlib.Core.Logic.{◌⊎◌, inl, inr, ⊎_elim}
 use mathlib.Core.List.{List, [], ◌∷◌}
 use native.Mathlib.Omega.{arith}
-use borrow.Author.Tests.{not_true}
+use borrow.Author.Tests.{not-true}
 use lib.IntN.{ℤ}
 use Rattle.numbers.specs.Whole.{plus, minus}
 use Rattle.numbers.proofs.Every.{head_holds, rest_hold}
@@ -39,7 +39,7 @@ pub class_over :
 unfolding table_after_all observed_all events event_of charged_over rates_over stays_throughout
 class_over laws t o [] a c e h = record { class = e; level = refl; depth = refl; line = omega arith }
 class_over laws t o (call ∷ calls) a c e h =
-    let first = (laws t o call a).class c e (not_true _ (head_holds _ _ h)) in
+    let first = (laws t o call a).class c e (not-true _ (head_holds _ _ h)) in
     let rest = class_over laws (after t call).table (observed o (event_of t call)) calls (laws t o call a).agrees c first.class (head_holds _ _ (rest_hold _ _ h)) in
     record { class = rest.class; level = rest.level ∙ first.level; depth = rest.depth ∙ first.depth; line = omega (arith, first.line, rest.line) }
 

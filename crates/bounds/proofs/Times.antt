@@ -8,11 +8,11 @@ use mathlib.Core.Logic.{◌⊎◌, inl, inr, ⊎_elim}
 use mathlib.Core.List.{List, [], ◌∷◌, ◌++◌}
 use native.Mathlib.Omega.{arith}
 use native.Mathlib.Decide.{dec_lt}
-use native.Mathlib.Nat.{div_lt_iff_lt_mul}
-use borrow.Author.Tests.{leb_true, le_leb, ltb_true, lt_ltb}
+use native.Mathlib.Nat.{div-lt_iff_lt-mul}
+use borrow.Author.Tests.{leb-true, le-leb, ltb-true, lt-ltb}
 use lib.Dec.{leb, ltb}
-use lib.ListN.{length, length_append, take, drop}
-use lib.Seq.{take_append_seam, drop_append_seam, take_append_le, take_append_add}
+use lib.ListN.{length, length-append, take, drop}
+use lib.Seq.{take-append_seam, drop-append_seam, take-append-le, take-append-add}
 use lib.IntN.{ℤ}
 use Rattle.numbers.specs.Whole.{plus}
 use Rattle.numbers.specs.Tests.{every}
@@ -49,7 +49,7 @@ some_grains j (r ∷ l) h = omega (arith, cost_bounds r.size)
 
 -- A quotient rounded up is at most n where n divisors are as much.
 below_next : {x r n : ℕ} → 0 < r → x / r ≤ n → x < suc n * r
-below_next {x} {r} {n} h l = (div_lt_iff_lt_mul {k = r} {x = x} {y = suc n} h).0 (omega arith)
+below_next {x} {r} {n} h l = (div-lt_iff_lt-mul {k = r} {x = x} {y = suc n} h).0 (omega arith)
 
 rounded_enough : (q r n : ℕ) → 0 < r → rounded_up q r ≤ n → q ≤ n * r
 unfolding rounded_up
@@ -81,13 +81,13 @@ module _ (t : List ℤ) (o : Observer) (call : Call) (k j r n : ℕ) where
   -- A call that is no accepted tick.
   module _ (q : Idle t call k) (d : Due t k j r n) where
     idle_first : (i : ℕ) → i < waiting t k → take (suc i) (queue_of u k) ≡ take (suc i) (queue_of t k)
-    idle_first i h = ap (λ (l : List Request). take (suc i) l) q.queue ∙ take_append_le (suc i) (queue_of t k) q.more (omega (arith, queue_length_law t k))
+    idle_first i h = ap (λ (l : List Request). take (suc i) l) q.queue ∙ take-append-le (suc i) (queue_of t k) q.more (omega (arith, queue_length_law t k))
 
     idle_due : Due u k j r n
     idle_due =
         let same = ap plus q.balance in
         record {
-          waits = omega (arith, d.waits, queue_length_law u k, queue_length_law t k, ap length q.queue, length_append (queue_of t k) q.more);
+          waits = omega (arith, d.waits, queue_length_law u k, queue_length_law t k, ap length q.queue, length-append (queue_of t k) q.more);
           enough = omega (arith, d.enough, same, ap grains_of (idle_first j d.waits));
           short =
               ⊎_elim (λ h. inl h)
@@ -102,11 +102,11 @@ module _ (t : List ℤ) (o : Observer) (call : Call) (k j r n : ℕ) where
         let more : suc j ≡ length es + suc (j - length es) = omega arith in
         ap (λ (l : List Request). take (suc j) l) q.queue
         ∙ ap (λ (m : ℕ). take m (es ++ queue_of u k)) more
-        ∙ take_append_add es (queue_of u k) (suc (j - length es))
+        ∙ take-append-add es (queue_of u k) (suc (j - length es))
 
     tick_due : Due u k (j - length es) r n
     tick_due =
-        let still : j - length es < waiting u k = omega (arith, d.waits, queue_length_law t k, queue_length_law u k, ap length q.queue, length_append es (queue_of u k)) in
+        let still : j - length es < waiting u k = omega (arith, d.waits, queue_length_law t k, queue_length_law u k, ap length q.queue, length-append es (queue_of u k)) in
         let waits : 0 < waiting u k = omega arith in
         record {
           waits = still;
@@ -143,12 +143,12 @@ module _ (t : List ℤ) (o : Observer) (call : Call) (k j r n : ℕ) where
       ticks q =
           let due : Due t k j r (suc n) = rw (one q.ticks) at d in
           elim (dec_lt j (length es)) [
-            | yes l ↦ take_append_le (suc j) es later l ∙ sym (ap (λ (m : List Request). take (suc j) m) q.queue ∙ take_append_le (suc j) es (queue_of u k) l)
+            | yes l ↦ take-append-le (suc j) es later l ∙ sym (ap (λ (m : List Request). take (suc j) m) q.queue ∙ take-append-le (suc j) es (queue_of u k) l)
             | no l ↦
                 let few : length es ≤ j = omega arith in
                 let more : suc j ≡ length es + suc (j - length es) = omega arith in
                 ap (λ (m : ℕ). take m (es ++ later)) more
-                ∙ take_append_add es later (suc (j - length es))
+                ∙ take-append-add es later (suc (j - length es))
                 ∙ ap (λ (m : List Request). es ++ m) (rest (j - length es) (hold (suc (j - length es)) (omega arith)) (tick_due q due few (fast q.ticks)))
                 ∙ sym (left q due few (fast q.ticks))
           ]
@@ -157,13 +157,13 @@ module _ (t : List ℤ) (o : Observer) (call : Call) (k j r n : ℕ) where
 module _ (e : Event) (n r rate : ℕ) where
   enough_least : rate_enough e n r rate ≡ true → accepted_tick e ≡ true → 0 < n → r ≤ rate
   unfolding rate_enough
-  enough_least h ticks some = leb_true r rate (sym (cond_true _ (leb r rate) true (holds_with _ _ ticks (holds_with _ _ (lt_ltb 0 n some) none_left))) ∙ h)
+  enough_least h ticks some = leb-true r rate (sym (cond_true _ (leb r rate) true (holds_with _ _ ticks (holds_with _ _ (lt-ltb 0 n some) none_left))) ∙ h)
 
   least_enough : (accepted_tick e ≡ true → 0 < n → r ≤ rate) → rate_enough e n r rate ≡ true
   unfolding rate_enough
   least_enough h =
       by_test (every (accepted_tick e ∷ ltb 0 n ∷ []))
-      (λ y. cond_true _ (leb r rate) true y ∙ le_leb r rate (h (head_holds _ _ y) (ltb_true 0 n (head_holds _ _ (rest_hold _ _ y)))))
+      (λ y. cond_true _ (leb r rate) true y ∙ le-leb r rate (h (head_holds _ _ y) (ltb-true 0 n (head_holds _ _ (rest_hold _ _ y)))))
       (λ y. cond_false _ (leb r rate) true y)
 
 -- A rate that is enough is enough for less, and until fewer have gone.
@@ -200,10 +200,10 @@ module _ (laws : Steps) where
     -- What the observer has waiting is what waits in the table, and what went is the first of what was asked.
     queue_is : queue o k ≡ queue_of t k
     unfolding queue
-    queue_is = ap (λ (l : List Request). drop (length (o.sent k)) l) (a.queue k client) ∙ drop_append_seam (o.sent k) (queue_of t k)
+    queue_is = ap (λ (l : List Request). drop (length (o.sent k)) l) (a.queue k client) ∙ drop-append_seam (o.sent k) (queue_of t k)
 
     sent_first : o.sent k ≡ take (length (o.sent k)) (o.asked k)
-    sent_first = sym (ap (λ (l : List Request). take (length (o.sent k)) l) (a.queue k client) ∙ take_append_seam (o.sent k) (queue_of t k))
+    sent_first = sym (ap (λ (l : List Request). take (length (o.sent k)) l) (a.queue k client) ∙ take-append_seam (o.sent k) (queue_of t k))
 
   pub in_time_from : (t : List ℤ) (o : Observer) (calls : List Call) → Agrees t o → InTime o (events t calls)
   in_time_from t o calls a =

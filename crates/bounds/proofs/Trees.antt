@@ -3,7 +3,7 @@
 use Prim.Native.Nat.{ℕ}
 use mathlib.Core.Path.{◌≡◌, sym, ap, ◌∙◌, fun_ext}
 use native.Mathlib.Decide.{ℕ_discrete}
-use borrow.Author.Tests.{eq_eqb, ne_eqb}
+use borrow.Author.Tests.{eq-eqb, ne_eqb}
 use lib.Dec.{eqb}
 use Rattle.numbers.proofs.Tests.{cond_true, cond_false}
 use Rattle.definitions.specs.Tree.{Tree}
@@ -12,7 +12,7 @@ use Rattle.bounds.specs.Observer.{set_at, with_node, with_share}
 
 pub set_here : {A : Type 0} (k : ℕ) (v : A) (f : ℕ → A) (j : ℕ) → j ≡ k → set_at k v f j ≡ v
 unfolding set_at
-set_here k v f j e = cond_true (eqb j k) v (f j) (eq_eqb j k e)
+set_here k v f j e = cond_true (eqb j k) v (f j) (eq-eqb j k e)
 
 pub set_other : {A : Type 0} (k : ℕ) (v : A) (f : ℕ → A) (j : ℕ) → (j ≡ k → ⊥) → set_at k v f j ≡ f j
 unfolding set_at

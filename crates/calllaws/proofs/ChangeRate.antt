@@ -4,7 +4,7 @@ use mathlib.Core.Path.{◌≡◌, sym, ap, ◌∙◌}
 use mathlib.Core.Bool.{true, not}
 use mathlib.Core.List.{List}
 use native.Mathlib.Omega.{arith}
-use borrow.Author.Tests.{ltb_true, ltb_false, not_true}
+use borrow.Author.Tests.{ltb-true, ltb-false, not-true}
 use lib.Dec.{ltb}
 use lib.IntN.{ℤ}
 use Rattle.numbers.specs.Whole.{plus, within_ℤ}
@@ -53,10 +53,10 @@ stated_rerated t rate o =
     same_truth _ _
     (λ h.
     by_test (ltb (plus rate) (stated_sum (tree_of t) root)) (λ y. y)
-    (λ n. absurd (true_false (of_stated_law _ (record { under = rw tree o.stated.under; fits = omega (arith, ltb_false (plus rate) _ n, sum, disk) })) (not_true _ h))))
+    (λ n. absurd (true_false (of_stated_law _ (record { under = rw tree o.stated.under; fits = omega (arith, ltb-false (plus rate) _ n, sum, disk) })) (not-true _ h))))
     (λ h.
     by_test (stated_in_order (put t root rate_at rate))
-    (λ e. absurd (omega (arith, ltb_true (plus rate) (stated_sum (tree_of t) root) h, (stated_of _ e).fits, sum, disk)))
+    (λ e. absurd (omega (arith, ltb-true (plus rate) (stated_sum (tree_of t) root) h, (stated_of _ e).fits, sum, disk)))
     (λ e. ap not e))
 
 changed : (t : List ℤ) (rate : ℤ) → change_rate_refusal t rate ≡ 0 → in_order (renewed (put t root rate_at rate)) ≡ true

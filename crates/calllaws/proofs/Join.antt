@@ -6,7 +6,7 @@ use mathlib.Core.Bool.{true, false, not}
 use mathlib.Core.List.{List}
 use native.Mathlib.Omega.{arith}
 use native.Mathlib.Decide.{ℕ_discrete}
-use borrow.Author.Tests.{eqb_true, ne_eqb}
+use borrow.Author.Tests.{eqb-true, ne_eqb}
 use lib.IntN.{ℤ, pos}
 use Rattle.numbers.specs.Whole.{plus, minus}
 use Rattle.numbers.proofs.Tests.{true_false}
@@ -100,7 +100,7 @@ module _ (t : List ℤ) (k c : ℕ) (sort kind share depth port : ℤ) (passed :
   new_level : is_class (tree_of (joined t k c sort kind share depth port)) k ≡ true → (tree_of (joined t k c sort kind share depth port)).level k ≤ last_class_level
   unfolding is_class
   new_level e =
-      let class : plus sort ≡ class = sym here.sort ∙ eqb_true ((tree_of (joined t k c sort kind share depth port)).sort k) class e in
+      let class : plus sort ≡ class = sym here.sort ∙ eqb-true ((tree_of (joined t k c sort kind share depth port)).sort k) class e in
       let room : (tree_of t).level c ≡ last_class_level → ⊥ = passed.levels class in
       omega (arith, here.level, parent_level)
 

@@ -6,7 +6,7 @@ use mathlib.Core.Bool.{true, false, not}
 use mathlib.Core.List.{List}
 use native.Mathlib.Omega.{arith}
 use native.Mathlib.Decide.{ℕ_discrete}
-use borrow.Author.Tests.{eqb_false, eq_eqb}
+use borrow.Author.Tests.{eqb-false, eq-eqb}
 use lib.ListN.{length}
 use lib.Dec.{eqb}
 use lib.IntN.{ℤ, pos, ◌+ℤ◌}
@@ -155,7 +155,7 @@ most_waiting_law t k f =
 -- A node that is there is a class or a client.
 pub class_or_client : (t : List ℤ) (k : ℕ) → Node t k → there (tree_of t) k ≡ true → is_class (tree_of t) k ≡ false → is_client (tree_of t) k ≡ true
 unfolding is_class is_client tree_of
-class_or_client t k f e c = eq_eqb (plus (place t k sort_at)) client (omega (arith, zarith, (f.limits e).sort, eqb_false (plus (place t k sort_at)) class c))
+class_or_client t k f e c = eq-eqb (plus (place t k sort_at)) client (omega (arith, zarith, (f.limits e).sort, eqb-false (plus (place t k sort_at)) class c))
 
 pub client_or_class : (t : List ℤ) (k : ℕ) → Node t k → there (tree_of t) k ≡ true → is_client (tree_of t) k ≡ false → is_class (tree_of t) k ≡ true
 client_or_class t k f e c = by_test (is_class (tree_of t) k) (λ y. y) (λ n. absurd (true_false (class_or_client t k f e n) c))

@@ -5,7 +5,7 @@ use mathlib.Core.Path.{◌≡◌, refl, sym, ap, ◌∙◌, subst}
 use mathlib.Core.Bool.{true, false}
 use mathlib.Core.List.{List}
 use native.Mathlib.Omega.{arith}
-use borrow.Author.Tests.{eqb_false, eq_eqb}
+use borrow.Author.Tests.{eqb-false, eq-eqb}
 use lib.Dec.{eqb}
 use lib.IntN.{ℤ, pos}
 use Rattle.numbers.specs.Whole.{plus}
@@ -61,7 +61,7 @@ module _ (t u : List ℤ) (k c : ℕ) (f : ℕ → ℤ) (hk : k < nodes) (edited
   stands_below e =
       let l = (tree_of u).level ((tree_of u).parent k) in
       below_parent (tree_of u) w l c k (record { low = hk; there = e; level = (w.child k hk e below_root).level })
-      ∙ or_true_left (eqb ((tree_of u).parent k) c) _ (eq_eqb _ _ (is e))
+      ∙ or_true_left (eqb ((tree_of u).parent k) c) _ (eq-eqb _ _ (is e))
 
   another : (j : ℕ) → there (tree_of u) j ≡ true → below (tree_of u) c j ≡ false → j ≡ k → ⊥
   another j e out same = true_false (stands_below (rw same at e)) (rw same at out)
@@ -77,7 +77,7 @@ module _ (t u : List ℤ) (k c : ℕ) (f : ℕ → ℤ) (hk : k < nodes) (edited
       let node = others j (another j a.there out) in
       let up : Above (tree_of u) l j = above (tree_of u) w l j a in
       let outside = sym (below_parent (tree_of u) w l c j a) ∙ out in
-      let other = eqb_false ((tree_of u).parent j) c (or_false_left (eqb ((tree_of u).parent j) c) _ outside) in
+      let other = eqb-false ((tree_of u).parent j) c (or_false_left (eqb ((tree_of u).parent j) c) _ outside) in
       let old = o.child j a.low (was_there j a.there out) up.below in
       rate_of_child (tree_of u) disk j (omega (arith, a.level, up.up.level))
       ∙ child_rate_same (tree_of u) (tree_of t) j _ node (same_sums ((tree_of u).parent j) other)

@@ -6,7 +6,7 @@ use mathlib.Core.Bool.{true}
 use mathlib.Core.List.{List}
 use native.Mathlib.Omega.{arith}
 use native.Mathlib.Decide.{ℕ_discrete}
-use borrow.Author.Tests.{eq_eqb, ne_eqb}
+use borrow.Author.Tests.{eq-eqb, ne_eqb}
 use lib.IntN.{ℤ, pos}
 use lib.Signed.{le_z}
 use Rattle.numbers.specs.Whole.{plus}
@@ -87,17 +87,17 @@ module _ (t u : List ℤ) (k : ℕ) (tag size : ℤ) (hk : k < nodes) (more : Re
   pub new_tag : waiting t k < most_waiting → place u k (queue_place (waiting t k) + tag_at) ≡ tag
   new_tag w =
       more.here (queue_place (waiting t k) + tag_at) (omega arith)
-      ∙ rw (ne_eqb (queue_place (waiting t k) + tag_at) waiting_at (omega arith), ne_eqb (queue_place (waiting t k) + tag_at) (queue_place (waiting t k) + arrival_at) (omega arith), ne_eqb (queue_place (waiting t k) + tag_at) (queue_place (waiting t k) + size_at) (omega arith), eq_eqb (queue_place (waiting t k) + tag_at) (queue_place (waiting t k) + tag_at) refl)
+      ∙ rw (ne_eqb (queue_place (waiting t k) + tag_at) waiting_at (omega arith), ne_eqb (queue_place (waiting t k) + tag_at) (queue_place (waiting t k) + arrival_at) (omega arith), ne_eqb (queue_place (waiting t k) + tag_at) (queue_place (waiting t k) + size_at) (omega arith), eq-eqb (queue_place (waiting t k) + tag_at) (queue_place (waiting t k) + tag_at) refl)
 
   pub new_size : waiting t k < most_waiting → place u k (queue_place (waiting t k) + size_at) ≡ size
   new_size w =
       more.here (queue_place (waiting t k) + size_at) (omega arith)
-      ∙ rw (ne_eqb (queue_place (waiting t k) + size_at) waiting_at (omega arith), ne_eqb (queue_place (waiting t k) + size_at) (queue_place (waiting t k) + arrival_at) (omega arith), eq_eqb (queue_place (waiting t k) + size_at) (queue_place (waiting t k) + size_at) refl)
+      ∙ rw (ne_eqb (queue_place (waiting t k) + size_at) waiting_at (omega arith), ne_eqb (queue_place (waiting t k) + size_at) (queue_place (waiting t k) + arrival_at) (omega arith), eq-eqb (queue_place (waiting t k) + size_at) (queue_place (waiting t k) + size_at) refl)
 
   new_number : waiting t k < most_waiting → place u k (queue_place (waiting t k) + arrival_at) ≡ pos (suc (count t))
   new_number w =
       more.here (queue_place (waiting t k) + arrival_at) (omega arith)
-      ∙ rw (ne_eqb (queue_place (waiting t k) + arrival_at) waiting_at (omega arith), eq_eqb (queue_place (waiting t k) + arrival_at) (queue_place (waiting t k) + arrival_at) refl)
+      ∙ rw (ne_eqb (queue_place (waiting t k) + arrival_at) waiting_at (omega arith), eq-eqb (queue_place (waiting t k) + arrival_at) (queue_place (waiting t k) + arrival_at) refl)
 
   -- An arrival number is the new one or one of before.
   arrival_cases : {P : Type 0} → Ready t → waiting t k < most_waiting → (j : ℕ) → j < nodes → (i : ℕ) → i < waiting u j → (j ≡ k → arrival u j i ≡ suc (count t) → P) → (i < waiting t j → arrival u j i ≡ arrival t j i → P) → P

@@ -7,7 +7,7 @@ use mathlib.Core.Logic.{⊎_elim}
 use mathlib.Core.List.{List}
 use native.Mathlib.Omega.{arith}
 use native.Mathlib.Decide.{ℕ_discrete}
-use borrow.Author.Tests.{eqb_true, eqb_false, eq_eqb, ltb_true, ltb_false, not_true}
+use borrow.Author.Tests.{eqb-true, eqb-false, eq-eqb, ltb-true, ltb-false, not-true}
 use lib.Dec.{eqb, ltb}
 use lib.IntN.{ℤ}
 use Rattle.numbers.specs.Whole.{plus}
@@ -36,7 +36,7 @@ stated_before t k o hk below =
           by_test (there (tree_of t) k)
           (λ here.
           counted _ (kind_share (tree_of t) stated) k
-          (child_of_law (tree_of t) root k (record { there = here; below = below; parent = o.stated.under k hk here (eq_eqb ((tree_of t).kind k) stated e) })))
+          (child_of_law (tree_of t) root k (record { there = here; below = below; parent = o.stated.under k hk here (eq-eqb ((tree_of t).kind k) stated e) })))
           (λ gone. absurd (omega (arith, e, ap plus (o.empty k hk gone kind_at (omega arith)), plus_pos 0)))
       | no ne ↦
           (let nothing = other_share (tree_of t) stated k ne in
@@ -98,28 +98,28 @@ module _ (t u : List ℤ) (k c kind share : ℕ) (f : ℕ → ℤ) (o : InOrder 
   refused wrong =
       by_test (eqb kind stated)
       (λ e.
-      let is = eqb_true kind stated e in
+      let is = eqb-true kind stated e in
       and_true _ _ e
       (by_test (eqb c root)
       (λ z.
-      let top = eqb_true c root z in
+      let top = eqb-true c root z in
       or_true_right (not (eqb c root)) _
       (by_test (ltb (rate t root) (stated_sum (tree_of t) root + share - kind_share (tree_of t) stated k)) (λ y. y)
-      (λ n. absurd (true_false (of_stated_law u (in_order_law (λ s. top) (omega (arith, with_share_law is top, ltb_false (rate t root) _ n)))) wrong))))
+      (λ n. absurd (true_false (of_stated_law u (in_order_law (λ s. top) (omega (arith, with_share_law is top, ltb-false (rate t root) _ n)))) wrong))))
       (λ z. or_true_left (not (eqb c root)) _ (ap not z))))
-      (λ e. absurd (true_false (of_stated_law u (unstated (eqb_false kind stated e))) wrong))
+      (λ e. absurd (true_false (of_stated_law u (unstated (eqb-false kind stated e))) wrong))
 
   accepted : stated_wrong_with t c (kind_share (tree_of t) stated k) kind share ≡ true → Stated u → ⊥
   unfolding stated_wrong_with is_stated
   accepted wrong right =
-      let is = eqb_true kind stated (and_left _ _ wrong) in
-      let top : c ≡ root = sym parent ∙ right.under k hk here (eq_eqb ((tree_of u).kind k) stated (own_kind ∙ is)) in
-      ⊎_elim (λ n. eqb_false c root (not_true _ n) top)
-      (λ y. omega (arith, ltb_true (rate t root) (stated_sum (tree_of t) root + share - kind_share (tree_of t) stated k) y, with_share_law is top, right.fits, disk))
+      let is = eqb-true kind stated (and_left _ _ wrong) in
+      let top : c ≡ root = sym parent ∙ right.under k hk here (eq-eqb ((tree_of u).kind k) stated (own_kind ∙ is)) in
+      ⊎_elim (λ n. eqb-false c root (not-true _ n) top)
+      (λ y. omega (arith, ltb-true (rate t root) (stated_sum (tree_of t) root + share - kind_share (tree_of t) stated k) y, with_share_law is top, right.fits, disk))
       (or_cases (not (eqb c root)) _ (and_right (eqb kind stated) _ wrong))
 
   pub stated_after : stated_wrong u ≡ stated_wrong_with t c (kind_share (tree_of t) stated k) kind share
   unfolding stated_wrong
   stated_after =
-      same_truth _ _ (λ h. refused (not_true _ h))
+      same_truth _ _ (λ h. refused (not-true _ h))
       (λ h. by_test (stated_in_order u) (λ e. absurd (accepted h (stated_of u e))) (λ e. ap not e))

@@ -4,10 +4,10 @@ use mathlib.Core.Path.{◌≡◌, refl, sym, ap, ◌∙◌}
 use mathlib.Core.Bool.{Bool, true, false, cond}
 use mathlib.Core.List.{List}
 use native.Mathlib.Omega.{arith}
-use borrow.Author.Tests.{leb_true, le_leb, ltb_true, lt_ltb, ne_eqb}
+use borrow.Author.Tests.{leb-true, le-leb, ltb-true, lt-ltb, ne_eqb}
 use lib.Dec.{eqb}
 use lib.ListN.{length, get_or, set}
-use lib.Seq.{get_or_set_same, get_or_set_other}
+use lib.Seq.{get_or-set_same, get_or-set_other}
 use lib.IntN.{ℤ}
 use native.Mathlib.Decide.{ℕ_discrete}
 use Rattle.numbers.proofs.Tests.{by_test, true_false, same_truth, cond_true, cond_false}
@@ -23,11 +23,11 @@ use Rattle.cells.specs.Cells.{part_minutes, cell_count, cell_at, between, cell_v
 module _ (from to x : ℕ) where
   pub between_facts : between from to x ≡ true → (from ≤ x) × (x < to)
   unfolding between
-  between_facts h = (leb_true from x (head_holds _ _ h), ltb_true x to (head_holds _ _ (rest_hold _ _ h)))
+  between_facts h = (leb-true from x (head_holds _ _ h), ltb-true x to (head_holds _ _ (rest_hold _ _ h)))
 
   pub between_of : from ≤ x → x < to → between from to x ≡ true
   unfolding between
-  between_of l h = holds_with _ _ (le_leb from x l) (holds_with _ _ (lt_ltb x to h) none_left)
+  between_of l h = holds_with _ _ (le-leb from x l) (holds_with _ _ (lt-ltb x to h) none_left)
 
   pub not_between : ((from ≤ x) × (x < to) → ⊥) → between from to x ≡ false
   not_between h = by_test (between from to x) (λ e. absurd (h (between_facts e))) (λ e. e)
@@ -38,10 +38,10 @@ fill_more cells start from x v y hx room h =
     elim (ℕ_discrete y x) [
       | yes e ↦
           (ap (λ (z : ℕ). get_or (set cells x v) z 0) e
-          ∙ get_or_set_same cells x v 0 room
+          ∙ get_or-set_same cells x v 0 room
           ∙ sym (cond_true _ v (get_or start y 0) (between_of from (x + 1) y (omega arith) (omega arith))))
       | no ne ↦
-          (get_or_set_other cells x y v 0 ne
+          (get_or-set_other cells x y v 0 ne
           ∙ h
           ∙ ap (λ (b : Bool). cond b v (get_or start y 0))
           (same_truth _ _
@@ -109,7 +109,7 @@ not_reaching : (ws : List ℤ) (i first : ℕ) → window_start ws i < window_en
 unfolding reaches
 not_reaching ws i first rises h j hj inside =
     true_false
-    (holds_with _ _ (le_leb first (window_end ws i) (omega arith)) (holds_with _ _ (lt_ltb (window_start ws i) (first + part_minutes) (omega arith)) none_left))
+    (holds_with _ _ (le-leb first (window_end ws i) (omega arith)) (holds_with _ _ (lt-ltb (window_start ws i) (first + part_minutes) (omega arith)) none_left))
     h
 
 pub beyond : (ws : List ℤ) (i first : ℕ) → window_start ws i < window_end ws i → reaches ws i first ≡ false → Beyond ws i first

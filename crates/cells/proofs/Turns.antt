@@ -4,12 +4,12 @@ use mathlib.Core.Path.{◌≡◌, refl, sym, ap, ◌∙◌}
 use mathlib.Core.Bool.{Bool, true, false, ◌||◌}
 use mathlib.Core.List.{List}
 use native.Mathlib.Omega.{arith}
-use native.Mathlib.Numerals.{add_one}
+use native.Mathlib.Numerals.{add-one}
 use native.Mathlib.Decide.{ℕ_discrete}
-use borrow.Author.Tests.{eq_eqb, ne_eqb}
+use borrow.Author.Tests.{eq-eqb, ne_eqb}
 use lib.Dec.{eqb}
-use lib.ListN.{length, get_or, set, length_set}
-use lib.Seq.{get_or_set_same, get_or_set_other}
+use lib.ListN.{length, get_or, set, length-set}
+use lib.Seq.{get_or-set_same, get_or-set_other}
 use lib.IntN.{ℤ}
 use Rattle.numbers.proofs.Tests.{or_true_left}
 use Rattle.hourlaws.specs.Windows.{window_start, window_end, window_count, turns_by, turn}
@@ -23,15 +23,15 @@ none_marked first m turns long none = record { long = long; at = λ j hj. sym (a
 pub one_marked : (first m : ℕ) (turns : List Bool) → length turns ≡ part_minutes → first ≤ m → m - first < part_minutes → Marked first m turns (set turns (m - first) true)
 one_marked first m turns long low high =
     record {
-      long = length_set turns (m - first) true ∙ long;
+      long = length-set turns (m - first) true ∙ long;
       at = λ j hj.
           elim (ℕ_discrete j (m - first)) [
             | yes e ↦
                 (ap (λ (i : ℕ). get_or (set turns (m - first) true) i false) e
-                ∙ get_or_set_same turns (m - first) true false (omega arith)
-                ∙ sym (or_true_left _ (get_or turns j false) (eq_eqb m (first + j) (omega arith))))
+                ∙ get_or-set_same turns (m - first) true false (omega arith)
+                ∙ sym (or_true_left _ (get_or turns j false) (eq-eqb m (first + j) (omega arith))))
             | no ne ↦
-                (get_or_set_other turns (m - first) j true false ne
+                (get_or-set_other turns (m - first) j true false ne
                 ∙ sym (ap (λ (b : Bool). b || get_or turns j false) (ne_eqb m (first + j) (λ same. ne (omega arith)))))
           ];
     }
@@ -67,7 +67,7 @@ pub turns_next :
     → ((eqb (window_start ws n) m || eqb (window_end ws n) m) || b) ≡ (turns_by ws (n + 1) m || eqb m 0)
 unfolding turns_by
 turns_next ws m n b e =
-    rw add_one
+    rw add-one
     (ap (λ (x : Bool). (eqb (window_start ws n) m || eqb (window_end ws n) m) || x) e
     ∙ or_moves (eqb (window_start ws n) m || eqb (window_end ws n) m) (turns_by ws n m) (eqb m 0))
 

@@ -7,7 +7,7 @@ use mathlib.Core.Bool.{true, false}
 use mathlib.Core.List.{List, [], ◌∷◌}
 use native.Mathlib.Omega.{arith}
 use native.Mathlib.Decide.{ℕ_discrete}
-use borrow.Author.Tests.{ltb_true, ltb_false, le_ltb, eqb_true, eq_eqb, ne_eqb}
+use borrow.Author.Tests.{ltb-true, ltb-false, le-ltb, eqb-true, eq-eqb, ne_eqb}
 use lib.Dec.{eqb, ltb}
 use lib.IntN.{ℤ}
 use Rattle.numbers.specs.Tests.{every}
@@ -58,7 +58,7 @@ has_supplier t k h =
     let c = climbed t (grains (size t k 0)) 0 ((tree_of t).level k) k (head_holds _ _ (rest_hold _ _ h)) in
     let up : steps_above t k ≡ c.up = omega (arith, c.count) in
     record {
-      waits = ltb_true 0 (waiting t k) (head_holds _ _ h);
+      waits = ltb-true 0 (waiting t k) (head_holds _ _ h);
       within = omega (arith, up, c.within);
       node = c.node ∙ ap (λ (n : ℕ). node_above (tree_of t) n k) (sym up);
       first = λ n l. c.first n (omega (arith, up));
@@ -72,7 +72,7 @@ not_as_many s a s' a' ne = by_test (ltb s s') (λ l. simp (l, ne_eqb s s' ne)) (
 
 pub as_many : (s a s' a' : ℕ) → s ≡ s' → better s a s' a' ≡ ltb a a'
 unfolding better
-as_many s a s' a' e = rw e (simp (le_ltb s' s' (omega arith), eq_eqb s' s' refl))
+as_many s a s' a' e = rw e (simp (le-ltb s' s' (omega arith), eq-eqb s' s' refl))
 
 -- A request with these steps and this arrival number is at least as good as one with those.
 record AsGood (s a s' a' : ℕ) : Type 0 where
@@ -82,15 +82,15 @@ record AsGood (s a s' a' : ℕ) : Type 0 where
 is_better : (s a s' a' : ℕ) → better s a s' a' ≡ true → AsGood s a s' a'
 is_better s a s' a' h =
     elim (ℕ_discrete s s') [
-      | yes e ↦ record { steps = omega arith; arrival = λ _. omega (arith, ltb_true a a' (sym (as_many s a s' a' e) ∙ h)) }
-      | no ne ↦ record { steps = omega (arith, ltb_true s s' (sym (not_as_many s a s' a' ne) ∙ h)); arrival = λ e. absurd (ne e) }
+      | yes e ↦ record { steps = omega arith; arrival = λ _. omega (arith, ltb-true a a' (sym (as_many s a s' a' e) ∙ h)) }
+      | no ne ↦ record { steps = omega (arith, ltb-true s s' (sym (not_as_many s a s' a' ne) ∙ h)); arrival = λ e. absurd (ne e) }
     ]
 
 not_better : (s a s' a' : ℕ) → better s a s' a' ≡ false → AsGood s' a' s a
 not_better s a s' a' h =
     elim (ℕ_discrete s s') [
-      | yes e ↦ record { steps = omega arith; arrival = λ _. ltb_false a a' (sym (as_many s a s' a' e) ∙ h) }
-      | no ne ↦ record { steps = ltb_false s s' (sym (not_as_many s a s' a' ne) ∙ h); arrival = λ e. absurd (ne (sym e)) }
+      | yes e ↦ record { steps = omega arith; arrival = λ _. ltb-false a a' (sym (as_many s a s' a' e) ∙ h) }
+      | no ne ↦ record { steps = ltb-false s s' (sym (not_as_many s a s' a' ne) ∙ h); arrival = λ e. absurd (ne (sym e)) }
     ]
 
 -- Client k's oldest request is at least as good as client j's.
@@ -129,7 +129,7 @@ module _ (t : List ℤ) (Seen Then : ℕ → Type 0) (k best : ℕ) (hk : k < no
             ⊎_elim
             (λ seen.
             ⊎_elim
-            (λ e. absurd (true_false has (b.none (eqb_true best nobody e) j seen)))
+            (λ e. absurd (true_false has (b.none (eqb-true best nobody e) j seen)))
             (λ better.
             elim (ℕ_discrete best nobody) [
               | yes e ↦ absurd (true_false has (b.none e j seen))
@@ -151,7 +151,7 @@ module _ (t : List ℤ) (Seen Then : ℕ → Type 0) (k best : ℕ) (hk : k < no
             (λ d.
             rw d
             (by_test (supplied t k)
-            (λ s. absurd (true_false (eq_eqb best nobody e) (or_false_left _ _ (h s))))
+            (λ s. absurd (true_false (eq-eqb best nobody e) (or_false_left _ _ (h s))))
             (λ s. s)))
             (split j then);
         good = λ ne j then has.

@@ -5,8 +5,8 @@ use mathlib.Core.Path.{◌≡◌, refl, sym, ap, ◌∙◌}
 use mathlib.Core.Bool.{Bool, cond}
 use mathlib.Core.List.{List}
 use native.Mathlib.Omega.{arith}
-use borrow.Author.Tests.{eqb_true, eqb_false, lt_ltb, le_ltb, ltb_true, ne_eqb}
-use lib.ListN.{length, length_replicate, get_or_replicate}
+use borrow.Author.Tests.{eqb-true, eqb-false, lt-ltb, le-ltb, ltb-true, ne_eqb}
+use lib.ListN.{length, length-replicate, get_or-replicate}
 use lib.Dec.{eqb, ltb}
 use lib.IntN.{ℤ, pos}
 use Rattle.numbers.specs.Whole.{plus}
@@ -39,8 +39,8 @@ edit t u k f p v hk hp e =
       heading = λ q hq. header_put u k p v q hq ∙ e.heading q hq;
       here = λ q hq.
           by_test (eqb q p)
-          (λ y. ap (place (put u k p v) k) (eqb_true q p y) ∙ place_put_same u k p v e.long hk hp ∙ sym (cond_true (eqb q p) v (f q) y))
-          (λ y. place_put_place u k p v k q hp hq (eqb_false q p y) ∙ e.here q hq ∙ sym (cond_false (eqb q p) v (f q) y));
+          (λ y. ap (place (put u k p v) k) (eqb-true q p y) ∙ place_put_same u k p v e.long hk hp ∙ sym (cond_true (eqb q p) v (f q) y))
+          (λ y. place_put_place u k p v k q hp hq (eqb-false q p y) ∙ e.here q hq ∙ sym (cond_false (eqb q p) v (f q) y));
       others = λ j q ne hq. place_put_node u k p v j q hp hq ne ∙ e.others j q ne hq;
     }
 
@@ -144,14 +144,14 @@ cleared_step t u k m hk hm e =
     edited_same _ _ _ _ _ (edit t u k _ m (pos 0) hk hm e)
     (λ q hq.
     by_test (eqb q m)
-    (λ y. cond_true _ _ _ y ∙ sym (cond_true _ _ _ (lt_ltb q (suc m) (omega (arith, eqb_true q m y)))))
-    (λ y. cond_false (eqb q m) _ _ y ∙ ap (λ (b : Bool). cond b (pos 0) (place t k q)) (before q (eqb_false q m y))))
+    (λ y. cond_true _ _ _ y ∙ sym (cond_true _ _ _ (lt-ltb q (suc m) (omega (arith, eqb-true q m y)))))
+    (λ y. cond_false (eqb q m) _ _ y ∙ ap (λ (b : Bool). cond b (pos 0) (place t k q)) (before q (eqb-false q m y))))
   where
     before : (q : ℕ) → (q ≡ m → ⊥) → ltb q m ≡ ltb q (suc m)
     before q ne =
         same_truth (ltb q m) (ltb q (suc m))
-        (λ y. lt_ltb q (suc m) (omega (arith, ltb_true q m y)))
-        (λ y. lt_ltb q m (omega (arith, ltb_true q (suc m) y)))
+        (λ y. lt-ltb q (suc m) (omega (arith, ltb-true q m y)))
+        (λ y. lt-ltb q m (omega (arith, ltb-true q (suc m) y)))
 
 pub cleared_edit : (t : List ℤ) (k : ℕ) → length t ≡ table_length → k < nodes → Edited t (cleared t k) k (λ q. pos 0)
 unfolding cleared
@@ -160,8 +160,8 @@ cleared_edit t k n hk =
     (for_reaches (λ m u. Edited t u k (λ q. cond (ltb q m) (pos 0) (place t k q))) record_length (λ p u. put u k p (pos 0))
     (λ m u hm e. cleared_step t u k m hk hm e)
     t
-    (edited_same _ _ _ _ _ (unedited t k n) (λ q hq. sym (cond_false _ _ _ (le_ltb q 0 (omega arith))))))
-    (λ q hq. cond_true _ _ _ (lt_ltb q record_length hq))
+    (edited_same _ _ _ _ _ (unedited t k n) (λ q hq. sym (cond_false _ _ _ (le-ltb q 0 (omega arith))))))
+    (λ q hq. cond_true _ _ _ (lt-ltb q record_length hq))
 
 pub cleared_node : (t : List ℤ) (k : ℕ) → length t ≡ table_length → k < nodes → NodeIs (tree_of (cleared t k)) k 0 0 0 0 0 0
 unfolding plus
@@ -173,15 +173,15 @@ cleared_others t k n hk = edited_others _ _ _ _ (cleared_edit t k n hk)
 -- Open writes four places of the root in a table of zeros.
 pub blank_place : (j p : ℕ) → j < nodes → p < record_length → place blank j p ≡ pos 0
 unfolding blank place
-blank_place j p hj hp = get_or_replicate table_length (header_length + record_length * j + p) (pos 0) (pos 0) (omega arith)
+blank_place j p hj hp = get_or-replicate table_length (header_length + record_length * j + p) (pos 0) (pos 0) (omega arith)
 
 pub blank_header : (p : ℕ) → p < header_length → header blank p ≡ pos 0
 unfolding blank header
-blank_header p hp = get_or_replicate table_length p (pos 0) (pos 0) (omega arith)
+blank_header p hp = get_or-replicate table_length p (pos 0) (pos 0) (omega arith)
 
 blank_length : length blank ≡ table_length
 unfolding blank
-blank_length = length_replicate table_length (pos 0)
+blank_length = length-replicate table_length (pos 0)
 
 abbrev pub opened_place : ℤ → ℤ → ℕ → ℤ
 opened_place rate depth q = cond (eqb q rate_at) rate (cond (eqb q depth_at) depth (cond (eqb q share_at) (pos whole_share) (cond (eqb q sort_at) (pos 1) (place blank 0 q))))

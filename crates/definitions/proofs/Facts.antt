@@ -6,7 +6,7 @@ use mathlib.Core.Bool.{Bool, true, false, not, ◌||◌}
 use mathlib.Core.Logic.{⊎_elim}
 use mathlib.Core.List.{List}
 use native.Mathlib.Omega.{arith}
-use borrow.Author.Tests.{eqb_true, eqb_false, eq_eqb, ne_eqb, leb_true, le_leb, ltb_true, ltb_false, lt_ltb, le_ltb, not_true}
+use borrow.Author.Tests.{eqb-true, eqb-false, eq-eqb, ne_eqb, leb-true, le-leb, ltb-true, ltb-false, lt-ltb, le-ltb, not-true}
 use lib.ListN.{length}
 use lib.Dec.{eqb, ltb}
 use lib.IntN.{ℤ, pos, ◌+ℤ◌}
@@ -173,7 +173,7 @@ spare_of t k h =
     record {
       places = λ p hp. zero_at _ (all_at spare_length (λ p. is_zero (place t k (spare_at + p))) (head_holds _ _ h) p hp);
       queue = λ p hp low.
-          ⊎_elim (λ e. absurd (true_false e (le_ltb p (request_length * waiting t k) low))) (λ e. zero_at _ e)
+          ⊎_elim (λ e. absurd (true_false e (le-ltb p (request_length * waiting t k) low))) (λ e. zero_at _ e)
           (or_cases (ltb p (request_length * waiting t k)) (is_zero (place t k (queue_at + p))) (all_at queue_length (λ p. ltb p (request_length * waiting t k) || is_zero (place t k (queue_at + p))) (head_holds _ _ (rest_hold _ _ h)) p hp));
     }
 
@@ -185,7 +185,7 @@ of_spare t k f =
     (all_intro queue_length (λ p. ltb p (request_length * waiting t k) || is_zero (place t k (queue_at + p)))
     (λ p hp.
     by_test (ltb p (request_length * waiting t k)) (or_true_left (ltb p (request_length * waiting t k)) (is_zero (place t k (queue_at + p))))
-    (λ e. or_true_right (ltb p (request_length * waiting t k)) (is_zero (place t k (queue_at + p))) (at_zero _ (f.queue p hp (ltb_false p (request_length * waiting t k) e))))))
+    (λ e. or_true_right (ltb p (request_length * waiting t k)) (is_zero (place t k (queue_at + p))) (at_zero _ (f.queue p hp (ltb-false p (request_length * waiting t k) e))))))
     none_left)
 
 pub root_of : (t : List ℤ) → root_in_order t ≡ true → Root t
@@ -212,14 +212,14 @@ of_root t f =
 pub child_of_law : (tree : Tree) (k : ℕ) → parent_in_order tree k ≡ true → (k ≡ 0 → ⊥) → Child tree k
 unfolding parent_in_order
 child_of_law tree k h ne =
-    ⊎_elim (λ e. absurd (ne (eqb_true k 0 e))) (λ e. record { class = head_holds _ _ e; level = eqb_true _ _ (head_holds _ _ (rest_hold _ _ e)) })
+    ⊎_elim (λ e. absurd (ne (eqb-true k 0 e))) (λ e. record { class = head_holds _ _ e; level = eqb-true _ _ (head_holds _ _ (rest_hold _ _ e)) })
     (or_cases (eqb k 0) _ h)
 
 of_child : (tree : Tree) (k : ℕ) → ((k ≡ 0 → ⊥) → Child tree k) → parent_in_order tree k ≡ true
 unfolding parent_in_order
 of_child tree k f =
     by_test (eqb k 0) (or_true_left (eqb k 0) _)
-    (λ e. or_true_right (eqb k 0) _ (holds_with _ _ (f (eqb_false k 0 e)).class (holds_with _ _ (eq_eqb _ _ (f (eqb_false k 0 e)).level) none_left)))
+    (λ e. or_true_right (eqb k 0) _ (holds_with _ _ (f (eqb-false k 0 e)).class (holds_with _ _ (eq-eqb _ _ (f (eqb-false k 0 e)).level) none_left)))
 
 class_of : (t : List ℤ) (c : ℕ) → class_in_order t c ≡ true → Class t c
 unfolding class_in_order
@@ -227,16 +227,16 @@ class_of t c h =
     let h1 = rest_hold _ _ h in
     let h2 = rest_hold _ _ h1 in
     record {
-      level = leb_true ((tree_of t).level c) last_class_level (head_holds _ _ h);
-      idle = eqb_true (waiting t c) 0 (head_holds _ _ h1);
-      shares = leb_true (fixed_sum (tree_of t) c) whole_share (head_holds _ _ h2);
-      depths = leb_true (sum_under (tree_of t) c (tree_of t).depth) ((tree_of t).depth c) (head_holds _ _ (rest_hold _ _ h2));
+      level = leb-true ((tree_of t).level c) last_class_level (head_holds _ _ h);
+      idle = eqb-true (waiting t c) 0 (head_holds _ _ h1);
+      shares = leb-true (fixed_sum (tree_of t) c) whole_share (head_holds _ _ h2);
+      depths = leb-true (sum_under (tree_of t) c (tree_of t).depth) ((tree_of t).depth c) (head_holds _ _ (rest_hold _ _ h2));
     }
 
 of_class : (t : List ℤ) (c : ℕ) → Class t c → class_in_order t c ≡ true
 unfolding class_in_order
 of_class t c f =
-    holds_with _ _ (le_leb _ _ f.level) (holds_with _ _ (eq_eqb _ _ f.idle) (holds_with _ _ (le_leb _ _ f.shares) (holds_with _ _ (le_leb _ _ f.depths) none_left)))
+    holds_with _ _ (le-leb _ _ f.level) (holds_with _ _ (eq-eqb _ _ f.idle) (holds_with _ _ (le-leb _ _ f.shares) (holds_with _ _ (le-leb _ _ f.depths) none_left)))
 
 balance_of : (t : List ℤ) (k : ℕ) → balance_in_order t k ≡ true → Balance t k
 unfolding balance_in_order
@@ -259,7 +259,7 @@ request_of t k i h =
     record {
       size = head_holds _ _ h;
       number = head_holds _ _ (rest_hold _ _ h);
-      rising = λ ne. ⊎_elim (λ e. absurd (ne (eqb_true i 0 e))) (λ e. ltb_true _ _ e) (or_cases (eqb i 0) (ltb (arrival t k (i - 1)) (arrival t k i)) (head_holds _ _ (rest_hold _ _ (rest_hold _ _ h))));
+      rising = λ ne. ⊎_elim (λ e. absurd (ne (eqb-true i 0 e))) (λ e. ltb-true _ _ e) (or_cases (eqb i 0) (ltb (arrival t k (i - 1)) (arrival t k i)) (head_holds _ _ (rest_hold _ _ (rest_hold _ _ h))));
     }
 
 of_request : (t : List ℤ) (k i : ℕ) → Request t k i → request_in_order t k i ≡ true
@@ -269,20 +269,20 @@ of_request t k i f =
     (holds_with _ _ f.number
     (holds_with _ _
     (by_test (eqb i 0) (or_true_left (eqb i 0) (ltb (arrival t k (i - 1)) (arrival t k i)))
-    (λ e. or_true_right (eqb i 0) (ltb (arrival t k (i - 1)) (arrival t k i)) (lt_ltb _ _ (f.rising (eqb_false i 0 e)))))
+    (λ e. or_true_right (eqb i 0) (ltb (arrival t k (i - 1)) (arrival t k i)) (lt-ltb _ _ (f.rising (eqb-false i 0 e)))))
     none_left))
 
 placed_of : (tree : Tree) (k : ℕ) → stated_placed tree k ≡ true → is_stated tree k ≡ true → tree.parent k ≡ root
 unfolding stated_placed
 placed_of tree k h e =
-    ⊎_elim (λ other. absurd (true_false e (not_true _ other))) (λ under. eqb_true (tree.parent k) root under)
+    ⊎_elim (λ other. absurd (true_false e (not-true _ other))) (λ under. eqb-true (tree.parent k) root under)
     (or_cases (not (is_stated tree k)) _ h)
 
 of_placed : (tree : Tree) (k : ℕ) → (is_stated tree k ≡ true → tree.parent k ≡ root) → stated_placed tree k ≡ true
 unfolding stated_placed
 of_placed tree k h =
     by_test (is_stated tree k)
-    (λ e. or_true_right (not (is_stated tree k)) _ (eq_eqb (tree.parent k) root (h e)))
+    (λ e. or_true_right (not (is_stated tree k)) _ (eq-eqb (tree.parent k) root (h e)))
     (λ e. or_true_left (not (is_stated tree k)) _ (ap not e))
 
 pub stated_of : (t : List ℤ) → stated_in_order t ≡ true → Stated t
@@ -290,14 +290,14 @@ unfolding stated_in_order each_node
 stated_of t h =
     record {
       under = λ k hk e. placed_of (tree_of t) k (each_at (there (tree_of t)) (stated_placed (tree_of t)) (head_holds _ _ h) k hk e);
-      fits = leb_true (stated_sum (tree_of t) root) (rate t root) (head_holds _ _ (rest_hold _ _ h));
+      fits = leb-true (stated_sum (tree_of t) root) (rate t root) (head_holds _ _ (rest_hold _ _ h));
     }
 
 pub of_stated_law : (t : List ℤ) → Stated t → stated_in_order t ≡ true
 unfolding stated_in_order each_node
 of_stated_law t f =
     holds_with _ _ (at_each (there (tree_of t)) (stated_placed (tree_of t)) (λ k hk e. of_placed (tree_of t) k (f.under k hk e)))
-    (holds_with _ _ (le_leb (stated_sum (tree_of t) root) (rate t root) f.fits) none_left)
+    (holds_with _ _ (le-leb (stated_sum (tree_of t) root) (rate t root) f.fits) none_left)
 
 -- Kept where the tree and the disk's rate stay.
 pub stated_kept : (t u : List ℤ) → tree_of u ≡ tree_of t → rate u root ≡ rate t root → Stated t → Stated u
@@ -317,7 +317,7 @@ facts t h =
     let h9 = rest_hold _ _ h8 in
     let h10 = rest_hold _ _ h9 in
     record {
-      long = eqb_true (length t) table_length (head_holds _ _ h);
+      long = eqb-true (length t) table_length (head_holds _ _ h);
       counted = head_holds _ _ (head_holds _ _ h1);
       heading = λ p hp. zero_at _ (all_at (header_length - 1) (λ p. is_zero (header t (suc p))) (head_holds _ _ (rest_hold _ _ (head_holds _ _ h1))) p hp);
       empty = λ k hk no_Node p hp. zero_at _ (all_at record_length (λ p. is_zero (place t k p)) (each_at (λ k. not (there (tree_of t) k)) (λ k. all_below record_length (λ p. is_zero (place t k p))) (head_holds _ _ h2) k hk (ap not no_Node)) p hp);
@@ -335,18 +335,18 @@ facts t h =
           (all_at k (differs_at t (arrival t k i))
           (all_at (waiting t k) (λ i. all_below k (differs_at t (arrival t k i)))
           (all_at nodes (arrivals_differ t) (head_holds _ _ (rest_hold _ _ h10)) k hk) i hi) j hj) l hl)
-          (ap not (eq_eqb _ _ e));
+          (ap not (eq-eqb _ _ e));
       stated = stated_of t (head_holds _ _ (rest_hold _ _ (rest_hold _ _ h10)));
     }
 
 pub from_facts : (t : List ℤ) → InOrder t → in_order t ≡ true
 unfolding in_order header_in_order unused_in_order each_node each_class each_client rate_in_order queue_in_order arrivals_differ differs_at
 from_facts t f =
-    holds_with _ _ (eq_eqb _ _ f.long)
+    holds_with _ _ (eq-eqb _ _ f.long)
     (holds_with _ _ (holds_with _ _ f.counted (holds_with _ _ (all_intro (header_length - 1) (λ p. is_zero (header t (suc p))) (λ p hp. at_zero _ (f.heading p hp))) none_left))
     (holds_with _ _
     (at_each (λ k. not (there (tree_of t) k)) (λ k. all_below record_length (λ p. is_zero (place t k p)))
-    (λ k hk e. all_intro record_length (λ p. is_zero (place t k p)) (λ p hp. at_zero _ (f.empty k hk (not_true _ e) p hp))))
+    (λ k hk e. all_intro record_length (λ p. is_zero (place t k p)) (λ p hp. at_zero _ (f.empty k hk (not-true _ e) p hp))))
     (holds_with _ _ (at_each (there (tree_of t)) (limits_kept t) (λ k hk e. of_limits t k (f.limits k hk e)))
     (holds_with _ _ (at_each (there (tree_of t)) (spare_in_order t) (λ k hk e. of_spare t k (f.spare k hk e)))
     (holds_with _ _ (of_root t f.root)
@@ -370,5 +370,5 @@ pub class_or_client : (t : List ℤ) (k : ℕ) → InOrder t → k < nodes → t
 unfolding tree_of is_class is_client
 class_or_client t k f hk e no_client =
     let limits = (f.limits k hk e).sort in
-    let other : plus (place t k sort_at) ≡ client → ⊥ = eqb_false (plus (place t k sort_at)) client no_client in
-    eq_eqb (plus (place t k sort_at)) class (omega (arith, zarith))
+    let other : plus (place t k sort_at) ≡ client → ⊥ = eqb-false (plus (place t k sort_at)) client no_client in
+    eq-eqb (plus (place t k sort_at)) class (omega (arith, zarith))

@@ -4,7 +4,7 @@ use mathlib.Core.Path.{◌≡◌, refl}
 use mathlib.Core.Bool.{Bool, true, false, not}
 use mathlib.Core.List.{List, [], ◌∷◌}
 use native.Mathlib.Omega.{arith}
-use borrow.Author.Tests.{not_false, eq_eqb, eqb_false, ltb_false}
+use borrow.Author.Tests.{not-false, eq-eqb, eqb-false, ltb-false}
 use lib.ListN.{length}
 use lib.Dec.{ltb}
 use lib.IntN.{ℤ, pos}
@@ -41,7 +41,7 @@ unfolding open_refusal open_limits
 open_passed t rate depth h =
     let p1 = none_first 1 _ _ (omega arith) h in
     let p2 = none_first 2 _ _ (omega arith) p1.1 in
-    let limits = not_false _ p2.0 in
+    let limits = not-false _ p2.0 in
     record { rates = head_holds _ _ limits; depths = head_holds _ _ (rest_hold _ _ limits) }
 
 -- Join, of node k under class c.
@@ -75,14 +75,14 @@ join_passed t node parent sort kind share depth port h =
     let p7 = none_first 7 _ _ (omega arith) p6.1 in
     let p8 = none_first 8 _ _ (omega arith) p7.1 in
     let p16 = none_first 16 _ _ (omega arith) p8.1 in
-    let l1 = not_false _ p2.0 in
+    let l1 = not-false _ p2.0 in
     let l2 = rest_hold _ _ l1 in
     let l3 = rest_hold _ _ l2 in
     let l4 = rest_hold _ _ l3 in
     let l5 = rest_hold _ _ l4 in
     let l6 = rest_hold _ _ l5 in
     record {
-      order = not_false _ p1.0;
+      order = not-false _ p1.0;
       node = omega (arith, zarith, head_holds _ _ l1);
       below = λ e. omega (arith, zarith, head_holds _ _ l1);
       parent = omega (arith, zarith, head_holds _ _ l2);
@@ -92,12 +92,12 @@ join_passed t node parent sort kind share depth port h =
       deep = head_holds _ _ l6;
       ports = head_holds _ _ (rest_hold _ _ l6);
       unused = p4.0;
-      there = not_false _ p3.0;
+      there = not-false _ p3.0;
       no_client = p5.0;
-      levels = λ class last. true_false (holds_with _ _ (eq_eqb (plus sort) 1 class) (holds_with _ _ (eq_eqb ((tree_of t).level (plus parent)) last_class_level last) none_left)) p6.0;
-      shares = ltb_false whole_share _ p7.0;
-      depths = ltb_false _ _ p8.0;
-      stated = stated_of _ (not_false _ p16.0);
+      levels = λ class last. true_false (holds_with _ _ (eq-eqb (plus sort) 1 class) (holds_with _ _ (eq-eqb ((tree_of t).level (plus parent)) last_class_level last) none_left)) p6.0;
+      shares = ltb-false whole_share _ p7.0;
+      depths = ltb-false _ _ p8.0;
+      stated = stated_of _ (not-false _ p16.0);
     }
 
 -- Of two tests that do not both hold, the second fails where the first holds.
@@ -126,14 +126,14 @@ leave_passed t node h =
     let p5 = none_first 5 _ _ (omega arith) p3.1 in
     let p9 = none_first 9 _ _ (omega arith) p5.1 in
     let p10 = none_first 10 _ _ (omega arith) p9.1 in
-    let inside : within_ℤ 0 last_node node ≡ true = not_false _ p2.0 in
+    let inside : within_ℤ 0 last_node node ≡ true = not-false _ p2.0 in
     record {
-      order = not_false _ p1.0;
+      order = not-false _ p1.0;
       node = omega (arith, zarith);
-      there = not_false _ p3.0;
-      below = eqb_false (plus node) 0 p5.0;
-      childless = not_false _ (or_false_left (not (childless (tree_of t) (plus node))) (ltb 0 (waiting t (plus node))) p9.0);
-      idle = omega (arith, ltb_false 0 (waiting t (plus node)) (or_false_right (not (childless (tree_of t) (plus node))) (ltb 0 (waiting t (plus node))) p9.0));
+      there = not-false _ p3.0;
+      below = eqb-false (plus node) 0 p5.0;
+      childless = not-false _ (or_false_left (not (childless (tree_of t) (plus node))) (ltb 0 (waiting t (plus node))) p9.0);
+      idle = omega (arith, ltb-false 0 (waiting t (plus node)) (or_false_right (not (childless (tree_of t) (plus node))) (ltb 0 (waiting t (plus node))) p9.0));
       no_debt = λ class.
           let not_low = second_fails _ _ p10.0 class in
           omega (arith, zarith, one_is_zero (balance t (plus node)));
@@ -159,17 +159,17 @@ change_share_passed t node kind share h =
     let p5 = none_first 5 _ _ (omega arith) p3.1 in
     let p7 = none_first 7 _ _ (omega arith) p5.1 in
     let p16 = none_first 16 _ _ (omega arith) p7.1 in
-    let limits = not_false _ p2.0 in
+    let limits = not-false _ p2.0 in
     let limits' = rest_hold _ _ limits in
     record {
-      order = not_false _ p1.0;
+      order = not-false _ p1.0;
       node = omega (arith, zarith, head_holds _ _ limits);
       kinds = head_holds _ _ limits';
       within = head_holds _ _ (rest_hold _ _ limits');
-      there = not_false _ p3.0;
-      below = eqb_false (plus node) 0 p5.0;
-      shares = ltb_false whole_share _ p7.0;
-      stated = stated_of _ (not_false _ p16.0);
+      there = not-false _ p3.0;
+      below = eqb-false (plus node) 0 p5.0;
+      shares = ltb-false whole_share _ p7.0;
+      stated = stated_of _ (not-false _ p16.0);
     }
 
 -- Change rate.
@@ -184,7 +184,7 @@ change_rate_passed t rate h =
     let p1 = none_first 1 _ _ (omega arith) h in
     let p2 = none_first 2 _ _ (omega arith) p1.1 in
     let p16 = none_first 16 _ _ (omega arith) p2.1 in
-    record { order = not_false _ p1.0; within = not_false _ p2.0; stated = stated_of _ (not_false _ p16.0) }
+    record { order = not-false _ p1.0; within = not-false _ p2.0; stated = stated_of _ (not-false _ p16.0) }
 
 -- Request, of client k.
 pub record RequestPassed (t : List ℤ) (k : ℕ) (size : ℤ) : Type 0 where
@@ -207,14 +207,14 @@ request_passed t node tag size h =
     let p8 = none_first 8 _ _ (omega arith) p5.1 in
     let p11 = none_first 11 _ _ (omega arith) p8.1 in
     let p12 = none_first 12 _ _ (omega arith) p11.1 in
-    let limits : request_limits node size ≡ true = not_false _ p2.0 in
+    let limits : request_limits node size ≡ true = not-false _ p2.0 in
     record {
-      order = not_false _ p1.0;
+      order = not-false _ p1.0;
       node = omega (arith, zarith, head_holds _ _ limits);
       least = head_holds _ _ (rest_hold _ _ limits);
-      there = not_false _ p3.0;
+      there = not-false _ p3.0;
       no_class = p5.0;
-      cost = omega (arith, ltb_false ((tree_of t).depth (plus node)) _ p8.0);
-      room = eqb_false (waiting t (plus node)) most_waiting p11.0;
-      numbers = eqb_false (count t) greatest_count p12.0;
+      cost = omega (arith, ltb-false ((tree_of t).depth (plus node)) _ p8.0);
+      room = eqb-false (waiting t (plus node)) most_waiting p11.0;
+      numbers = eqb-false (count t) greatest_count p12.0;
     }

@@ -3,12 +3,12 @@
 use Prim.Native.Nat.{ℕ, zero, suc, ◌+◌, ◌*◌, ◌/◌, ◌≤◌, ◌<◌}
 use mathlib.Core.Path.{◌≡◌, refl, sym, ap, ◌∙◌}
 use mathlib.Core.Bool.{cond}
-use mathlib.Core.List.{List, [], ◌∷◌, ◌++◌, append_nil, append_assoc}
+use mathlib.Core.List.{List, [], ◌∷◌, ◌++◌, append-nil, append_assoc}
 use native.Mathlib.Omega.{arith}
 use native.Mathlib.Decide.{dec_lt}
-use borrow.Author.Tests.{eqb_true, eqb_false, eq_eqb, ne_eqb}
+use borrow.Author.Tests.{eqb-true, eqb-false, eq-eqb, ne_eqb}
 use lib.Dec.{eqb}
-use lib.ListN.{length, get_or_eq_default}
+use lib.ListN.{length, get_or-eq_default}
 use lib.IntN.{ℤ, pos}
 use Rattle.numbers.specs.Whole.{plus, minus}
 use Rattle.numbers.proofs.Tests.{by_test, cond_true, cond_false}
@@ -29,7 +29,7 @@ pub port_beyond : (t : List ℤ) (k : ℕ) → length t ≡ table_length → (k 
 unfolding port place
 port_beyond t k long high =
     let beyond : length t ≤ header_length + record_length * k + port_at = omega (arith, high) in
-    ap plus (get_or_eq_default t (pos 0) beyond) ∙ plus_pos 0
+    ap plus (get_or-eq_default t (pos 0) beyond) ∙ plus_pos 0
 
 pub ports_small : (t : List ℤ) → InOrder t → (k : ℕ) → port t k ≤ second_port
 unfolding port
@@ -79,7 +79,7 @@ module _ (port_of : ℕ → ℕ) (p : ℕ) where
   module _ (a b c d : ℤ) (list : List ℤ) where
     pub port_here : port_of (plus a) ≡ p → of_port port_of p (a ∷ b ∷ c ∷ d ∷ list) ≡ a ∷ b ∷ c ∷ d ∷ of_port port_of p list
     unfolding of_port
-    port_here e = ap (λ (l : List ℤ). l ++ of_port port_of p list) (cond_true _ (a ∷ b ∷ c ∷ d ∷ []) [] (eq_eqb _ p e))
+    port_here e = ap (λ (l : List ℤ). l ++ of_port port_of p list) (cond_true _ (a ∷ b ∷ c ∷ d ∷ []) [] (eq-eqb _ p e))
 
     pub port_other : (port_of (plus a) ≡ p → ⊥) → of_port port_of p (a ∷ b ∷ c ∷ d ∷ list) ≡ of_port port_of p list
     unfolding of_port
@@ -107,7 +107,7 @@ module _ (port_of : ℕ → ℕ) (p : ℕ) where
     port_stays ne =
         port_append list (a ∷ b ∷ c ∷ d ∷ []) w
         ∙ ap (λ (l : List ℤ). of_port port_of p list ++ l) (port_other a b c d [] ne ∙ port_none)
-        ∙ append_nil (of_port port_of p list)
+        ∙ append-nil (of_port port_of p list)
 
   pub port_whole : (list : List ℤ) → whole list → whole (of_port port_of p list)
   unfolding whole
@@ -116,16 +116,16 @@ module _ (port_of : ℕ → ℕ) (p : ℕ) where
       (rw port_none)
       (λ a b c d l e.
       by_test (eqb (port_of (plus a)) p)
-      (λ y. omega (arith, ap length (port_here a b c d l (eqb_true _ p y))))
-      (λ n. omega (arith, ap length (port_other a b c d l (eqb_false _ p n)))))
+      (λ y. omega (arith, ap length (port_here a b c d l (eqb-true _ p y))))
+      (λ n. omega (arith, ap length (port_other a b c d l (eqb-false _ p n)))))
       list
 
 -- An entry goes to one of the two ports.
 pub by_port : (port_of : ℕ → ℕ) → ((k : ℕ) → port_of k ≤ second_port) → {P : Type 0} (k : ℕ) → (port_of k ≡ first_port → (port_of k ≡ second_port → ⊥) → P) → ((port_of k ≡ first_port → ⊥) → port_of k ≡ second_port → P) → P
 by_port port_of small k first second =
     by_test (eqb (port_of k) first_port)
-    (λ y. let e = eqb_true (port_of k) first_port y in first e (λ s. omega arith))
-    (λ n. let ne = eqb_false (port_of k) first_port n in second ne (omega (arith, small k)))
+    (λ y. let e = eqb-true (port_of k) first_port y in first e (λ s. omega arith))
+    (λ n. let ne = eqb-false (port_of k) first_port n in second ne (omega (arith, small k)))
 
 -- Together they get all.
 pub ports_all : (port_of : ℕ → ℕ) → ((k : ℕ) → port_of k ≤ second_port) → (list : List ℤ) → whole list → length (of_port port_of first_port list) + length (of_port port_of second_port list) ≡ length list

@@ -2,7 +2,7 @@
 -- and d is cited for each.
 use Prim.Native.Nat.{ℕ, ◌+◌, ◌*◌, ◌-◌, ◌/◌, ◌≤◌, ◌<◌}
 use native.Mathlib.Omega.{arith}
-use native.Mathlib.Nat.{div_mul_le_self, lt_mul_div_succ}
+use native.Mathlib.Nat.{div-mul-le_self, lt-mul-div-succ}
 use Rattle.definitions.specs.Limits.{whole_share}
 use Rattle.definitions.specs.Rates.{fixed_rate, left_rate, weighted_rate}
 
@@ -11,7 +11,7 @@ pub record RoundedDown (n d r : ℕ) : Type 0 where
   pub next_above : n < (r + 1) * d
 
 quotient : (n d : ℕ) → 0 < d → RoundedDown n d (n / d)
-quotient n d h = omega (arith, div_mul_le_self n d, lt_mul_div_succ n h)
+quotient n d h = omega (arith, div-mul-le_self n d, lt-mul-div-succ n h)
 
 -- A fixed child's rate: its class's rate x share / 10,000.
 pub fixed_rounded : (class_rate share : ℕ) → RoundedDown (class_rate * share) whole_share (fixed_rate class_rate share)

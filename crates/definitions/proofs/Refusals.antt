@@ -2,17 +2,17 @@
 -- and its values; refused, it leaves the contents as they came and the number only.
 use Prim.Native.Nat.{ℕ, ◌≤◌, ◌<◌}
 use mathlib.Core.Path.{◌≡◌, refl, sym, ap, ap₂, ◌∙◌}
-use mathlib.Core.Bool.{Bool, true, false, not, ◌&&◌, and_true}
+use mathlib.Core.Bool.{Bool, true, false, not, ◌&&◌, and-true}
 use mathlib.Core.List.{List, [], ◌∷◌}
 use native.Mathlib.Decide.{ℕ_discrete}
 use native.Mathlib.Omega.{arith}
-use borrow.Author.Tests.{lt_ltb, le_ltb, eq_eqb, ne_eqb, not_false}
+use borrow.Author.Tests.{lt-ltb, le-ltb, eq-eqb, ne_eqb, not-false}
 use lib.Dec.{eqb, ltb}
 use lib.IntN.{ℤ, pos}
 use lib.Signed.{le_z}
 use mir.Syntax.{w64}
 use mir.Val.{SFits, to_z, of_z}
-use mir.Facts.{to_z_of_z}
+use mir.Facts.{to_z-of_z}
 use Rattle.numbers.specs.Whole.{plus, minus, within_ℤ}
 use Rattle.numbers.specs.Tests.{every}
 use Rattle.numbers.proofs.Parts.{zarith, one_is_zero, pos_plus, pos_of_within}
@@ -44,7 +44,7 @@ first_none n b cs h hs = first_past n b cs h ∙ hs
 
 pub kept_new : (refusal : ℕ) (new old : List ℤ) → refusal ≡ 0 → kept refusal new old ≡ new
 unfolding kept
-kept_new refusal new old h = cond_true (eqb refusal 0) new old (eq_eqb refusal 0 h)
+kept_new refusal new old h = cond_true (eqb refusal 0) new old (eq-eqb refusal 0 h)
 
 pub kept_old : (refusal : ℕ) (new old : List ℤ) → (refusal ≡ 0 → ⊥) → kept refusal new old ≡ old
 unfolding kept
@@ -52,7 +52,7 @@ kept_old refusal new old h = cond_false (eqb refusal 0) new old (ne_eqb refusal 
 
 pub outcome_accepted : (refusal : ℕ) (values : List ℤ) → refusal ≡ 0 → outcome refusal values ≡ accepted values
 unfolding outcome
-outcome_accepted refusal values h = cond_true (eqb refusal 0) (accepted values) (refused refusal) (eq_eqb refusal 0 h)
+outcome_accepted refusal values h = cond_true (eqb refusal 0) (accepted values) (refused refusal) (eq-eqb refusal 0 h)
 
 pub outcome_refused : (refusal : ℕ) (values : List ℤ) → (refusal ≡ 0 → ⊥) → outcome refusal values ≡ refused refusal
 unfolding outcome
@@ -87,12 +87,12 @@ pub ruleset causes =
 pub found : (cs : List Cause) (m : ℕ) → Finds cs m → m ≡ first cs
 found cs m (here e h) = sym (first_here _ _ _ (sym e ∙ h))
 found cs m (here_not e h) = sym (first_here _ _ _ (ap not (sym e) ∙ h))
-found cs m (here_below i j e h) = sym (first_here _ _ _ (lt_ltb i j (omega arith)))
-found cs m (here_equal i j e h) = sym (first_here _ _ _ (eq_eqb i j (sym e ∙ h)))
-found cs m (here_is i j h) = sym (first_here _ _ _ (eq_eqb i j h))
+found cs m (here_below i j e h) = sym (first_here _ _ _ (lt-ltb i j (omega arith)))
+found cs m (here_equal i j e h) = sym (first_here _ _ _ (eq-eqb i j (sym e ∙ h)))
+found cs m (here_is i j h) = sym (first_here _ _ _ (eq-eqb i j h))
 found cs m (past e h f) = found _ _ f ∙ sym (first_past _ _ _ (sym e ∙ h))
 found cs m (past_not e h f) = found _ _ f ∙ sym (first_past _ _ _ (ap not (sym e) ∙ h))
-found cs m (past_below i j e h f) = found _ _ f ∙ sym (first_past _ _ _ (le_ltb i j (omega arith)))
+found cs m (past_below i j e h f) = found _ _ f ∙ sym (first_past _ _ _ (le-ltb i j (omega arith)))
 found cs m (past_equal i j e h f) = found _ _ f ∙ sym (first_past _ _ _ (ne_eqb i j (λ q. h (e ∙ q))))
 found cs m (past_is i j h f) = found _ _ f ∙ sym (first_past _ _ _ (ne_eqb i j h))
 found cs m (past_known h f) = found _ _ f ∙ sym (first_past _ _ _ (ap not h))
@@ -101,7 +101,7 @@ found cs m (handed_on e) = e
 
 -- What such a test says of the cause.
 pub holds : {r b : Bool} → r ≡ b → not r ≡ false → b ≡ true
-holds {r} e h = sym e ∙ not_false r h
+holds {r} e h = sym e ∙ not-false r h
 
 pub fails : {r b : Bool} → r ≡ b → r ≡ false → b ≡ false
 fails e h = sym e ∙ h
@@ -124,24 +124,24 @@ next_test false b c bs e = refl
 
 -- A limit that another argument sets.
 limited : (limit : ℕ → ℕ) (low : ℕ) (y z : ℤ) {n most : ℕ} {b : Bool} → n ≡ plus (to_z w64 (of_z w64 y)) → SFits w64 y → most ≡ limit n → b ≡ within_ℤ low most (to_z w64 (of_z w64 z)) → SFits w64 z → b ≡ within_ℤ low (limit (plus y)) z
-limited limit low y z e f l w g = w ∙ ap₂ (within_ℤ low) (l ∙ ap limit (e ∙ ap plus (to_z_of_z f))) (to_z_of_z g)
+limited limit low y z e f l w g = w ∙ ap₂ (within_ℤ low) (l ∙ ap limit (e ∙ ap plus (to_z-of_z f))) (to_z-of_z g)
 
 tested_after : (a : Bool) (bs : List Bool) (r : Bool) → Tested a bs r → r ≡ (a && every bs)
 unfolding every
-tested_after a bs r (within low high z {b = b} {bs = rest} e f t) = tested_after _ _ _ t ∙ next_test a b _ rest (e ∙ ap (within_ℤ low high) (to_z_of_z f))
-tested_after a bs r (least low z {b = b} {bs = rest} e f t) = tested_after _ _ _ t ∙ next_test a b _ rest (e ∙ ap (le_z (pos low)) (to_z_of_z f))
+tested_after a bs r (within low high z {b = b} {bs = rest} e f t) = tested_after _ _ _ t ∙ next_test a b _ rest (e ∙ ap (within_ℤ low high) (to_z-of_z f))
+tested_after a bs r (least low z {b = b} {bs = rest} e f t) = tested_after _ _ _ t ∙ next_test a b _ rest (e ∙ ap (le_z (pos low)) (to_z-of_z f))
 tested_after a bs r (by_kind low kind z {b = b} {bs = rest} e f l w g t) =
     tested_after _ _ _ t ∙ next_test a b _ rest (limited share_limit low kind z e f l w g)
 tested_after a bs r (by_sort low sort z {b = b} {bs = rest} e f l w g t) =
     tested_after _ _ _ t ∙ next_test a b _ rest (limited port_limit low sort z e f l w g)
-tested_after a bs r last = sym (and_true a)
+tested_after a bs r last = sym (and-true a)
 
 pub tested : (bs : List Bool) (r : Bool) → Tested true bs r → r ≡ every bs
 tested bs r t = tested_after true bs r t
 
 -- An argument that was passed on as it came: its natural part, which is the argument itself where it is within limits.
 pub natural_of : {n : ℕ} {z : ℤ} → n ≡ plus (to_z w64 (of_z w64 z)) → SFits w64 z → n ≡ plus z
-natural_of e f = e ∙ ap plus (to_z_of_z f)
+natural_of e f = e ∙ ap plus (to_z-of_z f)
 
 pub number_of_law : (low high : ℕ) {n : ℕ} {z : ℤ} → n ≡ plus (to_z w64 (of_z w64 z)) → SFits w64 z → within_ℤ low high z ≡ true → pos n ≡ z
 number_of_law low high {z = z} e f h = ap pos (natural_of e f) ∙ pos_of_within low high z h

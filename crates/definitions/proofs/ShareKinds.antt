@@ -3,7 +3,7 @@ use Prim.Native.Nat.{ℕ, ◌≤◌}
 use mathlib.Core.Path.{◌≡◌}
 use mathlib.Core.Bool.{true, false}
 use native.Mathlib.Omega.{arith}
-use borrow.Author.Tests.{eqb_true, eqb_false, eq_eqb, ne_eqb}
+use borrow.Author.Tests.{eqb-true, eqb-false, eq-eqb, ne_eqb}
 use lib.Dec.{eqb}
 use Rattle.numbers.proofs.Tests.{by_test, cond_true, cond_false}
 use Rattle.definitions.specs.Limits.{fixed, weighted, stated, whole_share, greatest_rate, share_limit}
@@ -22,11 +22,11 @@ limit_unstated kind ne = cond_false _ greatest_rate whole_share (ne_eqb kind sta
 -- The kinds as tests.
 pub stated_kind_law : (tree : Tree) (k : ℕ) → is_stated tree k ≡ true → tree.kind k ≡ stated
 unfolding is_stated
-stated_kind_law tree k e = eqb_true (tree.kind k) stated e
+stated_kind_law tree k e = eqb-true (tree.kind k) stated e
 
 pub unstated_kind : (tree : Tree) (k : ℕ) → is_stated tree k ≡ false → tree.kind k ≡ stated → ⊥
 unfolding is_stated
-unstated_kind tree k e = eqb_false (tree.kind k) stated e
+unstated_kind tree k e = eqb-false (tree.kind k) stated e
 
 -- A share that keeps its limit and is not stated is at most 10,000.
 pub unstated_share : (tree : Tree) (k : ℕ) → tree.share k ≤ share_limit (tree.kind k) → is_stated tree k ≡ false → tree.share k ≤ whole_share
@@ -34,17 +34,17 @@ unstated_share tree k limit e = rw (limit_unstated (tree.kind k) (unstated_kind 
 
 pub fixed_kind_law : (tree : Tree) (k : ℕ) → is_fixed tree k ≡ true → tree.kind k ≡ fixed
 unfolding is_fixed
-fixed_kind_law tree k e = eqb_true (tree.kind k) fixed e
+fixed_kind_law tree k e = eqb-true (tree.kind k) fixed e
 
 -- A node that is neither stated nor fixed is weighted.
 pub weighted_kind_law : (tree : Tree) (k : ℕ) → tree.kind k ≤ stated → is_stated tree k ≡ false → is_fixed tree k ≡ false → tree.kind k ≡ weighted
 unfolding is_stated is_fixed
-weighted_kind_law tree k small s f = omega (arith, eqb_false (tree.kind k) stated s, eqb_false (tree.kind k) fixed f)
+weighted_kind_law tree k small s f = omega (arith, eqb-false (tree.kind k) stated s, eqb-false (tree.kind k) fixed f)
 
 -- A share counts whole for its own kind, and for another not at all.
 pub own_share : (tree : Tree) (kind k : ℕ) → tree.kind k ≡ kind → kind_share tree kind k ≡ tree.share k
 unfolding kind_share
-own_share tree kind k e = cond_true _ (tree.share k) 0 (eq_eqb (tree.kind k) kind e)
+own_share tree kind k e = cond_true _ (tree.share k) 0 (eq-eqb (tree.kind k) kind e)
 
 pub other_share : (tree : Tree) (kind k : ℕ) → (tree.kind k ≡ kind → ⊥) → kind_share tree kind k ≡ 0
 unfolding kind_share

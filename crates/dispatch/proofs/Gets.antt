@@ -2,7 +2,7 @@
 use Prim.Native.Nat.{ℕ, ◌*◌}
 use mathlib.Core.Path.{◌≡◌}
 use mathlib.Core.List.{List}
-use borrow.Author.Tests.{eq_eqb, ne_eqb}
+use borrow.Author.Tests.{eq-eqb, ne_eqb}
 use lib.Dec.{eqb}
 use lib.IntN.{ℤ}
 use Rattle.numbers.proofs.Tests.{cond_true, cond_false}
@@ -13,7 +13,7 @@ use Rattle.dispatch.specs.Entries.{entered, entered_on}
 module _ (p q : ℕ) where
   pub gets_here : q ≡ p → gets p q ≡ 1
   unfolding gets
-  gets_here e = cond_true {A = ℕ} (eqb q p) 1 0 (eq_eqb q p e)
+  gets_here e = cond_true {A = ℕ} (eqb q p) 1 0 (eq-eqb q p e)
 
   pub gets_other : (q ≡ p → ⊥) → gets p q ≡ 0
   unfolding gets
@@ -22,7 +22,7 @@ module _ (p q : ℕ) where
   module _ (list : List ℤ) (n : ℕ) (a b c d : ℤ) where
     pub entered_here : q ≡ p → entered_on p q list n a b c d ≡ entered list (entry_length * n) a b c d
     unfolding entered_on
-    entered_here e = cond_true (eqb q p) (entered list (entry_length * n) a b c d) list (eq_eqb q p e)
+    entered_here e = cond_true (eqb q p) (entered list (entry_length * n) a b c d) list (eq-eqb q p e)
 
     pub entered_other : (q ≡ p → ⊥) → entered_on p q list n a b c d ≡ list
     unfolding entered_on

@@ -3,7 +3,7 @@ use Prim.Native.Nat.{ℕ, ◌+◌, ◌≤◌, ◌<◌}
 use mathlib.Core.Path.{◌≡◌, refl, ap, ◌∙◌}
 use mathlib.Core.List.{List, [], ◌∷◌, ◌++◌, append_assoc}
 use native.Mathlib.Omega.{arith}
-use lib.ListN.{length, set, length_append}
+use lib.ListN.{length, set, length-append}
 use lib.IntN.{ℤ}
 use Rattle.definitions.specs.Limits.{entry_length}
 use Rattle.definitions.specs.Tick.{State, dispatched, listed}
@@ -27,9 +27,9 @@ listed_entry out list a b c d h =
     let one = out ++ (a ∷ []) in
     let two = one ++ (b ∷ []) in
     let three = two ++ (c ∷ []) in
-    let at_one : length one ≡ n + 1 = length_append out (a ∷ []) in
-    let at_two : length two ≡ n + 2 = omega (arith, length_append one (b ∷ [])) in
-    let at_three : length three ≡ n + 3 = omega (arith, length_append two (c ∷ [])) in
+    let at_one : length one ≡ n + 1 = length-append out (a ∷ []) in
+    let at_two : length two ≡ n + 2 = omega (arith, length-append one (b ∷ [])) in
+    let at_three : length three ≡ n + 3 = omega (arith, length-append two (c ∷ [])) in
     ap (λ (l : List ℤ). set (set (set l (n + 1) b) (n + 2) c) (n + 3) d) (listed_one out list n a refl (omega arith))
     ∙ ap (λ (l : List ℤ). set (set l (n + 2) c) (n + 3) d) (listed_one one list (n + 1) b at_one (omega arith))
     ∙ ap (λ (l : List ℤ). set l (n + 3) d) (listed_one two list (n + 2) c at_two (omega arith))

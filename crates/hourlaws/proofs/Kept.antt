@@ -4,7 +4,7 @@ use mathlib.Core.Path.{◌≡◌, refl, sym, ap, ◌∙◌}
 use mathlib.Core.Bool.{true, false}
 use mathlib.Core.List.{List, []}
 use native.Mathlib.Omega.{arith}
-use borrow.Author.Tests.{leb_true}
+use borrow.Author.Tests.{leb-true}
 use lib.Dec.{leb}
 use lib.IntN.{ℤ, pos}
 use Rattle.numbers.specs.Whole.{plus, within_ℤ}
@@ -79,7 +79,7 @@ window_of tree ws h i hi =
 pub within_at_law : (kind limit : ℕ) (tree : Tree) (ws : List ℤ) (m c : ℕ) → week_within kind limit tree ws ≡ true → m < week_minutes → c < nodes → kind_sum (tree_at tree ws m) kind c ≤ limit
 unfolding week_within kind_within
 within_at_law kind limit tree ws m c h hm hc =
-    leb_true _ limit (all_at nodes (λ c. leb (kind_sum (tree_at tree ws m) kind c) limit) (all_at week_minutes (λ m. kind_within kind limit (tree_at tree ws m)) h m hm) c hc)
+    leb-true _ limit (all_at nodes (λ c. leb (kind_sum (tree_at tree ws m) kind c) limit) (all_at week_minutes (λ m. kind_within kind limit (tree_at tree ws m)) h m hm) c hc)
 
 -- Table t, a plan's table p, both in order, and what the timetable has passed.
 module _ (t p ws : List ℤ) (m : ℕ) (order : InOrder t) (plan : InOrder p) (hm : m < week_minutes) (f : Timetabled t p ws) where

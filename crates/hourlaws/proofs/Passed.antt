@@ -4,7 +4,7 @@ use mathlib.Core.Path.{◌≡◌, ap, ◌∙◌}
 use mathlib.Core.Bool.{true, not}
 use mathlib.Core.List.{List, []}
 use native.Mathlib.Omega.{arith}
-use borrow.Author.Tests.{not_false}
+use borrow.Author.Tests.{not-false}
 use lib.IntN.{ℤ}
 use Rattle.numbers.specs.Whole.{within_ℤ}
 use Rattle.numbers.proofs.Every.{head_holds, rest_hold, holds_with, none_left}
@@ -38,13 +38,13 @@ module _ (t p ws : List ℤ) where
       let p2 = none_first 2 _ _ (omega arith) p17.1 in
       let p7 = none_first 7 _ _ (omega arith) p2.1 in
       let p16 = none_first 16 _ _ (omega arith) p7.1 in
-      let both = not_false _ p17.0 in
+      let both = not-false _ p17.0 in
       record {
         shape = head_holds _ _ both;
         table = head_holds _ _ (rest_hold _ _ both);
-        given = not_false _ p2.0;
-        shares = not_false _ p7.0;
-        stated = not_false _ p16.0;
+        given = not-false _ p2.0;
+        shares = not-false _ p7.0;
+        stated = not-false _ p16.0;
       }
 
   pub of_timetabled : Timetabled t p ws → timetable_refusal t p ws ≡ 0
@@ -69,7 +69,7 @@ module _ (t : List ℤ) (s : List ℕ) (ws : List ℤ) (minute : ℤ) where
       let p1 = none_first 1 _ _ (omega arith) h in
       let p2 = none_first 2 _ _ (omega arith) p1.1 in
       let p3 = none_refusing _ _ p2.1 in
-      record { order = not_false _ p1.0; minutes = not_false _ p2.0; plan = p3.0; timetable = (none_refusing _ _ p3.1).0 }
+      record { order = not-false _ p1.0; minutes = not-false _ p2.0; plan = p3.0; timetable = (none_refusing _ _ p3.1).0 }
 
   pub set_minute_accepted : SetMinutePassed t s ws minute → set_minute_refusal t s ws minute ≡ 0
   unfolding set_minute_refusal

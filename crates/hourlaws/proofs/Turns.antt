@@ -5,7 +5,7 @@ use mathlib.Core.Path.{◌≡◌, refl, sym, ap, ◌∙◌}
 use mathlib.Core.Bool.{Bool, true, false, cond, ◌||◌}
 use mathlib.Core.List.{List}
 use native.Mathlib.Omega.{arith}
-use borrow.Author.Tests.{eq_eqb}
+use borrow.Author.Tests.{eq-eqb}
 use lib.Dec.{eqb}
 use lib.IntN.{ℤ}
 use Rattle.numbers.specs.Below.{all_below}
@@ -45,8 +45,8 @@ no_turns ws m (suc n) h i l =
     below_cases n i l (no_turns ws m n (or_false_right (eqb (window_start ws n) m || eqb (window_end ws n) m) _ h) i)
     (λ last.
     record {
-      starts = λ e. true_false (eq_eqb _ m (rw last at e)) (or_false_left (eqb (window_start ws n) m) _ both);
-      ends = λ e. true_false (eq_eqb _ m (rw last at e)) (or_false_right (eqb (window_start ws n) m) _ both);
+      starts = λ e. true_false (eq-eqb _ m (rw last at e)) (or_false_left (eqb (window_start ws n) m) _ both);
+      ends = λ e. true_false (eq-eqb _ m (rw last at e)) (or_false_right (eqb (window_start ws n) m) _ both);
     })
 
 module _ (kind limit : ℕ) (tree : Tree) (ws : List ℤ) where

@@ -4,7 +4,7 @@ use mathlib.Core.Path.{◌≡◌, sym, ap, ◌∙◌}
 use mathlib.Core.List.{List, ◌∷◌, ◌++◌}
 use native.Mathlib.Omega.{arith}
 use lib.ListN.{length, get_or}
-use lib.Seq.{get_or_take}
+use lib.Seq.{get_or-take}
 use lib.IntN.{ℤ}
 use Rattle.definitions.specs.Limits.{table_length}
 use Rattle.definitions.specs.Tree.{tree_of}
@@ -35,7 +35,7 @@ module _ (t : List ℤ) (xs : List ℕ) (n : ℕ) (h : Listed t xs n) where
 
   pub listed_at : (i : ℕ) → i < n → get_or xs i 0 ≡ listed (tree_of t) i
   unfolding listed
-  listed_at i hi = sym (get_or_take n xs i 0 hi) ∙ ap (λ (ys : List ℕ). get_or ys i 0) h.members
+  listed_at i hi = sym (get_or-take n xs i 0 hi) ∙ ap (λ (ys : List ℕ). get_or ys i 0) h.members
 
   pub listed_standing : (i : ℕ) → i < n → Standing t (get_or xs i 0)
   listed_standing i hi =

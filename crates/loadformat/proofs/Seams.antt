@@ -2,9 +2,9 @@
 use Prim.Native.Nat.{ℕ, zero, suc, ◌+◌}
 use mathlib.Core.Path.{◌≡◌, sym, ap, ◌∙◌}
 use mathlib.Core.Bool.{true}
-use mathlib.Core.List.{List, ◌++◌, append_assoc, append_nil}
-use native.Mathlib.Nat.{add_zero, add_suc}
-use native.Mathlib.Numerals.{add_one}
+use mathlib.Core.List.{List, ◌++◌, append_assoc, append-nil}
+use native.Mathlib.Nat.{add-zero, add-suc}
+use native.Mathlib.Numerals.{add-one}
 use native.Mathlib.Omega.{arith}
 use lib.IntN.{ℤ}
 use Rattle.definitions.specs.Places.{port}
@@ -51,7 +51,7 @@ after_clients load order = ticked_clients (asked load).table (asked_order load o
 module _ (load : Load) where
   pub after_next : (n : ℕ) → after_ticks (n + 1) load ≡ after_tick (after_ticks n load)
   unfolding after_ticks
-  after_next n = ap (λ (m : ℕ). after_ticks m load) (add_one n)
+  after_next n = ap (λ (m : ℕ). after_ticks m load) (add-one n)
 
   pub text_next : (made n : ℕ) → ticks_text made (n + 1) load ≡ ticks_text made n load ++ tick_lines (made + n + 1) (next_tick (after_ticks n load)).entries
   unfolding ticks_text
@@ -60,16 +60,16 @@ module _ (load : Load) where
   -- A part behind a part.
   pub after_more : (m n : ℕ) → after_ticks (m + n) load ≡ after_ticks n (after_ticks m load)
   unfolding after_ticks
-  after_more m zero = ap (λ (k : ℕ). after_ticks k load) (add_zero m)
-  after_more m (suc n) = ap (λ (k : ℕ). after_ticks k load) (add_suc m n) ∙ ap after_tick (after_more m n)
+  after_more m zero = ap (λ (k : ℕ). after_ticks k load) (add-zero m)
+  after_more m (suc n) = ap (λ (k : ℕ). after_ticks k load) (add-suc m n) ∙ ap after_tick (after_more m n)
 
   pub text_more : (made m n : ℕ) → ticks_text made (m + n) load ≡ ticks_text made m load ++ ticks_text (made + m) n (after_ticks m load)
   unfolding ticks_text bytes_below
-  text_more made m zero = ap (λ (k : ℕ). ticks_text made k load) (add_zero m) ∙ sym (append_nil _)
+  text_more made m zero = ap (λ (k : ℕ). ticks_text made k load) (add-zero m) ∙ sym (append-nil _)
   text_more made m (suc n) =
       let count : made + (m + n) + 1 ≡ made + m + n + 1 = omega arith in
       let last : tick_lines (made + (m + n) + 1) (next_tick (after_ticks (m + n) load)).entries ≡ tick_lines (made + m + n + 1) (next_tick (after_ticks n (after_ticks m load))).entries = rw (count, after_more m n) in
-      ap (λ (k : ℕ). ticks_text made k load) (add_suc m n)
+      ap (λ (k : ℕ). ticks_text made k load) (add-suc m n)
       ∙ ap (λ (u : List ℕ). u ++ tick_lines (made + (m + n) + 1) (next_tick (after_ticks (m + n) load)).entries) (text_more made m n)
       ∙ ap (λ (u : List ℕ). (ticks_text made m load ++ ticks_text (made + m) n (after_ticks m load)) ++ u) last
       ∙ append_assoc (ticks_text made m load) (ticks_text (made + m) n (after_ticks m load)) _

@@ -4,8 +4,8 @@ use mathlib.Core.Path.{◌≡◌, ap, ap₂, ◌∙◌}
 use mathlib.Core.Bool.{not}
 use mathlib.Core.List.{List, [], ◌∷◌}
 use native.Mathlib.Omega.{arith}
-use borrow.Author.Tests.{le_ltb}
-use lib.ListN.{length, drop, length_append}
+use borrow.Author.Tests.{le-ltb}
+use lib.ListN.{length, drop, length-append}
 use lib.IntN.{ℤ, pos}
 use Rattle.definitions.specs.Limits.{first_port, second_port, entry_length}
 use Rattle.definitions.specs.Places.{port}
@@ -52,7 +52,7 @@ module _ (t list : List ℤ) (loaded : Loaded t) (room : entry_length * most_dis
   unfolding tick_refusal list_short
   no_refusal =
       first_none 1 _ _ (ap not loaded.order)
-      (first_none 13 _ _ (rw (le_ltb (length list) (entry_length * port_waiting t first_port) tick_room, le_ltb 0 (entry_length * port_waiting t second_port) no_room)) first_end)
+      (first_none 13 _ _ (rw (le-ltb (length list) (entry_length * port_waiting t first_port) tick_room, le-ltb 0 (entry_length * port_waiting t second_port) no_room)) first_end)
 
   pub called_table : tick_table t list [] ≡ (ticked t).table
   unfolding tick_table
@@ -82,6 +82,6 @@ module _ (t list : List ℤ) (loaded : Loaded t) (room : entry_length * most_dis
       let same : after ≡ listed entries list = is ∙ ap (λ (es : List ℤ). listed es list) first_all in
       record {
         few = omega (arith, counted, (tick_laws t loaded.order).ports first_port, few t order first_port);
-        listed = omega (arith, counted, ap length first_all, ap length same, length_append entries (drop (length entries) list));
+        listed = omega (arith, counted, ap length first_all, ap length same, length-append entries (drop (length entries) list));
         lines = λ tick. rw (number, same) (lines_front entries _ tick);
       }

@@ -1,8 +1,8 @@
 -- The whole text is the opening and then the parts, however the ticks are divided.
 use Prim.Native.Nat.{ℕ, ◌+◌, ◌-◌, ◌^◌, ◌≤◌, ◌<◌}
 use mathlib.Core.Path.{◌≡◌, sym, ap, ◌∙◌}
-use mathlib.Core.List.{List, ◌++◌, append_nil}
-use native.Mathlib.Nat.{sub_zero}
+use mathlib.Core.List.{List, ◌++◌, append-nil}
+use native.Mathlib.Nat.{sub-zero}
 use native.Mathlib.Omega.{arith}
 use lib.ListN.{take}
 use lib.Dec.{eqb}
@@ -17,7 +17,7 @@ use Rattle.loadformat.proofs.Seams.{after_more, text_more}
 module _ (s : List ℕ) where
   pub text_whole : load_text s ≡ opening s ++ part_of s 0 (ticks_allowed s)
   unfolding load_text opening ticks_allowed part_of ticks_text bytes_below after_ticks
-  text_whole = by_test (eqb (load_refusal s) 0) (λ e. rw (e, sub_zero)) (λ e. rw (e, append_nil))
+  text_whole = by_test (eqb (load_refusal s) 0) (λ e. rw (e, sub-zero)) (λ e. rw (e, append-nil))
 
   -- A part behind a part is one part.
   pub parts_join : (a b c : ℕ) → a ≤ b → b ≤ c → part_of s a c ≡ part_of s a b ++ part_of s b c

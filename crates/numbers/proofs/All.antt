@@ -1,11 +1,11 @@
 -- A test over the numbers below a bound passes just where it passes at each of them.
 use Prim.Native.Nat.{ℕ, zero, suc, ◌+◌, ◌-◌, ◌<◌}
-use native.Mathlib.Numerals.{add_one}
+use native.Mathlib.Numerals.{add-one}
 use native.Mathlib.Decide.{ℕ_discrete}
 use native.Mathlib.Omega.{arith}
 use mathlib.Core.Path.{◌≡◌, refl, sym, ap, ◌∙◌}
 use mathlib.Core.Bool.{Bool, true, ◌&&◌}
-use borrow.Author.Tests.{ltb_true, ltb_false}
+use borrow.Author.Tests.{ltb-true, ltb-false}
 use lib.Dec.{ltb}
 use Rattle.numbers.specs.Below.{all_below}
 use Rattle.numbers.proofs.Tests.{by_test, same_truth, and_true, and_left, and_right}
@@ -22,15 +22,15 @@ below_cases {P = P} n k h below last = by (ℕ_discrete k n)
 pub by_order {ℓ} : {P : Type ℓ} (a b : ℕ) → (a < b → P) → (b < a → P) → (a ≡ b → P) → P
 by_order a b less greater same =
     by_test (ltb a b)
-    (λ l. less (ltb_true a b l))
-    (λ n. by_test (ltb b a) (λ l. greater (ltb_true b a l)) (λ m. same (omega (arith, ltb_false a b n, ltb_false b a m))))
+    (λ l. less (ltb-true a b l))
+    (λ n. by_test (ltb b a) (λ l. greater (ltb-true b a l)) (λ m. same (omega (arith, ltb-false a b n, ltb-false b a m))))
 
 pub all_suc : (n : ℕ) (p : ℕ → Bool) → all_below (suc n) p ≡ (all_below n p && p n)
 unfolding all_below
 all_suc n p = refl
 
 pub all_next : (n : ℕ) (p : ℕ → Bool) → all_below (n + 1) p ≡ (all_below n p && p n)
-all_next n p = rw add_one (all_suc n p)
+all_next n p = rw add-one (all_suc n p)
 
 pub all_at : (n : ℕ) (p : ℕ → Bool) → all_below n p ≡ true → (k : ℕ) → k < n → p k ≡ true
 unfolding all_below
@@ -66,9 +66,9 @@ all_append n m p =
     (λ h.
     all_intro (n + m) p
     (λ k l.
-    by_test (ltb k n) (λ y. all_at n p (and_left _ _ h) k (ltb_true k n y))
+    by_test (ltb k n) (λ y. all_at n p (and_left _ _ h) k (ltb-true k n y))
     (λ f.
-    let past = ltb_false k n f in
+    let past = ltb-false k n f in
     let back : n + (k - n) ≡ k = omega arith in
     sym (ap p back) ∙ all_at m (λ j. p (n + j)) (and_right (all_below n p) _ h) (k - n) (omega arith))))
 

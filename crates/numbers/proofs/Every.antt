@@ -1,9 +1,9 @@
 -- Every test of a list holds exactly when its first does and every other does.
 use mathlib.Core.Path.{◌≡◌, refl, sym, ap, ◌∙◌}
-use mathlib.Core.Bool.{Bool, true, false, ◌&&◌, and_true as and_with_true}
+use mathlib.Core.Bool.{Bool, true, false, ◌&&◌, and-true as and-with-true}
 use mathlib.Core.List.{List, [], ◌∷◌}
 use Rattle.numbers.specs.Tests.{every}
-use Rattle.numbers.proofs.Tests.{and_true, and_left, and_right}
+use Rattle.numbers.proofs.Tests.{and-true, and_left, and_right}
 
 pub head_holds : (b : Bool) (bs : List Bool) → every (b ∷ bs) ≡ true → b ≡ true
 unfolding every
@@ -19,11 +19,11 @@ none_left = refl
 
 pub holds_with : (b : Bool) (bs : List Bool) → b ≡ true → every bs ≡ true → every (b ∷ bs) ≡ true
 unfolding every
-holds_with b bs h hs = and_true b (every bs) h hs
+holds_with b bs h hs = and-true b (every bs) h hs
 
 pub every_two : (a b : Bool) → every (a ∷ b ∷ []) ≡ (a && b)
 unfolding every
-every_two true b = and_with_true b
+every_two true b = and-with-true b
 every_two false b = refl
 
 pub every_next : (a b : Bool) (bs : List Bool) → every (a ∷ b ∷ bs) ≡ every ((a && b) ∷ bs)
@@ -47,7 +47,7 @@ joined a (b ∷ bs) = joined (a && b) bs
 
 pub joined_every : (a : Bool) (bs : List Bool) → joined a bs ≡ every (a ∷ bs)
 unfolding every
-joined_every a [] = sym (and_with_true a)
+joined_every a [] = sym (and-with-true a)
 joined_every a (b ∷ bs) = joined_every (a && b) bs ∙ sym (every_next a b bs)
 
 -- Tests that the code made one by one, each known by its own equation.

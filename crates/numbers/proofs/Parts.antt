@@ -9,8 +9,8 @@ use lib.IntN.{ℤ, pos, negsuc, neg_ℤ, sub_ℕ, ◌+ℤ◌, ◌-ℤ◌}
 use lib.Signed.{le_z, lt_z}
 use mir.Syntax.{Width, w64}
 use mir.Val.{SFits, of_z, to_z}
-use mir.ValLaws.{to_z_of_z}
-use borrow.Author.Tests.{ltb_true, ltb_false, leb_true, leb_false, eqb_true, lt_ltb, le_leb, eq_eqb}
+use mir.ValLaws.{to_z-of_z}
+use borrow.Author.Tests.{ltb-true, ltb-false, leb-true, leb-false, eqb-true, lt-ltb, le-leb, eq-eqb}
 use Rattle.numbers.specs.Whole.{plus, minus, same_ℤ, within_ℤ}
 use Rattle.numbers.proofs.Tests.{by_test, true_false, same_truth, and_true, and_left, and_right}
 
@@ -45,7 +45,7 @@ eq_parts a b e = omega (arith, ap plus e, ap minus e)
 difference_parts : (m n : ℕ) → plus (sub_ℕ m n) + n ≡ minus (sub_ℕ m n) + m
 unfolding plus minus
 difference_parts m n =
-    by_test (ltb m n) (λ t. rw t (omega (arith, ltb_true m n t))) (λ f. rw f (omega (arith, ltb_false m n f)))
+    by_test (ltb m n) (λ t. rw t (omega (arith, ltb-true m n t))) (λ f. rw f (omega (arith, ltb-false m n f)))
 
 pub add_parts : (a b : ℤ) → plus (a +ℤ b) + (minus a + minus b) ≡ minus (a +ℤ b) + (plus a + plus b)
 unfolding plus minus
@@ -71,7 +71,7 @@ sub_parts a b = omega (arith, add_parts a (neg_ℤ b), plus_neg b, minus_neg b)
 
 -- A test that passes just where x ≤ y fails just where y < x.
 failed : (t : Bool) (x y : ℕ) → (x ≤ y → t ≡ true) → t ≡ false → y < x
-failed t x y f e = by_test (leb x y) (λ h. absurd (true_false (f (leb_true x y h)) e)) (λ h. leb_false x y h)
+failed t x y f e = by_test (leb x y) (λ h. absurd (true_false (f (leb-true x y h)) e)) (λ h. leb-false x y h)
 
 fails : (t : Bool) (x y : ℕ) → (t ≡ true → x ≤ y) → y < x → t ≡ false
 fails t x y f h = by_test t (λ e. absurd (lemma (f e))) (λ e. e)
@@ -81,17 +81,17 @@ fails t x y f h = by_test t (λ e. absurd (lemma (f e))) (λ e. e)
 
 pub le_parts : (a b : ℤ) → le_z a b ≡ true → plus a + minus b ≤ plus b + minus a
 unfolding plus minus
-le_parts (pos m) (pos n) h = omega (arith, leb_true m n h)
+le_parts (pos m) (pos n) h = omega (arith, leb-true m n h)
 le_parts (pos m) (negsuc n) h = absurd (true≢false (sym h))
 le_parts (negsuc m) (pos n) h = omega arith
-le_parts (negsuc m) (negsuc n) h = omega (arith, leb_true n m h)
+le_parts (negsuc m) (negsuc n) h = omega (arith, leb-true n m h)
 
 pub parts_le : (a b : ℤ) → plus a + minus b ≤ plus b + minus a → le_z a b ≡ true
 unfolding plus minus
-parts_le (pos m) (pos n) h = le_leb m n (omega arith)
+parts_le (pos m) (pos n) h = le-leb m n (omega arith)
 parts_le (pos m) (negsuc n) h = absurd (omega arith)
 parts_le (negsuc m) (pos n) h = refl
-parts_le (negsuc m) (negsuc n) h = le_leb n m (omega arith)
+parts_le (negsuc m) (negsuc n) h = le-leb n m (omega arith)
 
 pub not_le_parts : (a b : ℤ) → le_z a b ≡ false → plus b + minus a < plus a + minus b
 not_le_parts a b h = failed (le_z a b) (plus a + minus b) (plus b + minus a) (parts_le a b) h
@@ -101,17 +101,17 @@ parts_not_le a b h = fails (le_z a b) (plus a + minus b) (plus b + minus a) (le_
 
 pub lt_parts : (a b : ℤ) → lt_z a b ≡ true → plus a + minus b < plus b + minus a
 unfolding plus minus
-lt_parts (pos m) (pos n) h = omega (arith, ltb_true m n h)
+lt_parts (pos m) (pos n) h = omega (arith, ltb-true m n h)
 lt_parts (pos m) (negsuc n) h = absurd (true≢false (sym h))
 lt_parts (negsuc m) (pos n) h = omega arith
-lt_parts (negsuc m) (negsuc n) h = omega (arith, ltb_true n m h)
+lt_parts (negsuc m) (negsuc n) h = omega (arith, ltb-true n m h)
 
 pub parts_lt : (a b : ℤ) → plus a + minus b < plus b + minus a → lt_z a b ≡ true
 unfolding plus minus
-parts_lt (pos m) (pos n) h = lt_ltb m n (omega arith)
+parts_lt (pos m) (pos n) h = lt-ltb m n (omega arith)
 parts_lt (pos m) (negsuc n) h = absurd (omega arith)
 parts_lt (negsuc m) (pos n) h = refl
-parts_lt (negsuc m) (negsuc n) h = lt_ltb n m (omega arith)
+parts_lt (negsuc m) (negsuc n) h = lt-ltb n m (omega arith)
 
 pub not_lt_parts : (a b : ℤ) → lt_z a b ≡ false → plus b + minus a ≤ plus a + minus b
 not_lt_parts a b h = omega (arith, failed (lt_z a b) (suc (plus a + minus b)) (plus b + minus a) (parts_lt a b) h)
@@ -121,15 +121,15 @@ parts_not_lt a b h = fails (lt_z a b) (suc (plus a + minus b)) (plus b + minus a
 
 pub same_eq : (a b : ℤ) → same_ℤ a b ≡ true → a ≡ b
 unfolding same_ℤ
-same_eq (pos m) (pos n) h = ap pos (eqb_true m n h)
+same_eq (pos m) (pos n) h = ap pos (eqb-true m n h)
 same_eq (pos m) (negsuc n) h = absurd (true≢false (sym h))
 same_eq (negsuc m) (pos n) h = absurd (true≢false (sym h))
-same_eq (negsuc m) (negsuc n) h = ap negsuc (eqb_true m n h)
+same_eq (negsuc m) (negsuc n) h = ap negsuc (eqb-true m n h)
 
 same_self : (z : ℤ) → same_ℤ z z ≡ true
 unfolding same_ℤ
-same_self (pos n) = eq_eqb n n refl
-same_self (negsuc n) = eq_eqb n n refl
+same_self (pos n) = eq-eqb n n refl
+same_self (negsuc n) = eq-eqb n n refl
 
 pub eq_same : (a b : ℤ) → a ≡ b → same_ℤ a b ≡ true
 eq_same a b e = rw e (same_self b)
@@ -156,18 +156,18 @@ parts_not_same a b f = ne_same a b (λ e. f (eq_parts a b e))
 pub bits_same : (w : Width) (a b : ℤ) → SFits w a → SFits w b → eqb (of_z w a) (of_z w b) ≡ same_ℤ a b
 bits_same w a b p q =
     same_truth (eqb (of_z w a) (of_z w b)) (same_ℤ a b)
-    (λ h. eq_same a b (sym (to_z_of_z w a p) ∙ ap (to_z w) (eqb_true (of_z w a) (of_z w b) h) ∙ to_z_of_z w b q))
-    (λ h. eq_eqb (of_z w a) (of_z w b) (ap (of_z w) (same_eq a b h)))
+    (λ h. eq_same a b (sym (to_z-of_z w a p) ∙ ap (to_z w) (eqb-true (of_z w a) (of_z w b) h) ∙ to_z-of_z w b q))
+    (λ h. eq-eqb (of_z w a) (of_z w b) (ap (of_z w) (same_eq a b h)))
 
 pub within_parts : (low high : ℕ) (z : ℤ) → within_ℤ low high z ≡ true → (minus z ≡ 0) × (low ≤ plus z) × (plus z ≤ high)
 unfolding plus minus within_ℤ
 within_parts low high (pos n) h =
-    (refl, leb_true low n (and_left (leb low n) (leb n high) h), leb_true n high (and_right (leb low n) (leb n high) h))
+    (refl, leb-true low n (and_left (leb low n) (leb n high) h), leb-true n high (and_right (leb low n) (leb n high) h))
 within_parts low high (negsuc n) h = absurd (true≢false (sym h))
 
 pub parts_within : (low high : ℕ) (z : ℤ) → (minus z ≡ 0) × (low ≤ plus z) × (plus z ≤ high) → within_ℤ low high z ≡ true
 unfolding plus minus within_ℤ
-parts_within low high (pos n) h = and_true (leb low n) (leb n high) (le_leb low n h.1) (le_leb n high h.2)
+parts_within low high (pos n) h = and_true (leb low n) (leb n high) (le-leb low n h.1) (le-leb n high h.2)
 parts_within low high (negsuc n) h = absurd (omega arith)
 
 -- How far z lies outside of low .. high, as one number, since a rule of omega has one premise.

@@ -1,6 +1,6 @@
 -- Repeated steps over the numbers below a bound: what each step keeps holds after all of them.
 use Prim.Native.Nat.{ℕ, zero, suc, ◌+◌, ◌<◌}
-use native.Mathlib.Numerals.{add_one}
+use native.Mathlib.Numerals.{add-one}
 use native.Mathlib.Omega.{arith}
 use mathlib.Core.Path.{◌≡◌, refl, sym, ap, ◌∙◌}
 use Rattle.numbers.specs.Below.{for_below}
@@ -10,7 +10,7 @@ unfolding for_below
 for_suc n f a = refl
 
 pub for_next : {A : Type 0} (n : ℕ) (f : ℕ → A → A) (a : A) → for_below (n + 1) f a ≡ f n (for_below n f a)
-for_next n f a = rw add_one (for_suc n f a)
+for_next n f a = rw add-one (for_suc n f a)
 
 -- After n turns b was reached, and one more turn makes c of it.
 pub turned : {A : Type 0} (n : ℕ) (f : ℕ → A → A) (a b c : A) → b ≡ for_below n f a → c ≡ f n b → c ≡ for_below (n + 1) f a

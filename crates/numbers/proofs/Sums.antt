@@ -1,6 +1,6 @@
 -- Sums over the numbers below a bound, by induction on the bound: each law follows from the law at one term.
 use Prim.Native.Nat.{ℕ, zero, suc, ◌+◌, ◌*◌, ◌≤◌, ◌<◌}
-use native.Mathlib.Numerals.{add_one}
+use native.Mathlib.Numerals.{add-one}
 use native.Mathlib.Omega.{arith}
 use mathlib.Core.Path.{◌≡◌, refl, sym, ap}
 use lib.IntN.{ℤ, ◌+ℤ◌}
@@ -14,7 +14,7 @@ unfolding sum_below
 sum_suc n f = refl
 
 pub sum_next : (n : ℕ) (f : ℕ → ℕ) → sum_below (n + 1) f ≡ sum_below n f + f n
-sum_next n f = rw add_one (sum_suc n f)
+sum_next n f = rw add-one (sum_suc n f)
 
 pub sum_cong : (n : ℕ) (f g : ℕ → ℕ) → ((k : ℕ) → k < n → f k ≡ g k) → sum_below n f ≡ sum_below n g
 unfolding sum_below
@@ -70,7 +70,7 @@ unfolding sum_ℤ_below
 sum_ℤ_suc n f = refl
 
 pub sum_ℤ_next : (n : ℕ) (f : ℕ → ℤ) → sum_ℤ_below (n + 1) f ≡ sum_ℤ_below n f +ℤ f n
-sum_ℤ_next n f = rw add_one (sum_ℤ_suc n f)
+sum_ℤ_next n f = rw add-one (sum_ℤ_suc n f)
 
 pub sum_ℤ_parts : (n : ℕ) (f : ℕ → ℤ) → plus (sum_ℤ_below n f) + sum_below n (λ k. minus (f k)) ≡ minus (sum_ℤ_below n f) + sum_below n (λ k. plus (f k))
 unfolding plus minus sum_below sum_ℤ_below

@@ -7,7 +7,7 @@ use mathlib.Core.Bool.{Bool, true, false, not}
 use mathlib.Core.List.{List}
 use native.Mathlib.Omega.{arith}
 use native.Mathlib.Decide.{ℕ_discrete}
-use borrow.Author.Tests.{leb_true, le_leb, eq_eqb, ne_eqb, eqb_true, eqb_false, not_true}
+use borrow.Author.Tests.{leb-true, le-leb, eq-eqb, ne_eqb, eqb-true, eqb-false, not-true}
 use lib.ListN.{length}
 use lib.Dec.{eqb}
 use lib.IntN.{ℤ, pos}
@@ -57,16 +57,16 @@ covers_of t c h =
     let h1 = rest_hold _ _ h in
     let h2 = rest_hold _ _ h1 in
     record {
-      shares = leb_true (fixed_sum (tree_of t) c) whole_share (head_holds _ _ h);
-      depths = leb_true (sum_under (tree_of t) c (tree_of t).depth) ((tree_of t).depth c) (head_holds _ _ h1);
-      line = leb_true (sum_under (tree_of t) c (λ k. plus (balance t k)) + minus (balance t c)) (sum_under (tree_of t) c (λ k. minus (balance t k)) + plus (balance t c) + depth_grains t c) (head_holds _ _ h2);
-      stated = leb_true (stated_sum (tree_of t) c) (stated_limit t c) (head_holds _ _ (rest_hold _ _ h2));
+      shares = leb-true (fixed_sum (tree_of t) c) whole_share (head_holds _ _ h);
+      depths = leb-true (sum_under (tree_of t) c (tree_of t).depth) ((tree_of t).depth c) (head_holds _ _ h1);
+      line = leb-true (sum_under (tree_of t) c (λ k. plus (balance t k)) + minus (balance t c)) (sum_under (tree_of t) c (λ k. minus (balance t k)) + plus (balance t c) + depth_grains t c) (head_holds _ _ h2);
+      stated = leb-true (stated_sum (tree_of t) c) (stated_limit t c) (head_holds _ _ (rest_hold _ _ h2));
     }
 
 of_covers : (t : List ℤ) (c : ℕ) → Covers t c → class_covers t c ≡ true
 unfolding class_covers
 of_covers t c f =
-    holds_with _ _ (le_leb _ _ f.shares) (holds_with _ _ (le_leb _ _ f.depths) (holds_with _ _ (le_leb _ _ f.line) (holds_with _ _ (le_leb _ _ f.stated) none_left)))
+    holds_with _ _ (le-leb _ _ f.shares) (holds_with _ _ (le-leb _ _ f.depths) (holds_with _ _ (le-leb _ _ f.line) (holds_with _ _ (le-leb _ _ f.stated) none_left)))
 
 pub covers_at : (t : List ℤ) → each_class (tree_of t) (class_covers t) ≡ true → (c : ℕ) → c < nodes → is_class (tree_of t) c ≡ true → Covers t c
 unfolding each_class
@@ -77,15 +77,15 @@ stated_covered : (t : List ℤ) → InOrder t → (c : ℕ) → stated_sum (tree
 unfolding stated_limit
 stated_covered t f c =
     by_test (eqb c root)
-    (λ e. rw (cond_true _ (rate t root) 0 e, eqb_true c root e) f.stated.fits)
-    (λ e. rw (cond_false _ (rate t root) 0 e) (omega (arith, no_stated_under t f c (eqb_false c root e))))
+    (λ e. rw (cond_true _ (rate t root) 0 e, eqb-true c root e) f.stated.fits)
+    (λ e. rw (cond_false _ (rate t root) 0 e) (omega (arith, no_stated_under t f c (eqb-false c root e))))
 
 covered_stated : (t : List ℤ) → Root t → ((c : ℕ) → c < nodes → is_class (tree_of t) c ≡ true → Covers t c) → ((k : ℕ) → k < nodes → there (tree_of t) k ≡ true → Node t k) → Stated t
 unfolding stated_limit tree_of is_class
 covered_stated t top covers node =
     record {
       under = λ k hk e s. elim (ℕ_discrete ((tree_of t).parent k) root) [ yes same ↦ same | no other ↦ absurd (elsewhere k hk e s other) ];
-      fits = (covers root (omega arith) (eq_eqb ((tree_of t).sort root) class (ap plus top.sort ∙ plus_pos 1))).stated;
+      fits = (covers root (omega arith) (eq-eqb ((tree_of t).sort root) class (ap plus top.sort ∙ plus_pos 1))).stated;
     }
   where
     -- A stated node under another class has a share of at least 1, and nothing is covered there.
@@ -111,7 +111,7 @@ idle t f k hk other =
     (λ d. by_test (there (tree_of t) k)
     (λ e.
     let l = f.limits k hk e in
-    omega (arith, zarith, eqb_false (plus (place t k sort_at)) client other, eqb_false (plus (place t k sort_at)) class d))
+    omega (arith, zarith, eqb-false (plus (place t k sort_at)) client other, eqb-false (plus (place t k sort_at)) class d))
     (λ e. ap plus (f.empty k hk e waiting_at (omega arith)) ∙ plus_pos 0))
 
 queue_empty : (t : List ℤ) (k : ℕ) → waiting t k ≡ 0 → queue_in_order t k ≡ true
@@ -168,8 +168,8 @@ stages t h =
 class_in : (t : List ℤ) (c : ℕ) → is_class (tree_of t) c ≡ true → Node t c → Covers t c → class_in_order t c ≡ true
 unfolding class_in_order
 class_in t c e n f =
-    holds_with _ _ (le_leb _ _ (n.level e))
-    (holds_with _ _ (eq_eqb _ _ (n.idle e)) (holds_with _ _ (le_leb _ _ f.shares) (holds_with _ _ (le_leb _ _ f.depths) none_left)))
+    holds_with _ _ (le-leb _ _ (n.level e))
+    (holds_with _ _ (eq-eqb _ _ (n.idle e)) (holds_with _ _ (le-leb _ _ f.shares) (holds_with _ _ (le-leb _ _ f.depths) none_left)))
 
 balance_in : (t : List ℤ) (k : ℕ) → Node t k → (is_class (tree_of t) k ≡ true → Covers t k) → balance_in_order t k ≡ true
 unfolding plus minus
@@ -187,9 +187,9 @@ from_stages t s =
     let node = node_at t s.records in
     let covers = covers_at t s.classes in
     let queue = all_at nodes (waiting_in_order t) s.queues in
-    holds_with _ _ (eq_eqb _ _ s.long)
+    holds_with _ _ (eq-eqb _ _ s.long)
     (holds_with _ _ s.header
-    (holds_with _ _ (at_each (λ k. not (there (tree_of t) k)) (λ k. all_below record_length (λ p. is_zero (place t k p))) (λ k hk e. zero_at t s.records k hk (not_true _ e)))
+    (holds_with _ _ (at_each (λ k. not (there (tree_of t) k)) (λ k. all_below record_length (λ p. is_zero (place t k p))) (λ k hk e. zero_at t s.records k hk (not-true _ e)))
     (holds_with _ _ (at_each (there (tree_of t)) (limits_kept t) (λ k hk e. (node k hk e).limits))
     (holds_with _ _ (at_each (there (tree_of t)) (spare_in_order t) (λ k hk e. (node k hk e).spare))
     (holds_with _ _ s.root

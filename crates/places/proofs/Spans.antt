@@ -5,7 +5,7 @@ use mathlib.Core.Bool.{Bool, ◌||◌, ◌&&◌}
 use mathlib.Core.Logic.{⊎_elim}
 use mathlib.Core.List.{List}
 use native.Mathlib.Omega.{arith}
-use borrow.Author.Tests.{ltb_true, ltb_false}
+use borrow.Author.Tests.{ltb-true, ltb-false}
 use lib.ListN.{get_or}
 use lib.Dec.{ltb}
 use lib.IntN.{ℤ, pos}
@@ -53,10 +53,10 @@ both_zeros t k =
     all_intro (record_length - spare_at) (zero (at + spare_at))
     (λ p hp.
     by_test (ltb p spare_length)
-    (λ e. all_at spare_length (zero (at + spare_at)) (and_left (zeros t (at + spare_at) spare_length) (zeros t (at + queue_at) queue_length) h) p (ltb_true p spare_length e))
+    (λ e. all_at spare_length (zero (at + spare_at)) (and_left (zeros t (at + spare_at) spare_length) (zeros t (at + queue_at) queue_length) h) p (ltb-true p spare_length e))
     (λ e.
-    same_number t (at + spare_at + p) (at + queue_at + (p - spare_length)) (omega (arith, ltb_false p spare_length e))
-    ∙ all_at queue_length (zero (at + queue_at)) (and_right (zeros t (at + spare_at) spare_length) (zeros t (at + queue_at) queue_length) h) (p - spare_length) (omega (arith, ltb_false p spare_length e)))))
+    same_number t (at + spare_at + p) (at + queue_at + (p - spare_length)) (omega (arith, ltb-false p spare_length e))
+    ∙ all_at queue_length (zero (at + queue_at)) (and_right (zeros t (at + spare_at) spare_length) (zeros t (at + queue_at) queue_length) h) (p - spare_length) (omega (arith, ltb-false p spare_length e)))))
 
 -- The waiting places from the first that holds no request on.
 pub queue_zeros : (t : List ℤ) (k n : ℕ) → n ≤ queue_length → zeros t (header_length + record_length * k + queue_at + n) (queue_length - n) ≡ all_below queue_length (λ p. ltb p n || is_zero (place t k (queue_at + p)))
@@ -69,11 +69,11 @@ queue_zeros t k n hn =
     by_test (ltb p n) (or_true_left (ltb p n) (is_zero (get_or t (header_length + record_length * k + (queue_at + p)) (pos 0))))
     (λ e.
     or_true_right (ltb p n) (is_zero (get_or t (header_length + record_length * k + (queue_at + p)) (pos 0)))
-    (same_number t (header_length + record_length * k + (queue_at + p)) (header_length + record_length * k + queue_at + n + (p - n)) (omega (arith, ltb_false p n e))
-    ∙ all_at (queue_length - n) (λ p. is_zero (get_or t (header_length + record_length * k + queue_at + n + p) (pos 0))) h (p - n) (omega (arith, ltb_false p n e))))))
+    (same_number t (header_length + record_length * k + (queue_at + p)) (header_length + record_length * k + queue_at + n + (p - n)) (omega (arith, ltb-false p n e))
+    ∙ all_at (queue_length - n) (λ p. is_zero (get_or t (header_length + record_length * k + queue_at + n + p) (pos 0))) h (p - n) (omega (arith, ltb-false p n e))))))
     (λ h.
     all_intro (queue_length - n) (λ p. is_zero (get_or t (header_length + record_length * k + queue_at + n + p) (pos 0)))
     (λ p hp.
-    ⊎_elim (λ e. absurd (omega (arith, ltb_true (n + p) n e)))
+    ⊎_elim (λ e. absurd (omega (arith, ltb-true (n + p) n e)))
     (λ e. same_number t (header_length + record_length * k + queue_at + n + p) (header_length + record_length * k + (queue_at + (n + p))) (omega arith) ∙ e)
     (or_cases (ltb (n + p) n) (is_zero (get_or t (header_length + record_length * k + (queue_at + (n + p))) (pos 0))) (all_at queue_length (λ p. ltb p n || is_zero (get_or t (header_length + record_length * k + (queue_at + p)) (pos 0))) h (n + p) (omega arith)))))

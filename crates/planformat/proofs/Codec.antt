@@ -5,9 +5,9 @@ use mathlib.Core.Bool.{true, false}
 use mathlib.Core.List.{List, [], ◌∷◌, ◌++◌}
 use native.Mathlib.Omega.{arith}
 use native.Mathlib.Decide.{dec_lt}
-use native.Mathlib.Nat.{add_zero}
-use borrow.Author.Tests.{eqb_true, eq_eqb, leb_true, le_leb}
-use lib.ListN.{length, length_append, get_or_eq_default}
+use native.Mathlib.Nat.{add-zero}
+use borrow.Author.Tests.{eqb-true, eq-eqb, leb-true, le-leb}
+use lib.ListN.{length, length-append, get_or-eq_default}
 use Rattle.numbers.specs.Below.{all_below}
 use Rattle.numbers.proofs.Tests.{by_test, same_truth}
 use Rattle.numbers.proofs.Every.{head_holds, rest_hold, none_left, holds_with}
@@ -22,7 +22,7 @@ use Rattle.planformat.proofs.Editions.{mark_value, length_mark, length_share, sh
 -- The lengths of the parts.
 pub length_head : (e : Edition) (p : Plan) → length (head_bytes e p) ≡ start_of e + head_length
 unfolding head_bytes bytes4 bytes2
-length_head e p = length_append (mark_bytes e) (bytes4 p.rate ++ bytes4 p.depth ++ (p.count ∷ [])) ∙ omega (arith, length_mark e)
+length_head e p = length-append (mark_bytes e) (bytes4 p.rate ++ bytes4 p.depth ++ (p.count ∷ [])) ∙ omega (arith, length_mark e)
 
 pub length_entry : (e : Edition) (p : Plan) (i : ℕ) → length (entry_bytes e p i) ≡ entry_length
 unfolding entry_bytes bytes2
@@ -31,7 +31,7 @@ length_entry e p i = refl
 pub length_body : (e : Edition) (p : Plan) (i : ℕ) → length (body_bytes e p i) ≡ body_length e
 unfolding body_bytes bytes4 bytes2
 length_body e p i =
-    length_append ((p.entry i).kind ∷ share_bytes e (p.entry i).share) (bytes4 (p.entry i).depth) ∙ omega (arith, length_share e (p.entry i).share)
+    length-append ((p.entry i).kind ∷ share_bytes e (p.entry i).share) (bytes4 (p.entry i).depth) ∙ omega (arith, length_share e (p.entry i).share)
 
 pub length_entries : (e : Edition) (p : Plan) (n : ℕ) → length (bytes_below n (entry_bytes e p)) ≡ n * entry_length
 length_entries e p = length_below entry_length (entry_bytes e p) (length_entry e p)
@@ -42,8 +42,8 @@ length_bodies e p = length_below (body_length e) (body_bytes e p) (length_body e
 pub length_bytes : (e : Edition) (p : Plan) → length (bytes_of e p) ≡ plan_length e p.count
 unfolding bytes_of
 length_bytes e p =
-    length_append (head_bytes e p ++ bytes_below p.count (entry_bytes e p)) (bytes_below p.count (body_bytes e p))
-    ∙ omega (arith, length_append (head_bytes e p) (bytes_below p.count (entry_bytes e p)), length_head e p, length_entries e p p.count, length_bodies e p p.count)
+    length-append (head_bytes e p ++ bytes_below p.count (entry_bytes e p)) (bytes_below p.count (body_bytes e p))
+    ∙ omega (arith, length-append (head_bytes e p) (bytes_below p.count (entry_bytes e p)), length_head e p, length_entries e p p.count, length_bodies e p p.count)
 
 -- The parts of plan p stand in s where they belong in edition e.
 pub record Holds (s : List ℕ) (e : Edition) (p : Plan) : Type 0 where
@@ -89,7 +89,7 @@ module _ (e : Edition) (p : Plan) where
         count = shown head (start_of e + count_at) count_at (omega arith) (omega arith);
         entry = λ i hi. shows_from (entry_at e i) (omega (arith, length_head e p)) (shows_each entry_length (entry_bytes e p) (length_entry e p) p.count (shows_right (head_bytes e p) entries front) i hi);
         body = λ i hi.
-            shows_from (body_at e p.count i) (omega (arith, length_append (head_bytes e p) entries, length_head e p, length_entries e p p.count))
+            shows_from (body_at e p.count i) (omega (arith, length-append (head_bytes e p) entries, length_head e p, length_entries e p p.count))
             (shows_each (body_length e) (body_bytes e p) (length_body e p) p.count (shows_right (head_bytes e p ++ entries) bodies all) i hi);
       }
 
@@ -111,7 +111,7 @@ hold_bytes s e p long h = shows_all s (bytes_of e p) (long ∙ sym (length_bytes
         each_shows (body_length e) (body_bytes e p) (length_body e p) p.count
         (λ i hi.
         shows_from (0 + length (head_bytes e p ++ bytes_below p.count (entry_bytes e p)) + i * body_length e)
-        (omega (arith, length_append (head_bytes e p) (bytes_below p.count (entry_bytes e p)), length_head e p, length_entries e p p.count))
+        (omega (arith, length-append (head_bytes e p) (bytes_below p.count (entry_bytes e p)), length_head e p, length_entries e p p.count))
         (h.body i hi))
 
 -- Numbers that fit the bytes of a plan of edition e. The disk's rate is less than four bytes FF, so that no plan of the first
@@ -167,7 +167,7 @@ module _ (s : List ℕ) (e : Edition) (p : Plan) (fits : Fits e p) (h : Holds s 
   rate_held = shown4 s (start_of e + disk_rate_at) p.rate (omega (arith, fits.rate)) h.rate
 
   pub held_edition : edition_in s ≡ e
-  held_edition = mark_tells e s p.rate fits.rate h.mark (ap (le4 s) (sym (add_zero (start_of e))) ∙ rate_held)
+  held_edition = mark_tells e s p.rate fits.rate h.mark (ap (le4 s) (sym (add-zero (start_of e))) ∙ rate_held)
 
   held_count : count_in s ≡ p.count
   unfolding count_in
@@ -217,15 +217,15 @@ module _ (s : List ℕ) (e : Edition) (p : Plan) (fits : Fits e p) (h : Holds s 
   pub held_formed : length s ≡ plan_length e p.count → formed s ≡ true
   unfolding formed entry_formed
   held_formed long =
-      holds_with _ _ (le_leb (count_in s) last_count (omega (arith, fits.count, held_count)))
-      (holds_with _ _ (eq_eqb (length s) (plan_length (edition_in s) (count_in s)) (long ∙ sym (ap₂ plan_length held_edition held_count)))
+      holds_with _ _ (le-leb (count_in s) last_count (omega (arith, fits.count, held_count)))
+      (holds_with _ _ (eq-eqb (length s) (plan_length (edition_in s) (count_in s)) (long ∙ sym (ap₂ plan_length held_edition held_count)))
       (holds_with _ _ (all_intro (count_in s) (entry_formed s) each) none_left))
     where
       each : (i : ℕ) → i < count_in s → entry_formed s i ≡ true
       each i hi =
           let hp : i < p.count = omega (arith, held_count) in
-          holds_with _ _ (eq_eqb (le2 s (entry_at (edition_in s) i + entry_offset_at)) (body_at (edition_in s) (count_in s) i) (offset_held i hp (edition_in s) (count_in s) held_edition held_count))
-          (holds_with _ _ (le_leb (entry_in s i).kind (last_kind (edition_in s)) (omega (arith, ap (λ (x : Entry). x.kind) (held_entry i hp), ap last_kind held_edition, fits.kind i hp))) none_left)
+          holds_with _ _ (eq-eqb (le2 s (entry_at (edition_in s) i + entry_offset_at)) (body_at (edition_in s) (count_in s) i) (offset_held i hp (edition_in s) (count_in s) held_edition held_count))
+          (holds_with _ _ (le-leb (entry_in s i).kind (last_kind (edition_in s)) (omega (arith, ap (λ (x : Entry). x.kind) (held_entry i hp), ap last_kind held_edition, fits.kind i hp))) none_left)
 
 -- What a plan is written as is of the edition that was asked for, well formed, and reading it gives the plan back.
 pub written_edition : (e : Edition) (p : Plan) → Fits e p → edition_in (bytes_of e p) ≡ e
@@ -250,10 +250,10 @@ formed_facts s h =
     let rest = rest_hold _ _ h in
     let each = all_at (count_in s) (entry_formed s) (head_holds _ _ (rest_hold _ _ rest)) in
     record {
-      count = leb_true (count_in s) last_count (head_holds _ _ h);
-      long = eqb_true (length s) (plan_length (edition_in s) (count_in s)) (head_holds _ _ rest);
-      offset = λ i hi. eqb_true (le2 s (entry_at (edition_in s) i + entry_offset_at)) (body_at (edition_in s) (count_in s) i) (head_holds _ _ (each i hi));
-      kind = λ i hi. leb_true (entry_in s i).kind (last_kind (edition_in s)) (head_holds _ _ (rest_hold _ _ (each i hi)));
+      count = leb-true (count_in s) last_count (head_holds _ _ h);
+      long = eqb-true (length s) (plan_length (edition_in s) (count_in s)) (head_holds _ _ rest);
+      offset = λ i hi. eqb-true (le2 s (entry_at (edition_in s) i + entry_offset_at)) (body_at (edition_in s) (count_in s) i) (head_holds _ _ (each i hi));
+      kind = λ i hi. leb-true (entry_in s i).kind (last_kind (edition_in s)) (head_holds _ _ (rest_hold _ _ (each i hi)));
     }
 
 -- Well formed bytes are framed.
@@ -266,7 +266,7 @@ unfolding formed
 formed_rest s few long =
     same_truth _ _
     (λ e. head_holds _ _ (rest_hold _ _ (rest_hold _ _ e)))
-    (λ e. holds_with _ _ (le_leb (count_in s) last_count few) (holds_with _ _ (eq_eqb (length s) (plan_length (edition_in s) (count_in s)) long) (holds_with _ _ e none_left)))
+    (λ e. holds_with _ _ (le-leb (count_in s) last_count few) (holds_with _ _ (eq-eqb (length s) (plan_length (edition_in s) (count_in s)) long) (holds_with _ _ e none_left)))
 
 -- Bytes that are shorter than a head are not.
 pub short_not_formed : (s : List ℕ) → length s < head_length → formed s ≡ false
@@ -305,7 +305,7 @@ module _ (s : List ℕ) (f : Formed s) (small : (i : ℕ) → byte_at s i < byte
 
 small_everywhere : (s : List ℕ) → ((i : ℕ) → i < length s → byte_at s i < byte_values) → (i : ℕ) → byte_at s i < byte_values
 unfolding byte_at
-small_everywhere s small i = elim (dec_lt i (length s)) [ yes l ↦ small i l | no l ↦ rw (get_or_eq_default s 0 {n = i} (omega arith)) (omega arith) ]
+small_everywhere s small i = elim (dec_lt i (length s)) [ yes l ↦ small i l | no l ↦ rw (get_or-eq_default s 0 {n = i} (omega arith)) (omega arith) ]
 
 -- Writing what was read from well formed bytes in their edition gives the bytes back.
 pub read_bytes : (s : List ℕ) → formed s ≡ true → ((i : ℕ) → i < length s → byte_at s i < byte_values) → bytes_of (edition_in s) (plan_in s) ≡ s

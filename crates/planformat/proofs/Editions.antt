@@ -4,10 +4,10 @@ use mathlib.Core.Path.{◌≡◌, refl, ◌∙◌}
 use mathlib.Core.Bool.{Bool, true, false}
 use mathlib.Core.List.{List, [], ◌∷◌}
 use native.Mathlib.Omega.{arith}
-use native.Mathlib.Nat.{mul_le_mul_left, mul_le_mul_right}
-use borrow.Author.Tests.{eqb_true, eq_eqb}
+use native.Mathlib.Nat.{mul-le-mul_left, mul-le-mul_right}
+use borrow.Author.Tests.{eqb-true, eq-eqb}
 use lib.Dec.{eqb}
-use lib.ListN.{length, get_or_eq_default}
+use lib.ListN.{length, get_or-eq_default}
 use Rattle.numbers.specs.Below.{all_below}
 use Rattle.numbers.proofs.Tests.{by_test, cond_true, cond_false}
 use Rattle.numbers.proofs.All.{all_at, all_intro}
@@ -51,10 +51,10 @@ share_values_small Second = omega arith
 
 -- Shares of i bodies, of fewer bodies, and as if all were long.
 pub fewer_shares : (e : Edition) (i n : ℕ) → i ≤ n → share_length e * i ≤ share_length e * n
-fewer_shares e i n h = mul_le_mul_left (share_length e) h
+fewer_shares e i n h = mul-le-mul_left (share_length e) h
 
 pub shares_small : (e : Edition) (i : ℕ) → share_length e * i ≤ long_share * i
-shares_small e i = mul_le_mul_right i (share_length_small e)
+shares_small e i = mul-le-mul_right i (share_length_small e)
 
 -- A body before the last ends within the plan.
 pub body_within : (e : Edition) (n i : ℕ) → i < n → body_at e n i + body_length e ≤ plan_length e n
@@ -106,26 +106,26 @@ unmarked s e = cond_false _ Second First e
 -- Fewer than four bytes have no mark: the last of it is read as 0.
 byte_beyond : (s : List ℕ) (i : ℕ) → length s ≤ i → byte_at s i ≡ 0
 unfolding byte_at
-byte_beyond s i h = get_or_eq_default s 0 {n = i} h
+byte_beyond s i h = get_or-eq_default s 0 {n = i} h
 
 pub short_unmarked : (s : List ℕ) → length s < mark_length → all_below mark_length (Marks s) ≡ false
 short_unmarked s short =
     by_test (all_below mark_length (Marks s))
-    (λ e. absurd (omega (arith, byte_beyond s 3 (omega arith), eqb_true (byte_at s 3) mark_byte (all_at mark_length (Marks s) e 3 (omega arith)))))
+    (λ e. absurd (omega (arith, byte_beyond s 3 (omega arith), eqb-true (byte_at s 3) mark_byte (all_at mark_length (Marks s) e 3 (omega arith)))))
     (λ e. e)
 
 -- Four bytes FF make a number that no disk's rate is.
 mark_value_law : (s : List ℕ) → all_below mark_length (Marks s) ≡ true → le4 s 0 ≡ mark_value
 unfolding le4 le2
 mark_value_law s e =
-    let at : (i : ℕ) → i < mark_length → byte_at s i ≡ mark_byte = λ i hi. eqb_true (byte_at s i) mark_byte (all_at mark_length (Marks s) e i hi) in
+    let at : (i : ℕ) → i < mark_length → byte_at s i ≡ mark_byte = λ i hi. eqb-true (byte_at s i) mark_byte (all_at mark_length (Marks s) e i hi) in
     omega (arith, at 0 (omega arith), at 1 (omega arith), at 2 (omega arith), at 3 (omega arith))
 
 -- The mark stands before a head; in the first edition the disk's rate stands in its place, which is less than four bytes FF.
 pub mark_tells : (e : Edition) (s : List ℕ) (rate : ℕ) → rate < mark_value → Shows s 0 (mark_bytes e) → le4 s (start_of e) ≡ rate → edition_in s ≡ e
 unfolding mark_bytes start_of byte_at
 mark_tells First s rate small h head = unmarked s (by_test (all_below mark_length (Marks s)) (λ e. absurd (omega (arith, mark_value_law s e))) (λ e. e))
-mark_tells Second s rate small h head = marked s (all_intro mark_length (Marks s) (λ i hi. eq_eqb (byte_at s i) mark_byte (shown h i i (omega arith) hi ∙ each i hi)))
+mark_tells Second s rate small h head = marked s (all_intro mark_length (Marks s) (λ i hi. eq-eqb (byte_at s i) mark_byte (shown h i i (omega arith) hi ∙ each i hi)))
   where
     each : (i : ℕ) → i < mark_length → byte_at (mark_byte ∷ mark_byte ∷ mark_byte ∷ mark_byte ∷ []) i ≡ mark_byte
     each zero hi = refl
@@ -139,7 +139,7 @@ unfolding mark_bytes
 shows_mark s =
     by_test (all_below mark_length (Marks s))
     (λ e.
-    let at : (i : ℕ) → i < mark_length → byte_at s i ≡ mark_byte = λ i hi. eqb_true (byte_at s i) mark_byte (all_at mark_length (Marks s) e i hi) in
+    let at : (i : ℕ) → i < mark_length → byte_at s i ≡ mark_byte = λ i hi. eqb-true (byte_at s i) mark_byte (all_at mark_length (Marks s) e i hi) in
     rw (marked s e)
     (shows_next (at 0 (omega arith)) (shows_next (at 1 (omega arith)) (shows_next (at 2 (omega arith)) (shows_next (at 3 (omega arith)) (shows_none s 4))))))
     (λ e. rw (unmarked s e) (shows_none s 0))

@@ -3,13 +3,13 @@
 use Prim.Native.Nat.{ℕ, zero, suc, ◌+◌, ◌*◌, ◌-◌, ◌/◌, ◌%◌, ◌<◌}
 use mathlib.Core.Path.{◌≡◌, refl, sym, ap, ◌∙◌}
 use mathlib.Core.List.{List, [], ◌∷◌, ◌++◌}
-use native.Mathlib.Numerals.{add_one}
+use native.Mathlib.Numerals.{add-one}
 use native.Mathlib.Omega.{arith}
 use native.Mathlib.Decide.{dec_lt}
-use native.Mathlib.Nat.{add_zero, zero_add, add_mul_div_left, add_mul_mod_self_left}
-use lib.Arith.{mod_mul}
-use lib.ListN.{length, length_append, get_or_append}
-use lib.Seq.{get_or_append_add, ext_get_or}
+use native.Mathlib.Nat.{add-zero, zero-add, add-mul-div_left, add-mul-mod_self_left}
+use lib.Arith.{mod-mul}
+use lib.ListN.{length, length-append, get_or-append}
+use lib.Seq.{get_or-append-add, ext_get_or}
 use Rattle.numbers.proofs.All.{below_cases}
 use Rattle.planformat.specs.Bytes.{byte_values, pair_values, four_values, byte_at, le2, le4, bytes2, bytes4, bytes_below}
 
@@ -27,7 +27,7 @@ pub shows_from : {s u : List ℕ} {a : ℕ} (b : ℕ) → a ≡ b → Shows s a 
 shows_from b e h = rw e at h
 
 pub shows_self : (s : List ℕ) → Shows s 0 s
-shows_self s = record { byte = λ j hj. same_byte s (0 + j) j (zero_add j) }
+shows_self s = record { byte = λ j hj. same_byte s (0 + j) j (zero-add j) }
 
 -- Bytes that stand in others from their start on, and are as many, are those.
 pub shows_all : (s u : List ℕ) → length s ≡ length u → Shows s 0 u → s ≡ u
@@ -43,23 +43,23 @@ unfolding byte_at
 shows_next {s} {u} {a} {b} e h = record { byte = at }
   where
     at : (j : ℕ) → j < suc (length u) → byte_at s (a + j) ≡ byte_at (b ∷ u) j
-    at zero hj = same_byte s (a + 0) a (add_zero a) ∙ e
+    at zero hj = same_byte s (a + 0) a (add-zero a) ∙ e
     at (suc j) hj = shown h (a + suc j) j (omega arith) (omega arith)
 
 -- Bytes behind bytes.
 byte_left : (u v : List ℕ) (j : ℕ) → j < length u → byte_at (u ++ v) j ≡ byte_at u j
 unfolding byte_at
-byte_left u v j h = get_or_append u v 0 j h
+byte_left u v j h = get_or-append u v 0 j h
 
 byte_right : (u v : List ℕ) (j : ℕ) → byte_at (u ++ v) (length u + j) ≡ byte_at v j
 unfolding byte_at
-byte_right u v j = get_or_append_add u v j 0
+byte_right u v j = get_or-append-add u v j 0
 
 pub shows_left : {s : List ℕ} {a : ℕ} (u v : List ℕ) → Shows s a (u ++ v) → Shows s a u
-shows_left u v h = record { byte = λ j hj. h.byte j (omega (arith, length_append u v)) ∙ byte_left u v j hj }
+shows_left u v h = record { byte = λ j hj. h.byte j (omega (arith, length-append u v)) ∙ byte_left u v j hj }
 
 pub shows_right : {s : List ℕ} {a : ℕ} (u v : List ℕ) → Shows s a (u ++ v) → Shows s (a + length u) v
-shows_right {s} {a} u v h = record { byte = λ j hj. shown h (a + length u + j) (length u + j) (omega arith) (omega (arith, length_append u v)) ∙ byte_right u v j }
+shows_right {s} {a} u v h = record { byte = λ j hj. shown h (a + length u + j) (length u + j) (omega arith) (omega (arith, length-append u v)) ∙ byte_right u v j }
 
 pub shows_both : {s u v : List ℕ} {a : ℕ} → Shows s a u → Shows s (a + length u) v → Shows s a (u ++ v)
 shows_both {s} {u} {v} {a} h k = record { byte = at }
@@ -68,18 +68,18 @@ shows_both {s} {u} {v} {a} h k = record { byte = at }
     behind j m e hm = shown k (a + j) m (omega arith) hm ∙ sym (byte_right u v m) ∙ same_byte (u ++ v) (length u + m) j (sym e)
 
     at : (j : ℕ) → j < length (u ++ v) → byte_at s (a + j) ≡ byte_at (u ++ v) j
-    at j hj = elim (dec_lt j (length u)) [ yes l ↦ h.byte j l ∙ sym (byte_left u v j l) | no l ↦ behind j (j - length u) (omega arith) (omega (arith, length_append u v)) ]
+    at j hj = elim (dec_lt j (length u)) [ yes l ↦ h.byte j l ∙ sym (byte_left u v j l) | no l ↦ behind j (j - length u) (omega arith) (omega (arith, length-append u v)) ]
 
 -- Pieces of one length, one behind the other.
 pub bytes_next : (n : ℕ) (f : ℕ → List ℕ) → bytes_below (n + 1) f ≡ bytes_below n f ++ f n
 unfolding bytes_below
-bytes_next n f = ap (λ (m : ℕ). bytes_below m f) (add_one n)
+bytes_next n f = ap (λ (m : ℕ). bytes_below m f) (add-one n)
 
 module _ (w : ℕ) (f : ℕ → List ℕ) (each : (i : ℕ) → length (f i) ≡ w) where
   pub length_below : (n : ℕ) → length (bytes_below n f) ≡ n * w
   unfolding bytes_below
   length_below zero = omega arith
-  length_below (suc n) = length_append (bytes_below n f) (f n) ∙ omega (arith, length_below n, each n)
+  length_below (suc n) = length-append (bytes_below n f) (f n) ∙ omega (arith, length_below n, each n)
 
   pub shows_each : {s : List ℕ} {a : ℕ} (n : ℕ) → Shows s a (bytes_below n f) → (i : ℕ) → i < n → Shows s (a + i * w) (f i)
   unfolding bytes_below
@@ -100,7 +100,7 @@ unfolding byte_at le2 bytes2
 shown2 s a n h =
     let low : byte_at s a ≡ n % byte_values = shown h a 0 (omega arith) (omega arith) in
     let high : byte_at s (a + 1) ≡ n / byte_values % byte_values = shown h (a + 1) 1 (omega arith) (omega arith) in
-    omega (arith, mod_mul n {m = byte_values} {c = byte_values} (omega arith) (omega arith))
+    omega (arith, mod-mul n {m = byte_values} {c = byte_values} (omega arith) (omega arith))
 
 pub shows2 : (s : List ℕ) (a : ℕ) → byte_at s a < byte_values → byte_at s (a + 1) < byte_values → Shows s a (bytes2 (le2 s a))
 unfolding le2 bytes2
@@ -128,7 +128,7 @@ unfolding bytes2
 low2 l h =
     let low : (l + pair_values * h) % byte_values ≡ l % byte_values = omega arith in
     let split : l + pair_values * h ≡ l + byte_values * (byte_values * h) = omega arith in
-    let high : (l + pair_values * h) / byte_values % byte_values ≡ l / byte_values % byte_values = ap (λ (n : ℕ). n / byte_values % byte_values) split ∙ ap (λ (n : ℕ). n % byte_values) (add_mul_div_left l (byte_values * h) {y = byte_values} (omega arith)) ∙ add_mul_mod_self_left (l / byte_values) byte_values h in
+    let high : (l + pair_values * h) / byte_values % byte_values ≡ l / byte_values % byte_values = ap (λ (n : ℕ). n / byte_values % byte_values) split ∙ ap (λ (n : ℕ). n % byte_values) (add-mul-div_left l (byte_values * h) {y = byte_values} (omega arith)) ∙ add-mul-mod_self_left (l / byte_values) byte_values h in
     cc
 
 pub shows4 : (s : List ℕ) (a : ℕ) → ((i : ℕ) → byte_at s i < byte_values) → Shows s a (bytes4 (le4 s a))

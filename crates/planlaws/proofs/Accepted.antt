@@ -3,10 +3,10 @@ use Prim.Native.Nat.{ℕ, zero, suc, ◌+◌, ◌≤◌, ◌<◌}
 use mathlib.Core.Path.{◌≡◌, refl, sym, ap, ◌∙◌}
 use mathlib.Core.Bool.{Bool, true, not, cond}
 use mathlib.Core.List.{List, [], ◌∷◌}
-use native.Mathlib.Numerals.{add_one}
+use native.Mathlib.Numerals.{add-one}
 use native.Mathlib.Omega.{arith}
 use native.Mathlib.Decide.{ℕ_discrete}
-use borrow.Author.Tests.{eqb_true, eq_eqb, ne_eqb, not_false}
+use borrow.Author.Tests.{eqb-true, eq-eqb, ne_eqb, not-false}
 use lib.Dec.{eqb}
 use lib.ListN.{length}
 use lib.IntN.{ℤ, pos}
@@ -30,7 +30,7 @@ refusing_here r cs ne = first_here r (not (eqb r 0)) cs (ap not (ne_eqb r 0 ne))
 
 pub refusing_past : (r : ℕ) (cs : List Cause) → r ≡ 0 → first (refusing r ∷ cs) ≡ first cs
 unfolding refusing
-refusing_past r cs e = first_past r (not (eqb r 0)) cs (ap not (eq_eqb r 0 e))
+refusing_past r cs e = first_past r (not (eqb r 0)) cs (ap not (eq-eqb r 0 e))
 
 pub none_refusing : (r : ℕ) (cs : List Cause) → first (refusing r ∷ cs) ≡ 0 → (r ≡ 0) × (first cs ≡ 0)
 none_refusing r cs h = elim (ℕ_discrete r 0) [ yes e ↦ (e, sym (refusing_past r cs e) ∙ h) | no ne ↦ absurd (ne (sym (refusing_here r cs ne) ∙ h)) ]
@@ -54,7 +54,7 @@ module _ (t : List ℤ) (p : Plan) where
   after_suc n = for_suc n (λ i u. after_entry u (p.entry i)) t
 
   pub after_next : (n : ℕ) → after_entries t p (n + 1) ≡ after_entry (after_entries t p n) (p.entry n)
-  after_next n = ap (after_entries t p) (add_one n) ∙ after_suc n
+  after_next n = ap (after_entries t p) (add-one n) ∙ after_suc n
 
   pub entries_none : entries_refusal t p 0 ≡ 0
   unfolding entries_refusal
@@ -66,7 +66,7 @@ module _ (t : List ℤ) (p : Plan) where
   entries_suc n h = refusing_past (entries_refusal t p n) (refusing (entry_refusal (after_entries t p n) (p.entry n)) ∷ []) h ∙ refusing_last (entry_refusal (after_entries t p n) (p.entry n))
 
   pub entries_next : (n : ℕ) → entries_refusal t p n ≡ 0 → entries_refusal t p (n + 1) ≡ entry_refusal (after_entries t p n) (p.entry n)
-  entries_next n h = ap (entries_refusal t p) (add_one n) ∙ entries_suc n h
+  entries_next n h = ap (entries_refusal t p) (add-one n) ∙ entries_suc n h
 
   entries_refused : (n : ℕ) → (entries_refusal t p n ≡ 0 → ⊥) → entries_refusal t p (suc n) ≡ entries_refusal t p n
   unfolding entries_refusal
@@ -106,17 +106,17 @@ plan_accepted t s h =
     let h4 = none_refusing _ _ h3.1 in
     let h5 = none_first 15 _ _ (omega arith) h4.1 in
     record {
-      long = eqb_true (length t) table_length (not_false _ h1.0);
-      formed = not_false _ h2.0;
+      long = eqb-true (length t) table_length (not-false _ h1.0);
+      formed = not-false _ h2.0;
       opening = h3.0;
       joining = h4.0;
-      rising = not_false _ h5.0;
+      rising = not-false _ h5.0;
     }
 
 pub accepted_plan : (t : List ℤ) (s : List ℕ) → PlanAccepted t s → plan_refusal t s ≡ 0
 unfolding plan_refusal
 accepted_plan t s a =
-    first_none 1 _ _ (ap not (eq_eqb (length t) table_length a.long))
+    first_none 1 _ _ (ap not (eq-eqb (length t) table_length a.long))
     (first_none 14 _ _ (ap not a.formed)
     (refusing_past _ _ a.opening ∙ refusing_past _ _ a.joining ∙ first_none 15 _ _ (ap not a.rising) first_end))
 

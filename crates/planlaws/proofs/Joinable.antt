@@ -6,7 +6,7 @@ use mathlib.Core.Bool.{true, false, not}
 use mathlib.Core.List.{List, [], ◌∷◌}
 use native.Mathlib.Omega.{arith}
 use native.Mathlib.Decide.{ℕ_discrete}
-use borrow.Author.Tests.{eqb_true, ne_eqb, le_ltb}
+use borrow.Author.Tests.{eqb-true, ne_eqb, le-ltb}
 use lib.Dec.{eqb}
 use lib.IntN.{ℤ, pos}
 use Rattle.numbers.specs.Whole.{plus, within_ℤ}
@@ -44,7 +44,7 @@ same_twice a b c k m n =
 
 no_client : (tree : Tree) (k : ℕ) → is_class tree k ≡ true → is_client tree k ≡ false
 unfolding is_class is_client
-no_client tree k e = ne_eqb (tree.sort k) client (λ two. omega (arith, eqb_true (tree.sort k) class e))
+no_client tree k e = ne_eqb (tree.sort k) client (λ two. omega (arith, eqb-true (tree.sort k) class e))
 
 pub limited_parent : (t : List ℤ) (k : ℕ) → Limits t k → (tree_of t).parent k < nodes
 unfolding tree_of
@@ -163,4 +163,4 @@ module _ (t v : List ℤ) (k : ℕ) (x : Next t v k) where
       (first_none 3 _ _ (ap not x.above)
       (first_none 4 _ _ x.free
       (first_none 5 _ _ (no_client (tree_of v) ((tree_of t).parent k) parent_class)
-      (first_none 6 _ _ not_last (first_none 7 _ _ (le_ltb _ _ shares_kept) (first_none 8 _ _ (le_ltb _ _ depths_kept) (first_none 16 _ _ (ap not (of_stated_law _ joined_stated)) first_end))))))))
+      (first_none 6 _ _ not_last (first_none 7 _ _ (le-ltb _ _ shares_kept) (first_none 8 _ _ (le-ltb _ _ depths_kept) (first_none 16 _ _ (ap not (of_stated_law _ joined_stated)) first_end))))))))

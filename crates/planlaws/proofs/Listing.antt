@@ -3,12 +3,12 @@
 use Prim.Native.Nat.{ℕ, zero, suc, ◌+◌, ◌-◌, ◌/◌, ◌%◌, ◌≤◌, ◌<◌}
 use mathlib.Core.Path.{◌≡◌, sym, ap, ◌∙◌}
 use mathlib.Core.Bool.{true, false, not}
-use mathlib.Core.List.{List, [], ◌∷◌, ◌++◌, append_nil}
-use native.Mathlib.Numerals.{add_one}
+use mathlib.Core.List.{List, [], ◌∷◌, ◌++◌, append-nil}
+use native.Mathlib.Numerals.{add-one}
 use native.Mathlib.Omega.{arith}
-use borrow.Author.Tests.{eqb_true, eqb_false, eq_eqb, ne_eqb, not_true}
-use lib.ListN.{length, get_or, length_append, get_or_append}
-use lib.Seq.{get_or_append_seam}
+use borrow.Author.Tests.{eqb-true, eqb-false, eq-eqb, ne_eqb, not-true}
+use lib.ListN.{length, get_or, length-append, get_or-append}
+use lib.Seq.{get_or-append_seam}
 use Rattle.numbers.proofs.Tests.{by_test, true_false, cond_true, cond_false}
 use Rattle.numbers.proofs.Every.{head_holds, rest_hold, none_left, holds_with}
 use Rattle.numbers.proofs.All.{below_cases}
@@ -51,10 +51,10 @@ stands_node : (tree : Tree) (m : ℕ) → stands tree m ≡ true → StandsAt tr
 unfolding stands standing
 stands_node tree m h =
     let rest = rest_hold _ _ h in
-    let level : tree.level (m % nodes) ≡ m / nodes = eqb_true (tree.level (m % nodes)) (m / nodes) (head_holds _ _ (rest_hold _ _ rest)) in
+    let level : tree.level (m % nodes) ≡ m / nodes = eqb-true (tree.level (m % nodes)) (m / nodes) (head_holds _ _ (rest_hold _ _ rest)) in
     record {
       small = omega arith;
-      below = eqb_false (m % nodes) root (not_true _ (head_holds _ _ rest));
+      below = eqb-false (m % nodes) root (not-true _ (head_holds _ _ rest));
       there = head_holds _ _ h;
       here = omega arith;
     }
@@ -64,7 +64,7 @@ unfolding stands standing
 node_stands tree m k s =
     let node : m % nodes ≡ k = omega (arith, s.small, s.here) in
     let level : tree.level k ≡ m / nodes = omega (arith, s.small, s.here) in
-    rw node (holds_with _ _ s.there (holds_with _ _ (ap not (ne_eqb k root s.below)) (holds_with _ _ (eq_eqb (tree.level k) (m / nodes) level) none_left)))
+    rw node (holds_with _ _ s.there (holds_with _ _ (ap not (ne_eqb k root s.below)) (holds_with _ _ (eq-eqb (tree.level k) (m / nodes) level) none_left)))
 
 -- One step, where a node stands at m and where none does.
 module _ (tree : Tree) (m : ℕ) (xs : List ℕ) (l : Lists tree m xs) where
@@ -72,13 +72,13 @@ module _ (tree : Tree) (m : ℕ) (xs : List ℕ) (l : Lists tree m xs) where
   with_node_law k s = record { member = member; found = found; up = up }
     where
       long : length (xs ++ (k ∷ [])) ≡ suc (length xs)
-      long = length_append xs (k ∷ []) ∙ omega arith
+      long = length-append xs (k ∷ []) ∙ omega arith
 
       first : (i : ℕ) → i < length xs → get_or (xs ++ (k ∷ [])) i 0 ≡ get_or xs i 0
-      first i hi = get_or_append xs (k ∷ []) 0 i hi
+      first i hi = get_or-append xs (k ∷ []) 0 i hi
 
       last : get_or (xs ++ (k ∷ [])) (length xs) 0 ≡ k
-      last = get_or_append_seam xs k [] 0
+      last = get_or-append_seam xs k [] 0
 
       member : (i : ℕ) → i < length (xs ++ (k ∷ [])) → Listed tree (suc m) (get_or (xs ++ (k ∷ [])) i 0)
       member i hi =
@@ -114,17 +114,17 @@ lists_below tree (suc m) =
     let before = lists_below tree m in
     by_test (stands tree m)
     (λ e. rw (cond_true (stands tree m) (m % nodes ∷ []) [] e) (with_node_law tree m (order_below tree m) before (m % nodes) (stands_node tree m e)))
-    (λ e. rw (cond_false (stands tree m) (m % nodes ∷ []) [] e, append_nil) (without_node tree m (order_below tree m) before e))
+    (λ e. rw (cond_false (stands tree m) (m % nodes ∷ []) [] e, append-nil) (without_node tree m (order_below tree m) before e))
 
 -- The list one step on, as a loop goes.
 pub order_more : (tree : Tree) (m : ℕ) → stands tree m ≡ true → order_below tree (m + 1) ≡ order_below tree m ++ (m % nodes ∷ [])
 unfolding order_below
-order_more tree m e = ap (order_below tree) (add_one m) ∙ ap (λ (xs : List ℕ). order_below tree m ++ xs) (cond_true (stands tree m) (m % nodes ∷ []) [] e)
+order_more tree m e = ap (order_below tree) (add-one m) ∙ ap (λ (xs : List ℕ). order_below tree m ++ xs) (cond_true (stands tree m) (m % nodes ∷ []) [] e)
 
 pub order_stays : (tree : Tree) (m : ℕ) → stands tree m ≡ false → order_below tree (m + 1) ≡ order_below tree m
 unfolding order_below
 order_stays tree m e =
-    ap (order_below tree) (add_one m) ∙ ap (λ (xs : List ℕ). order_below tree m ++ xs) (cond_false (stands tree m) (m % nodes ∷ []) [] e) ∙ append_nil (order_below tree m)
+    ap (order_below tree) (add-one m) ∙ ap (λ (xs : List ℕ). order_below tree m ++ xs) (cond_false (stands tree m) (m % nodes ∷ []) [] e) ∙ append-nil (order_below tree m)
 
 order_lists : (tree : Tree) → Lists tree standings (order tree)
 unfolding order

@@ -6,7 +6,7 @@ use mathlib.Core.Bool.{true, false, not}
 use mathlib.Core.List.{List}
 use native.Mathlib.Omega.{arith}
 use native.Mathlib.Decide.{dec_lt}
-use borrow.Author.Tests.{not_true, not_false}
+use borrow.Author.Tests.{not-true, not-false}
 use lib.ListN.{length}
 use lib.IntN.{ℤ, pos}
 use Rattle.numbers.specs.Whole.{plus}
@@ -40,7 +40,7 @@ pub record Unstated (tree : Tree) : Type 0 where
 
 pub unstated_of_law : (tree : Tree) → any_stated tree ≡ false → Unstated tree
 unfolding any_stated each_node
-unstated_of_law tree h = record { node = λ k hk e. not_true _ (each_at (there tree) (λ j. not (is_stated tree j)) (not_false _ h) k hk e) }
+unstated_of_law tree h = record { node = λ k hk e. not-true _ (each_at (there tree) (λ j. not (is_stated tree j)) (not-false _ h) k hk e) }
 
 pub of_unstated : (tree : Tree) → Unstated tree → any_stated tree ≡ false
 unfolding any_stated each_node

@@ -7,7 +7,7 @@ use mathlib.Core.Bool.{true, false}
 use mathlib.Core.List.{List}
 use native.Mathlib.Omega.{arith}
 use native.Mathlib.Decide.{dec_lt, ℕ_discrete}
-use borrow.Author.Tests.{ne_eqb, ltb_true}
+use borrow.Author.Tests.{ne_eqb, ltb-true}
 use lib.ListN.{length}
 use lib.IntN.{ℤ}
 use Rattle.numbers.specs.Whole.{plus}
@@ -52,7 +52,7 @@ module _ (p : Plan) (u : List ℤ) (known : (i : ℕ) → i < p.count → (p.ent
   unfolding entered_node rising
   entered_rises =
       rises_by_steps (standing (tree_of u)) p.count entered_node
-      (λ i h. ltb_true _ _ (all_at _ _ r i (omega arith)))
+      (λ i h. ltb-true _ _ (all_at _ _ r i (omega arith)))
 
   listed_within : Within (length (order (tree_of u))) p.count (listed (tree_of u)) entered_node
   unfolding entered_node

@@ -5,7 +5,7 @@ use mathlib.Core.Path.{◌≡◌, sym, ap, ◌∙◌}
 use mathlib.Core.Bool.{cond}
 use native.Mathlib.Omega.{arith}
 use native.Mathlib.Decide.{ℕ_discrete, dec_lt}
-use borrow.Author.Tests.{eqb_true, eqb_false}
+use borrow.Author.Tests.{eqb-true, eqb-false}
 use lib.Dec.{eqb}
 use Rattle.numbers.proofs.Tests.{by_test, cond_true, cond_false}
 use Rattle.numbers.proofs.All.{below_cases}
@@ -86,7 +86,7 @@ module _ (m n : ℕ) (f : ℕ → ℕ) (d : Different (suc n) f) where
   put_cases : (P : Type 0) (i : ℕ) → (f i ≡ m → without_last m n f i ≡ f n → P) → ((f i ≡ m → ⊥) → without_last m n f i ≡ f i → P) → P
   unfolding without_last
   put_cases P i here other =
-      by_test (eqb (f i) m) (λ e. here (eqb_true (f i) m e) (cond_true (eqb (f i) m) (f n) (f i) e)) (λ e. other (eqb_false (f i) m e) (cond_false (eqb (f i) m) (f n) (f i) e))
+      by_test (eqb (f i) m) (λ e. here (eqb-true (f i) m e) (cond_true (eqb (f i) m) (f n) (f i) e)) (λ e. other (eqb-false (f i) m e) (cond_false (eqb (f i) m) (f n) (f i) e))
 
   put_small : ((i : ℕ) → i < suc n → f i < suc m) → (i : ℕ) → i < n → without_last m n f i < m
   put_small small i hi =

@@ -7,7 +7,7 @@ use mathlib.Core.Bool.{true, false, not}
 use mathlib.Core.Logic.{◌↔◌}
 use mathlib.Core.List.{List, [], ◌∷◌, ◌++◌}
 use native.Mathlib.Omega.{arith}
-use borrow.Author.Tests.{eq_eqb, le_ltb, ltb_false, not_false}
+use borrow.Author.Tests.{eq-eqb, le-ltb, ltb-false, not-false}
 use lib.Dec.{eqb}
 use lib.ListN.{length, take, drop}
 use lib.Seq.{take_at}
@@ -123,17 +123,17 @@ module _ (t : List ℤ) (edition : ℤ) (buffer : List ℕ) where
       let h2 = none_first 2 _ _ (omega arith) h1.1 in
       let h3 = none_first 13 _ _ (omega arith) h2.1 in
       let h4 = none_first 16 _ _ (omega arith) h3.1 in
-      record { order = not_false _ h1.0; told = not_false _ h2.0; room = ltb_false _ _ h3.0; kinds = h4.0 }
+      record { order = not-false _ h1.0; told = not-false _ h2.0; room = ltb-false _ _ h3.0; kinds = h4.0 }
 
   pub passed_write : WritePassed t edition buffer → write_refusal t edition buffer ≡ 0
   unfolding write_refusal
   passed_write w =
       first_none 1 _ _ (ap not w.order)
-      (first_none 2 _ _ (ap not w.told) (first_none 13 _ _ (le_ltb _ _ w.room) (first_none 16 _ _ w.kinds first_end)))
+      (first_none 2 _ _ (ap not w.told) (first_none 13 _ _ (le-ltb _ _ w.room) (first_none 16 _ _ w.kinds first_end)))
 
   pub write_leaves : write_refusal t edition buffer ≡ 0 → write_buffer t edition buffer ≡ plan_bytes (edition_told edition) t ++ drop (length (plan_bytes (edition_told edition) t)) buffer
   unfolding write_buffer
-  write_leaves h = cond_true (eqb (write_refusal t edition buffer) 0) _ buffer (eq_eqb (write_refusal t edition buffer) 0 h)
+  write_leaves h = cond_true (eqb (write_refusal t edition buffer) 0) _ buffer (eq-eqb (write_refusal t edition buffer) 0 h)
 
   pub write_front : write_refusal t edition buffer ≡ 0 → take (length (plan_bytes (edition_told edition) t)) (write_buffer t edition buffer) ≡ plan_bytes (edition_told edition) t
   write_front h =

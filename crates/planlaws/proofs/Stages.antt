@@ -4,8 +4,8 @@ use mathlib.Core.Path.{◌≡◌, refl, sym, ap, ◌∙◌}
 use mathlib.Core.Bool.{true, false, not}
 use mathlib.Core.List.{List}
 use native.Mathlib.Omega.{arith}
-use borrow.Author.Tests.{eq_eqb, ne_eqb}
-use lib.ListN.{length, length_replicate}
+use borrow.Author.Tests.{eq-eqb, ne_eqb}
+use lib.ListN.{length, length-replicate}
 use lib.IntN.{ℤ, pos}
 use Rattle.numbers.proofs.Tests.{by_test}
 use Rattle.definitions.specs.Limits.{table_length, nodes, last_level}
@@ -28,12 +28,12 @@ wrong_length t s ne = first_here 1 _ _ (ap not (ne_eqb (length t) table_length n
 -- The check gives what any table of right length gives.
 pub check_any : (t : List ℤ) (s : List ℕ) → length t ≡ table_length → check_answer s ≡ plan_refusal t s
 unfolding check_answer blank
-check_any t s long = plan_refusal_any blank t s (length_replicate table_length (pos 0) ∙ sym long)
+check_any t s long = plan_refusal_any blank t s (length-replicate table_length (pos 0) ∙ sym long)
 
 module _ (t : List ℤ) (s : List ℕ) (long : length t ≡ table_length) where
   pub wrong_form : formed s ≡ false → plan_refusal t s ≡ 14
   unfolding plan_refusal
-  wrong_form h = first_past 1 _ _ (ap not (eq_eqb (length t) table_length long)) ∙ first_here 14 _ _ (ap not h)
+  wrong_form h = first_past 1 _ _ (ap not (eq-eqb (length t) table_length long)) ∙ first_here 14 _ _ (ap not h)
 
   -- No plan is so long.
   pub too_long : plan_length Second last_count < length s → plan_refusal t s ≡ 14
@@ -45,17 +45,17 @@ module _ (t : List ℤ) (s : List ℕ) (long : length t ≡ table_length) where
   module _ (right : formed s ≡ true) where
     pub wrong_open : (open_refusal t (pos (plan_in s).rate) (pos (plan_in s).depth) ≡ 0 → ⊥) → plan_refusal t s ≡ open_refusal t (pos (plan_in s).rate) (pos (plan_in s).depth)
     unfolding plan_refusal
-    wrong_open ne = first_past 1 _ _ (ap not (eq_eqb (length t) table_length long)) ∙ first_past 14 _ _ (ap not right) ∙ refusing_here _ _ ne
+    wrong_open ne = first_past 1 _ _ (ap not (eq-eqb (length t) table_length long)) ∙ first_past 14 _ _ (ap not right) ∙ refusing_here _ _ ne
 
     module _ (opens : open_refusal t (pos (plan_in s).rate) (pos (plan_in s).depth) ≡ 0) where
       pub wrong_join : (entries_refusal (opened_for t (plan_in s)) (plan_in s) (plan_in s).count ≡ 0 → ⊥) → plan_refusal t s ≡ entries_refusal (opened_for t (plan_in s)) (plan_in s) (plan_in s).count
       unfolding plan_refusal
-      wrong_join ne = first_past 1 _ _ (ap not (eq_eqb (length t) table_length long)) ∙ first_past 14 _ _ (ap not right) ∙ refusing_past _ _ opens ∙ refusing_here _ _ ne
+      wrong_join ne = first_past 1 _ _ (ap not (eq-eqb (length t) table_length long)) ∙ first_past 14 _ _ (ap not right) ∙ refusing_past _ _ opens ∙ refusing_here _ _ ne
 
       pub wrong_order : entries_refusal (opened_for t (plan_in s)) (plan_in s) (plan_in s).count ≡ 0 → rising (tree_of (joined_for t (plan_in s))) (plan_in s) ≡ false → plan_refusal t s ≡ 15
       unfolding plan_refusal
       wrong_order joins h =
-          first_past 1 _ _ (ap not (eq_eqb (length t) table_length long))
+          first_past 1 _ _ (ap not (eq-eqb (length t) table_length long))
           ∙ first_past 14 _ _ (ap not right)
           ∙ refusing_past _ _ opens
           ∙ refusing_past _ _ joins

@@ -8,7 +8,7 @@ use mathlib.Core.Bool.{true, false, not}
 use mathlib.Core.List.{List}
 use native.Mathlib.Omega.{arith}
 use native.Mathlib.Decide.{ℕ_discrete}
-use borrow.Author.Tests.{eq_eqb, lt_ltb}
+use borrow.Author.Tests.{eq-eqb, lt-ltb}
 use lib.Dec.{ltb}
 use lib.ListN.{length}
 use lib.IntN.{ℤ, pos}
@@ -184,7 +184,7 @@ module _ (t : List ℤ) (f : InOrder t) (q : Plan) (same : SamePlan q (plan_of t
     opens : open_refusal u (pos q.rate) (pos q.depth) ≡ 0
     unfolding open_refusal open_limits plan_of
     opens =
-        first_none 1 _ _ (ap not (eq_eqb (length u) table_length long))
+        first_none 1 _ _ (ap not (eq-eqb (length u) table_length long))
         (first_none 2 _ _ (ap not (holds_with _ _ (rw rate_is f.root.rate) (holds_with _ _ (rw depth_is limits.depth) none_left))) first_end)
       where
         limits : Limits t root
@@ -244,7 +244,7 @@ module _ (t : List ℤ) (f : InOrder t) (q : Plan) (same : SamePlan q (plan_of t
         each : (i : ℕ) → i < q.count - 1 → ltb (standing (tree_of t) (q.entry i).node) (standing (tree_of t) (q.entry (suc i)).node) ≡ true
         each i hi =
             rw (node_is i (omega (arith, count_is)), node_is (suc i) (omega (arith, count_is)))
-            (lt_ltb _ _ ((listed_rises (tree_of t)).up i (suc i) (omega arith) (omega (arith, count_is))))
+            (lt-ltb _ _ ((listed_rises (tree_of t)).up i (suc i) (omega arith) (omega (arith, count_is))))
 
 -- What was written is accepted, it is of the edition that was asked for, and the table shows the same tree and disk rate.
 module _ (e : Edition) (t u : List ℤ) (h : in_order t ≡ true) (kinds : unwritable e (tree_of t) ≡ false) (long : length u ≡ table_length) where

@@ -6,8 +6,8 @@ use mathlib.Core.List.{List}
 use native.Mathlib.Omega.{arith}
 use native.Mathlib.Decide.{ℕ_discrete}
 use borrow.Author.Tests.{ne_eqb}
-use lib.ListN.{length, get_or, set, length_set}
-use lib.Seq.{get_or_set_same, get_or_set_other}
+use lib.ListN.{length, get_or, set, length-set}
+use lib.Seq.{get_or-set_same, get_or-set_other}
 use lib.IntN.{ℤ}
 use Rattle.numbers.specs.Below.{all_below}
 use Rattle.numbers.proofs.All.{all_intro}
@@ -31,7 +31,7 @@ none_below t marked long = record { long = long; set = λ j hj. absurd (omega ar
 
 -- A mark stays set where another is set.
 still_set : (marked : List Bool) (m x : ℕ) → m < length marked → get_or marked x false ≡ true → get_or (set marked m true) x false ≡ true
-still_set marked m x h e = elim (ℕ_discrete x m) [ yes same ↦ rw same (get_or_set_same marked m true false h) | no other ↦ get_or_set_other marked m x true false other ∙ e ]
+still_set marked m x h e = elim (ℕ_discrete x m) [ yes same ↦ rw same (get_or-set_same marked m true false h) | no other ↦ get_or-set_other marked m x true false other ∙ e ]
 
 -- The marks of all lower nodes are set, and those of the first n requests of node k.
 pub record Marking (t : List ℤ) (marked : List Bool) (k n : ℕ) : Type 0 where
@@ -49,10 +49,10 @@ marking_next t marked k n m small is f =
     record {
       below =
           record {
-            long = length_set marked m true ∙ long;
+            long = length-set marked m true ∙ long;
             set = λ j hj i hi. still_set marked m (mark_of (arrival t j i)) (omega arith) (f.below.set j hj i hi);
           };
-      here = λ i hi. elim (ℕ_discrete i n) [ yes same ↦ rw (same, ← is) (get_or_set_same marked m true false (omega arith)) | no other ↦ still_set marked m (mark_of (arrival t k i)) (omega arith) (f.here i (omega arith)) ];
+      here = λ i hi. elim (ℕ_discrete i n) [ yes same ↦ rw (same, ← is) (get_or-set_same marked m true false (omega arith)) | no other ↦ still_set marked m (mark_of (arrival t k i)) (omega arith) (f.here i (omega arith)) ];
     }
 
 pub marking_end : (t : List ℤ) (marked : List Bool) (k n : ℕ) → n ≡ waiting t k → Marking t marked k n → MarkedBelow t marked (k + 1)

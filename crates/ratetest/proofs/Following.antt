@@ -6,9 +6,9 @@ use mathlib.Core.Bool.{true, ◌&&◌}
 use mathlib.Core.Logic.{⊎_elim}
 use mathlib.Core.List.{List}
 use native.Mathlib.Omega.{arith}
-use native.Mathlib.Nat.{le_div_iff_mul_le}
+use native.Mathlib.Nat.{le-div_iff_mul-le}
 use native.Mathlib.Decide.{dec_lt, ℕ_discrete}
-use borrow.Author.Tests.{eqb_true, eqb_false, eq_eqb, ne_eqb, leb_true, le_leb, ltb_true, lt_ltb}
+use borrow.Author.Tests.{eqb-true, eqb-false, eq-eqb, ne_eqb, leb-true, le-leb, ltb-true, lt-ltb}
 use lib.Dec.{eqb, leb, ltb}
 use lib.IntN.{ℤ, pos}
 use Rattle.numbers.specs.Whole.{plus}
@@ -32,33 +32,33 @@ use Rattle.ratetest.specs.Following.{rate_follows, Testable}
 -- A quotient by multiplication: r is n / d rounded down just where r x d is at most n and n less than d more.
 module _ (r n d : ℕ) (some : 0 < d) where
   least : r ≤ n / d → r * d ≤ n
-  least h = (le_div_iff_mul_le {k = d} {x = r} {y = n} some).0 h
+  least h = (le-div_iff_mul-le {k = d} {x = r} {y = n} some).0 h
 
   at_least : r * d ≤ n → r ≤ n / d
-  at_least h = (le_div_iff_mul_le {k = d} {x = r} {y = n} some).1 h
+  at_least h = (le-div_iff_mul-le {k = d} {x = r} {y = n} some).1 h
 
   next : suc r ≤ n / d → r * d + d ≤ n
-  next h = omega (arith, (le_div_iff_mul_le {k = d} {x = suc r} {y = n} some).0 h)
+  next h = omega (arith, (le-div_iff_mul-le {k = d} {x = suc r} {y = n} some).0 h)
 
   at_next : r * d + d ≤ n → suc r ≤ n / d
-  at_next h = (le_div_iff_mul_le {k = d} {x = suc r} {y = n} some).1 (omega arith)
+  at_next h = (le-div_iff_mul-le {k = d} {x = suc r} {y = n} some).1 (omega arith)
 
   pub quotient_by_product : (leb (r * d) n && ltb n (r * d + d)) ≡ eqb r (n / d)
   quotient_by_product =
       same_truth _ _
       (λ h.
-      let low = at_least (leb_true (r * d) n (and_left _ _ h)) in
-      let high = ltb_true n (r * d + d) (and_right (leb (r * d) n) _ h) in
-      eq_eqb r (n / d) (elim (dec_lt r (n / d)) [ yes more ↦ absurd (omega (arith, next more)) | no most ↦ omega arith ]))
+      let low = at_least (leb-true (r * d) n (and_left _ _ h)) in
+      let high = ltb-true n (r * d + d) (and_right (leb (r * d) n) _ h) in
+      eq-eqb r (n / d) (elim (dec_lt r (n / d)) [ yes more ↦ absurd (omega (arith, next more)) | no most ↦ omega arith ]))
       (λ h.
-      let same = eqb_true r (n / d) h in
-      and_true _ _ (le_leb (r * d) n (least (omega arith)))
-      (lt_ltb n (r * d + d) (elim (dec_lt n (r * d + d)) [ yes less ↦ less | no more ↦ absurd (omega (arith, at_next (omega arith))) ])))
+      let same = eqb-true r (n / d) h in
+      and_true _ _ (le-leb (r * d) n (least (omega arith)))
+      (lt-ltb n (r * d + d) (elim (dec_lt n (r * d + d)) [ yes less ↦ less | no more ↦ absurd (omega (arith, at_next (omega arith))) ])))
 
 -- The root has no class, so nothing is asked of it.
 pub root_follows : (t : List ℤ) → all_below 1 (λ k. test_if (there (tree_of t) k) (rate_follows t) k) ≡ true
 unfolding rate_follows
-root_follows t = all_intro 1 _ (λ k hk. at_test (there (tree_of t) k) (rate_follows t) k (λ e. or_true_left (eqb k root) _ (eq_eqb k root (omega arith))))
+root_follows t = all_intro 1 _ (λ k hk. at_test (there (tree_of t) k) (rate_follows t) k (λ e. or_true_left (eqb k root) _ (eq-eqb k root (omega arith))))
 
 pub child_follows : (t : List ℤ) (k : ℕ) → 0 < k → rate_follows t k ≡ eqb (rate t k) (child_rate (tree_of t) (rate t ((tree_of t).parent k)) k)
 unfolding rate_follows
@@ -69,13 +69,13 @@ module _ (t : List ℤ) (f : Testable t) where
   follows_at : (k : ℕ) → (k ≡ root → ⊥) → rate_follows t k ≡ true → rate t k ≡ child_rate (tree_of t) (rate t ((tree_of t).parent k)) k
   unfolding rate_follows
   follows_at k ne h =
-      ⊎_elim (λ e. absurd (ne (eqb_true k root e))) (λ e. eqb_true (rate t k) _ e)
+      ⊎_elim (λ e. absurd (ne (eqb-true k root e))) (λ e. eqb-true (rate t k) _ e)
       (or_cases (eqb k root) _ h)
 
   at_follows : (k : ℕ) → ((k ≡ root → ⊥) → rate t k ≡ child_rate (tree_of t) (rate t ((tree_of t).parent k)) k) → rate_follows t k ≡ true
   unfolding rate_follows
   at_follows k h =
-      by_test (eqb k root) (or_true_left (eqb k root) _) (λ e. or_true_right (eqb k root) _ (eq_eqb (rate t k) _ (h (eqb_false k root e))))
+      by_test (eqb k root) (or_true_left (eqb k root) _) (λ e. or_true_right (eqb k root) _ (eq-eqb (rate t k) _ (h (eqb-false k root e))))
 
   -- All follow: then all are right.
   right : ((k : ℕ) → k < nodes → there (tree_of t) k ≡ true → (k ≡ root → ⊥) → rate t k ≡ child_rate (tree_of t) (rate t ((tree_of t).parent k)) k) → (l k : ℕ) → At (tree_of t) l k → rate t k ≡ rate_in (tree_of t) (rate t root) k

@@ -4,7 +4,7 @@ use mathlib.Core.Path.{◌≡◌, sym, ◌∙◌}
 use mathlib.Core.Bool.{true, false}
 use mathlib.Core.Logic.{⊎_elim}
 use mathlib.Core.List.{List}
-use borrow.Author.Tests.{leb_true, le_leb, eqb_true, eq_eqb}
+use borrow.Author.Tests.{leb-true, le-leb, eqb-true, eq-eqb}
 use lib.Dec.{eqb}
 use lib.IntN.{ℤ}
 use Rattle.numbers.specs.Whole.{plus, minus, within_ℤ}
@@ -44,12 +44,12 @@ node_of t k h =
       limits = head_holds _ _ h;
       spare = head_holds _ _ h1;
       parent = head_holds _ _ h2;
-      level = λ e. leb_true ((tree_of t).level k) last_class_level (head_holds _ _ (placed e));
-      idle = λ e. eqb_true (waiting t k) 0 (head_holds _ _ (rest_hold _ _ (placed e)));
-      most = leb_true (plus (balance t k)) (depth_grains t k) (head_holds _ _ b);
-      least = leb_true (minus (balance t k)) (last_level * depth_grains t k) (head_holds _ _ b1);
+      level = λ e. leb-true ((tree_of t).level k) last_class_level (head_holds _ _ (placed e));
+      idle = λ e. eqb-true (waiting t k) 0 (head_holds _ _ (rest_hold _ _ (placed e)));
+      most = leb-true (plus (balance t k)) (depth_grains t k) (head_holds _ _ b);
+      least = leb-true (minus (balance t k)) (last_level * depth_grains t k) (head_holds _ _ b1);
       client = λ e.
-          ⊎_elim (λ d. absurd (true_false d e)) (λ d. eqb_true (minus (balance t k)) 0 d)
+          ⊎_elim (λ d. absurd (true_false d e)) (λ d. eqb-true (minus (balance t k)) 0 d)
           (or_cases (is_class (tree_of t) k) (eqb (minus (balance t k)) 0) (head_holds _ _ (rest_hold _ _ b1)));
       rate = head_holds _ _ (rest_hold _ _ h4);
     }
@@ -60,13 +60,13 @@ of_node t k f =
     holds_with _ _ f.limits
     (holds_with _ _ f.spare
     (holds_with _ _ f.parent
-    (holds_with _ _ (at_test (is_class (tree_of t) k) (class_placed t) k (λ e. holds_with _ _ (le_leb _ _ (f.level e)) (holds_with _ _ (eq_eqb _ _ (f.idle e)) none_left)))
+    (holds_with _ _ (at_test (is_class (tree_of t) k) (class_placed t) k (λ e. holds_with _ _ (le-leb _ _ (f.level e)) (holds_with _ _ (eq-eqb _ _ (f.idle e)) none_left)))
     (holds_with _ _
-    (holds_with _ _ (le_leb _ _ f.most)
-    (holds_with _ _ (le_leb _ _ f.least)
+    (holds_with _ _ (le-leb _ _ f.most)
+    (holds_with _ _ (le-leb _ _ f.least)
     (holds_with _ _
     (by_test (is_class (tree_of t) k) (or_true_left (is_class (tree_of t) k) (eqb (minus (balance t k)) 0))
-    (λ e. or_true_right (is_class (tree_of t) k) (eqb (minus (balance t k)) 0) (eq_eqb _ _ (f.client e))))
+    (λ e. or_true_right (is_class (tree_of t) k) (eqb (minus (balance t k)) 0) (eq-eqb _ _ (f.client e))))
     none_left)))
     (holds_with _ _ f.rate none_left)))))
 

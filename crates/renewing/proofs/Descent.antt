@@ -5,9 +5,9 @@ use mathlib.Core.Bool.{Bool, true, false, ◌||◌}
 use mathlib.Core.List.{List}
 use native.Mathlib.Omega.{arith}
 use native.Mathlib.Decide.{dec_lt, ℕ_discrete}
-use borrow.Author.Tests.{eqb_true, eq_eqb}
-use lib.ListN.{length, get_or, set, length_set, replicate, length_replicate, get_or_replicate}
-use lib.Seq.{get_or_set_same, get_or_set_other}
+use borrow.Author.Tests.{eqb-true, eq-eqb}
+use lib.ListN.{length, get_or, set, length-set, replicate, length-replicate, get_or-replicate}
+use lib.Seq.{get_or-set_same, get_or-set_other}
 use lib.Dec.{eqb}
 use lib.IntN.{ℤ, pos}
 use Rattle.numbers.specs.Whole.{plus}
@@ -31,21 +31,21 @@ use Rattle.sums.proofs.Rated.{rated_ways, level_le, rate_below_le}
 -- Node k is there at level l.
 at_level_law : (tree : Tree) (l k : ℕ) → there tree k ≡ true → tree.level k ≡ l → at_level tree l k ≡ true
 unfolding at_level
-at_level_law tree l k here e = holds_with _ _ here (holds_with _ _ (eq_eqb (tree.level k) l e) none_left)
+at_level_law tree l k here e = holds_with _ _ here (holds_with _ _ (eq-eqb (tree.level k) l e) none_left)
 
 pub level_at_law : (tree : Tree) (l k : ℕ) → k < nodes → at_level tree l k ≡ true → At tree l k
 unfolding at_level
-level_at_law tree l k hk h = record { low = hk; there = head_holds _ _ h; level = eqb_true (tree.level k) l (head_holds _ _ (rest_hold _ _ h)) }
+level_at_law tree l k hk h = record { low = hk; there = head_holds _ _ h; level = eqb-true (tree.level k) l (head_holds _ _ (rest_hold _ _ h)) }
 
 -- At the start nothing below the class has had its turn.
 pub descent_start : (t : List ℤ) (c : ℕ) → Rated t c → Descent t c (((tree_of t).level c + 1) * nodes) (replicate nodes false)
 descent_start t c f =
     record {
       rated = f;
-      wide = length_replicate nodes false;
+      wide = length-replicate nodes false;
       right = λ k hk e early. absurd (late k hk e early);
-      marked = λ k hk early. get_or_replicate nodes k false false hk ∙ sym (by_test (below (tree_of t) c k) (λ e. absurd (late k hk e early)) (λ e. e));
-      unmarked = λ k hk e. get_or_replicate nodes k false false hk;
+      marked = λ k hk early. get_or-replicate nodes k false false hk ∙ sym (by_test (below (tree_of t) c k) (λ e. absurd (late k hk e early)) (λ e. e));
+      unmarked = λ k hk e. get_or-replicate nodes k false false hk;
     }
   where
     late : (k : ℕ) → k < nodes → below (tree_of t) c k ≡ true → turn (tree_of t) k < ((tree_of t).level c + 1) * nodes → ⊥
@@ -154,12 +154,12 @@ module _ (t : List ℤ) (c l n : ℕ) (marks : List Bool) (hn : n < nodes) (d : 
     marked_next : (k : ℕ) → k < nodes → turn (tree_of t) k < l * nodes + n + 1 → get_or (set marks n true) k false ≡ below (tree_of t) c k
     marked_next k hk early =
         elim (ℕ_discrete k n) [
-          | yes z ↦ rw z (get_or_set_same marks n true false (omega (arith, d.wide)) ∙ sym here)
-          | no ne ↦ get_or_set_other marks n k true false ne ∙ d.marked k hk (omega arith)
+          | yes z ↦ rw z (get_or-set_same marks n true false (omega (arith, d.wide)) ∙ sym here)
+          | no ne ↦ get_or-set_other marks n k true false ne ∙ d.marked k hk (omega arith)
         ]
 
     unmarked_next : (k : ℕ) → k < nodes → l * nodes + n + 1 ≤ turn (tree_of t) k → get_or (set marks n true) k false ≡ false
-    unmarked_next k hk late = get_or_set_other marks n k true false (λ z. omega (arith, ap (tree_of t).level z)) ∙ d.unmarked k hk (omega arith)
+    unmarked_next k hk late = get_or-set_other marks n k true false (λ z. omega (arith, ap (tree_of t).level z)) ∙ d.unmarked k hk (omega arith)
 
     pub renewed_next : Onward t u c (l * nodes + n + 1) (set marks n true)
     renewed_next =
@@ -167,7 +167,7 @@ module _ (t : List ℤ) (c l n : ℕ) (marks : List Bool) (hn : n < nodes) (d : 
           descent =
               record {
                 rated = rated;
-                wide = length_set marks n true ∙ d.wide;
+                wide = length-set marks n true ∙ d.wide;
                 right = rw (same, own) right_next;
                 marked = rw same marked_next;
                 unmarked = rw same unmarked_next;

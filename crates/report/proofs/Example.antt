@@ -4,7 +4,7 @@ use Prim.Native.Nat.{ℕ}
 use mathlib.Core.Path.{◌≡◌, refl, sym, ap, ◌∙◌}
 use mathlib.Core.Bool.{true, not}
 use mathlib.Core.List.{List, [], ◌∷◌}
-use lib.ListN.{length, length_replicate}
+use lib.ListN.{length, length-replicate}
 use lib.IntN.{ℤ, pos}
 use Rattle.numbers.specs.Whole.{plus, within_ℤ}
 use Rattle.numbers.specs.Tests.{every}
@@ -90,7 +90,7 @@ accepted : check_answer sample ≡ 0
 unfolding check_answer plan_in entry_in count_in le4 le2 byte_at formed entry_formed every all_below rising blank start_of edition_in share_length last_kind
 accepted =
     accepted_plan blank sample
-    (record { long = length_replicate table_length (pos 0); formed = refl; opening = open_accepted; joining = joins_accepted; rising = refl })
+    (record { long = length-replicate table_length (pos 0); formed = refl; opening = open_accepted; joining = joins_accepted; rising = refl })
 
 -- The table that it makes.
 all_joined : joined_for blank (plan_in sample) ≡ after_entries (opened_for blank (plan_in sample)) (plan_in sample) 1

@@ -4,7 +4,7 @@ use mathlib.Core.Path.{◌≡◌, sym}
 use mathlib.Core.Bool.{Bool, true, false}
 use mathlib.Core.List.{List, []}
 use native.Mathlib.Omega.{arith}
-use lib.ListN.{length, length_append}
+use lib.ListN.{length, length-append}
 use lib.IntN.{ℤ}
 use Rattle.numbers.proofs.Tests.{by_test, cond_true, cond_false}
 use Rattle.definitions.specs.Places.{rate}
@@ -25,7 +25,7 @@ sort_short false = omega arith
 module _ (node : ℕ) (class : Bool) (rate : ℕ) where
   node_short : length (node_line node class rate) ≤ longest_line
   unfolding node_line ascii
-  node_short = simp length_append (omega (arith, decimal_short node, sort_short class, decimal_short rate))
+  node_short = simp length-append (omega (arith, decimal_short node, sort_short class, decimal_short rate))
 
   -- Node, sort, rate and the end put one behind the other.
   pub node_appended : (b b1 b2 b3 b4 : List ℕ) (a n1 n2 n3 n4 : ℕ) → a + longest_line ≤ length b → Appended b a (decimal node) b1 n1 → Appended b1 n1 (sort_text class) b2 n2 → Appended b2 n2 (decimal rate) b3 n3 → Appended b3 n3 (ascii "\n") b4 n4 → Appended b a (node_line node class rate) b4 n4

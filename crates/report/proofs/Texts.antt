@@ -3,9 +3,9 @@ use Prim.Native.Nat.{ℕ, ◌≤◌}
 use mathlib.Core.Path.{◌≡◌, sym}
 use mathlib.Core.List.{List}
 use native.Mathlib.Omega.{arith}
-use borrow.Author.Tests.{eq_eqb, ne_eqb}
-use lib.ListN.{length, take, length_replicate}
-use lib.Seq.{length_take_le}
+use borrow.Author.Tests.{eq-eqb, ne_eqb}
+use lib.ListN.{length, take, length-replicate}
+use lib.Seq.{length-take-le}
 use lib.Dec.{eqb}
 use lib.IntN.{pos}
 use Rattle.numbers.proofs.Tests.{cond_true, cond_false}
@@ -26,7 +26,7 @@ told_check s = number_outcome _ _
 
 pub accepted_report : (s : List ℕ) → check_answer s ≡ 0 → lines_of (plan_table blank s) ≡ report_of s
 unfolding report_of
-accepted_report s h = sym (cond_true (eqb (check_answer s) 0) _ _ (eq_eqb (check_answer s) 0 h))
+accepted_report s h = sym (cond_true (eqb (check_answer s) 0) _ _ (eq-eqb (check_answer s) 0 h))
 
 pub refused_report : (s : List ℕ) → (check_answer s ≡ 0 → ⊥) → refused_line (check_answer s) ≡ report_of s
 unfolding report_of
@@ -37,6 +37,6 @@ pub first_bytes : (s : List ℕ) → input_length ≤ length s → report_of (ta
 unfolding report_of check_answer blank start_of share_length
 first_bytes s long =
     let cut = take input_length s in
-    let size : length cut ≡ input_length = length_take_le input_length s long in
-    let zeros = length_replicate table_length (pos 0) in
+    let size : length cut ≡ input_length = length-take-le input_length s long in
+    let zeros = length-replicate table_length (pos 0) in
     rw (too_long _ cut zeros (omega (arith, size)), too_long _ s zeros (omega arith))

@@ -3,7 +3,7 @@
 use mathlib.Core.Path.{◌≡◌, refl, sym, ap, ap₂}
 use mathlib.Core.Bool.{Bool, true, false, not, ◌&&◌, true≢false}
 use mathlib.Core.List.{List, [], ◌∷◌}
-use borrow.Author.Tests.{eqb_true, eq_eqb, not_true}
+use borrow.Author.Tests.{eqb-true, eq-eqb, not-true}
 use lib.Dec.{eqb}
 use lib.IntN.{ℤ}
 use Rattle.numbers.specs.Whole.{same_ℤ}
@@ -36,7 +36,7 @@ list_itself (x ∷ xs) = and_true (same_ℤ x x) (same_list xs xs) (eq_same x x 
 outcome_itself : (a : Outcome) → same_outcome a a ≡ true
 unfolding same_outcome
 outcome_itself (accepted xs) = list_itself xs
-outcome_itself (refused n) = eq_eqb n n refl
+outcome_itself (refused n) = eq-eqb n n refl
 
 list_same : (xs ys : List ℤ) → xs ≡ ys → same_list xs ys ≡ true
 list_same xs ys e = rw e (list_itself ys)
@@ -58,7 +58,7 @@ unfolding same_outcome
 same_outcome_law (accepted xs) (accepted ys) h = ap accepted (same_list_law xs ys h)
 same_outcome_law (accepted xs) (refused n) h = absurd (true≢false (sym h))
 same_outcome_law (refused m) (accepted ys) h = absurd (true≢false (sym h))
-same_outcome_law (refused m) (refused n) h = ap refused (eqb_true m n h)
+same_outcome_law (refused m) (refused n) h = ap refused (eqb-true m n h)
 
 -- Whether a step holds.
 unfoldable pub holds : Step → (kept t : List ℤ) → Bool
@@ -94,7 +94,7 @@ holds_says (c answers outcome leaving first and second) kept t h =
     )
 holds_says keep kept t h = tt
 holds_says (fits change) kept t h = cc
-holds_says (spoils change) kept t h = cc (not_true (in_order (changed change t)) h)
+holds_says (spoils change) kept t h = cc (not-true (in_order (changed change t)) h)
 
 -- Whether all steps hold, one after the other.
 unfoldable pub run : Scenario → (kept t : List ℤ) → Bool

@@ -3,12 +3,12 @@
 -- definition on every table. This is what makes scenarios cheap to compute.
 use Prim.Native.Nat.{ℕ, zero, suc, ◌+◌, ◌*◌, ◌-◌, ◌≤◌}
 use mathlib.Core.Path.{◌≡◌, refl, sym, ap, ◌∙◌, subst}
-use mathlib.Core.Bool.{Bool, true, false, not, cond, ◌&&◌, ◌||◌, and_true as and_with_true}
+use mathlib.Core.Bool.{Bool, true, false, not, cond, ◌&&◌, ◌||◌, and-true as and-with-true}
 use mathlib.Core.List.{List, [], ◌∷◌}
 use native.Mathlib.Omega.{arith}
-use borrow.Author.Tests.{ltb_false, not_false}
+use borrow.Author.Tests.{ltb-false, not-false}
 use lib.ListN.{get_or, drop}
-use lib.Seq.{get_or_drop}
+use lib.Seq.{get_or-drop}
 use lib.Dec.{eqb, ltb}
 use lib.IntN.{ℤ, pos}
 use Rattle.numbers.specs.Whole.{plus}
@@ -56,7 +56,7 @@ far_place t c k p h far =
     let start : ℕ = header_length + record_length * c in
     let e : header_length + record_length * k + p ≡ start + (record_length * (k - c) + p) = omega arith in
     subst (λ (i : ℕ). get_or t i (pos 0) ≡ pos 0) (sym e)
-    (sym (get_or_drop start t (record_length * (k - c) + p) (pos 0)) ∙ zeros_at (drop start t) h (record_length * (k - c) + p))
+    (sym (get_or-drop start t (record_length * (k - c) + p) (pos 0)) ∙ zeros_at (drop start t) h (record_length * (k - c) + p))
 
 -- A value may be replaced where a test fails, by one that is equal to it there.
 unless : {A : Type 0} (b : Bool) (x y : A) → (b ≡ false → x ≡ y) → x ≡ cond b x y
@@ -76,8 +76,8 @@ unfolding place_near record_on place
 place_is t k p =
     unless (ltb k few_nodes || not (few t)) (place t k p) (pos 0)
     (λ h.
-    far_place t few_nodes k p (not_false (few t) (or_false_right (ltb k few_nodes) (not (few t)) h)) (ltb_false k few_nodes (or_false_left (ltb k few_nodes) (not (few t)) h)))
-    ∙ ap (λ (z : ℤ). cond (ltb k few_nodes || not (few t)) z (pos 0)) (sym (get_or_drop (header_length + record_length * k) t p (pos 0)))
+    far_place t few_nodes k p (not-false (few t) (or_false_right (ltb k few_nodes) (not (few t)) h)) (ltb-false k few_nodes (or_false_left (ltb k few_nodes) (not (few t)) h)))
+    ∙ ap (λ (z : ℤ). cond (ltb k few_nodes || not (few t)) z (pos 0)) (sym (get_or-drop (header_length + record_length * k) t p (pos 0)))
 
 -- A table with a number put at a place.
 unfoldable pub put_near : List ℤ → ℕ → ℕ → ℤ → List ℤ
@@ -88,8 +88,8 @@ unfolding put_near is_zero
 put_is t k p v =
     unless (ltb k few_nodes || not (few t && is_zero v)) (put t k p v) t
     (λ h.
-    zero_put (not_false (few t && is_zero v) (or_false_right (ltb k few_nodes) (not (few t && is_zero v)) h))
-    (ltb_false k few_nodes (or_false_left (ltb k few_nodes) (not (few t && is_zero v)) h)))
+    zero_put (not-false (few t && is_zero v) (or_false_right (ltb k few_nodes) (not (few t && is_zero v)) h))
+    (ltb-false k few_nodes (or_false_left (ltb k few_nodes) (not (few t && is_zero v)) h)))
   where
     zero_put : (few t && is_zero v) ≡ true → few_nodes ≤ k → put t k p v ≡ t
     zero_put h far =
@@ -131,7 +131,7 @@ all_from c p h (suc n) l =
     (λ m.
     all_suc n p
     ∙ ap (λ (b : Bool). all_below n p && b) (h n (omega arith))
-    ∙ and_with_true (all_below n p)
+    ∙ and-with-true (all_below n p)
     ∙ all_from c p h n (omega arith))
     (λ e. ap (λ (j : ℕ). all_below j p) (sym e))
 

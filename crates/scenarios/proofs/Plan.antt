@@ -3,7 +3,7 @@ use Prim.Native.Nat.{ℕ, zero, suc}
 use mathlib.Core.Path.{◌≡◌, refl, ap, ap₂, ◌∙◌}
 use mathlib.Core.Bool.{Bool}
 use mathlib.Core.List.{List, [], ◌∷◌}
-use borrow.Author.Tests.{eqb_true}
+use borrow.Author.Tests.{eqb-true}
 use lib.Dec.{eqb}
 use lib.IntN.{ℤ, pos}
 use Rattle.definitions.specs.Limits.{first_port}
@@ -86,7 +86,7 @@ opens p = eqb (open_refusal blank (pos p.rate) (pos p.depth)) 0
 
 pub opens_ordered : (p : Plan) → Ordered (opened_for blank p) (opens p)
 unfolding opens opened_for
-opens_ordered p h = open_keeps blank (pos p.rate) (pos p.depth) (eqb_true _ 0 h)
+opens_ordered p h = open_keeps blank (pos p.rate) (pos p.depth) (eqb-true _ 0 h)
 
 -- All entries of the plan in the bytes s, and the plan.
 unfoldable pub read_entries : List ℕ → Read

@@ -5,7 +5,7 @@ use mathlib.Core.Path.{◌≡◌, refl, sym, ap, ap₂, ◌∙◌}
 use mathlib.Core.Bool.{Bool, true, false, ◌&&◌, ◌||◌, true≢false}
 use mathlib.Core.List.{List, [], ◌∷◌}
 use mathlib.Core.Logic.{inl, inr}
-use borrow.Author.Tests.{eqb_true}
+use borrow.Author.Tests.{eqb-true}
 use lib.Dec.{eqb}
 use lib.IntN.{ℤ}
 use Rattle.numbers.specs.Whole.{plus}
@@ -44,7 +44,7 @@ same_bytes_law [] [] h = refl
 same_bytes_law [] (y ∷ ys) h = absurd (true≢false (sym h))
 same_bytes_law (x ∷ xs) [] h = absurd (true≢false (sym h))
 same_bytes_law (x ∷ xs) (y ∷ ys) h =
-    ap₂ (λ (z : ℕ) (zs : List ℕ). z ∷ zs) (eqb_true x y (and_left (eqb x y) (same_bytes xs ys) h))
+    ap₂ (λ (z : ℕ) (zs : List ℕ). z ∷ zs) (eqb-true x y (and_left (eqb x y) (same_bytes xs ys) h))
     (same_bytes_law xs ys (and_right (eqb x y) (same_bytes xs ys) h))
 
 -- A value that is computed once.
@@ -117,7 +117,7 @@ unfolding known_after after called
 ordered_after (made call gives o) t known order h = call_keeps_order t call (order h)
 ordered_after (open_ℤ rate depth gives o) t known order h =
     elim (or_cases (eqb (open_refusal t rate depth) 0) known.ordered h) [
-      | inl e ↦ open_keeps t rate depth (eqb_true (open_refusal t rate depth) 0 e)
+      | inl e ↦ open_keeps t rate depth (eqb-true (open_refusal t rate depth) 0 e)
       | inr e ↦ open_keeps_order t rate depth (order e)
     ]
 ordered_after (look_ℤ node gives o) t known order h = order h

@@ -6,7 +6,7 @@ use mathlib.Core.Logic.{inl, inr}
 use mathlib.Core.Bool.{Bool, true, false, ◌&&◌, ◌||◌, true≢false}
 use mathlib.Core.List.{List}
 use native.Mathlib.Omega.{arith}
-use borrow.Author.Tests.{ltb_true, lt_ltb, eqb_true, eq_eqb, ne_eqb, le_leb}
+use borrow.Author.Tests.{ltb-true, lt-ltb, eqb-true, eq-eqb, ne_eqb, le-leb}
 use lib.Dec.{eqb, leb, ltb}
 use lib.IntN.{ℤ, pos}
 use Rattle.numbers.specs.Whole.{plus, same_ℤ}
@@ -54,8 +54,8 @@ turns_of P ws m (suc n) h starts ends =
     elim (or_cases (eqb (window_start ws n) m || eqb (window_end ws n) m) (turns_by ws n m) h) [
       | inl here ↦
           elim (or_cases (eqb (window_start ws n) m) (eqb (window_end ws n) m) here) [
-            | inl e ↦ starts n (omega arith) (eqb_true (window_start ws n) m e)
-            | inr e ↦ ends n (omega arith) (eqb_true (window_end ws n) m e)
+            | inl e ↦ starts n (omega arith) (eqb-true (window_start ws n) m e)
+            | inr e ↦ ends n (omega arith) (eqb-true (window_end ws n) m e)
           ]
       | inr before ↦ turns_of P ws m n before (λ i l. starts i (omega arith)) (λ i l. ends i (omega arith))
     ]
@@ -71,11 +71,11 @@ module _ (ws : List ℤ) (test : ℕ → Bool) where
   at_turn : all_below week_minutes if_turn ≡ true → (m : ℕ) → turn ws m ≡ true → at_minute test m ≡ true
   unfolding at_minute
   at_turn h m e =
-      at_test (ltb m week_minutes) test m (λ l. test_at (turn ws m) test m (all_at week_minutes if_turn h m (ltb_true m week_minutes l)) e)
+      at_test (ltb m week_minutes) test m (λ l. test_at (turn ws m) test m (all_at week_minutes if_turn h m (ltb-true m week_minutes l)) e)
 
   at_week : (m : ℕ) → m < week_minutes → at_minute test m ≡ true → test m ≡ true
   unfolding at_minute
-  at_week m l h = test_at (ltb m week_minutes) test m h (lt_ltb m week_minutes l)
+  at_week m l h = test_at (ltb m week_minutes) test m h (lt-ltb m week_minutes l)
 
   -- Only those minutes need a test.
   pub turns_are : all_below week_minutes if_turn ≡ at_turns ws test
@@ -89,10 +89,10 @@ module _ (ws : List ℤ) (test : ℕ → Bool) where
       and_true _ _
       (at_turn h (window_start ws i)
       (or_true_right (eqb (window_start ws i) 0) _
-      (turns_at ws (window_start ws i) (window_count ws) i l (or_true_left _ _ (eq_eqb (window_start ws i) (window_start ws i) refl)))))
+      (turns_at ws (window_start ws i) (window_count ws) i l (or_true_left _ _ (eq-eqb (window_start ws i) (window_start ws i) refl)))))
       (at_turn h (window_end ws i)
       (or_true_right (eqb (window_end ws i) 0) _
-      (turns_at ws (window_end ws i) (window_count ws) i l (or_true_right (eqb (window_start ws i) (window_end ws i)) _ (eq_eqb (window_end ws i) (window_end ws i) refl))))))))
+      (turns_at ws (window_end ws i) (window_count ws) i l (or_true_right (eqb (window_start ws i) (window_end ws i)) _ (eq-eqb (window_end ws i) (window_end ws i) refl))))))))
       (λ h.
       let windows : (i : ℕ) → i < window_count ws → of_window i ≡ true = all_at (window_count ws) of_window (and_right (test 0) _ h) in
       all_intro week_minutes if_turn
@@ -100,7 +100,7 @@ module _ (ws : List ℤ) (test : ℕ → Bool) where
       at_test (turn ws m) test m
       (λ e.
       elim (or_cases (eqb m 0) _ e) [
-        | inl z ↦ ap test (eqb_true m 0 z) ∙ and_left (test 0) _ h
+        | inl z ↦ ap test (eqb-true m 0 z) ∙ and_left (test 0) _ h
         | inr turned ↦
             turns_of (test m ≡ true) ws m (window_count ws) turned
             (λ i hi s. sym (ap test s) ∙ at_week (window_start ws i) (omega arith) (and_left (at_minute test (window_start ws i)) _ (windows i hi)))
@@ -128,7 +128,7 @@ near_classes p = bound (λ b. zero_from b p && parents_below p b)
 no_child : (p : List ℤ) (b c k : ℕ) → parents_below p b ≡ true → b ≤ c → k < b → child_of (tree_near p) c k ≡ false
 unfolding parents_below child_of
 no_child p b c k h far near =
-    let below = ltb_true ((tree_near p).parent k) b (all_at b (λ k. ltb ((tree_near p).parent k) b) h k near) in
+    let below = ltb-true ((tree_near p).parent k) b (all_at b (λ k. ltb ((tree_near p).parent k) b) h k near) in
     rest_fail _ _ (rest_fail _ _ (head_fails _ _ (ne_eqb ((tree_near p).parent k) c (omega arith))))
 
 minute_none : (p ws : List ℤ) (m kind b c : ℕ) → (zero_from b p && parents_below p b) ≡ true → b ≤ nodes → b ≤ c → minute_sum p ws m kind c ≡ 0
@@ -149,7 +149,7 @@ within_is kind limit p ws m =
     let near : ℕ → Bool = λ c. leb (minute_sum p ws m kind c) limit in
     all_cong nodes _ near (λ c l. ap (λ (n : ℕ). leb n limit) (minute_sum_law p ws m kind c))
     ∙ bound_cases (λ b. zero_from b p && parents_below p b) (λ n. all_below nodes near ≡ all_below n near)
-    (λ b hb h. all_from b near (λ c far. le_leb _ limit (omega (arith, minute_none p ws m kind b c h hb far))) nodes hb)
+    (λ b hb h. all_from b near (λ c far. le-leb _ limit (omega (arith, minute_none p ws m kind b c h hb far))) nodes hb)
     refl
 
 unfoldable pub week_near : (kind limit : ℕ) (p ws : List ℤ) → Bool
@@ -197,7 +197,7 @@ module _ (p ws : List ℤ) (m b : ℕ) where
       value_has ws (window_share ws) k m _ (λ v. v ≡ 0) (window_count ws) (ap plus (sym (place_is p k share_at) ∙ far_place p b k share_at h far))
       (λ i l c.
       absurd
-      (omega (arith, (cover_facts ws i k m c).node, ltb_true (window_node ws i) b (all_at (window_count ws) (λ i. ltb (window_node ws i) b) near i l))))
+      (omega (arith, (cover_facts ws i k m c).node, ltb-true (window_node ws i) b (all_at (window_count ws) (λ i. ltb (window_node ws i) b) near i l))))
 
   far_same : (k : ℕ) (u : List ℤ) → zero_from b p ≡ true → windows_below ws b ≡ true → FarZero b u → b ≤ k → shares_at p ws m k u ≡ u
   unfolding shares_at reshared

@@ -5,7 +5,7 @@ use mathlib.Core.Path.{◌≡◌, refl, sym, ap, ap₂, ◌∙◌}
 use mathlib.Core.Bool.{Bool, true, false, not, ◌&&◌}
 use mathlib.Core.List.{List, [], ◌∷◌}
 use native.Mathlib.Omega.{arith}
-use borrow.Author.Tests.{not_false}
+use borrow.Author.Tests.{not-false}
 use lib.IntN.{ℤ}
 use Rattle.numbers.specs.Whole.{plus, within_ℤ}
 use Rattle.numbers.specs.Tests.{every}
@@ -119,7 +119,7 @@ module _ (t : List ℤ) (s : List ℕ) (ws : List ℤ) (minute : ℤ) where
   pub early_passed : early ≡ 0 → Early
   early_passed h =
       let p1 = none_first 1 _ _ (omega arith) h in
-      record { order = not_false _ p1.0; minutes = not_false _ (none_first 2 _ _ (omega arith) p1.1).0 }
+      record { order = not-false _ p1.0; minutes = not-false _ (none_first 2 _ _ (omega arith) p1.1).0 }
 
   later : Early → set_minute_refusal t s ws minute ≡ first (refusing (check_answer s) ∷ refusing (timetable_refusal t (planned s) ws) ∷ [])
   unfolding set_minute_refusal

@@ -4,7 +4,7 @@ use mathlib.Core.Path.{◌≡◌, refl, sym, ap, subst, ◌∙◌}
 use mathlib.Core.Bool.{true, false, ◌&&◌}
 use mathlib.Core.List.{List, []}
 use native.Mathlib.Omega.{arith}
-use borrow.Author.Tests.{lt_ltb, le_ltb}
+use borrow.Author.Tests.{lt-ltb, le-ltb}
 use lib.IntN.{ℤ, pos}
 use Rattle.numbers.specs.Whole.{plus, minus}
 use Rattle.numbers.specs.Below.{for_below}
@@ -54,11 +54,11 @@ grown_credit t f k hk =
 module _ (t : List ℤ) (k : ℕ) where
   pub not_waiting : plus (place t k waiting_at) ≡ 0 → false ≡ ready t k
   unfolding ready waiting
-  not_waiting e = sym (head_fails _ _ (le_ltb 0 (waiting t k) (omega arith)))
+  not_waiting e = sym (head_fails _ _ (le-ltb 0 (waiting t k) (omega arith)))
 
   pub is_waiting : (plus (place t k waiting_at) ≡ 0 → ⊥) → ready t k ≡ enough t (grains (size t k 0)) k
   unfolding ready waiting
-  is_waiting w = every_two _ _ ∙ ap (λ b. b && enough t (grains (size t k 0)) k) (lt_ltb 0 (waiting t k) (omega arith))
+  is_waiting w = every_two _ _ ∙ ap (λ b. b && enough t (grains (size t k 0)) k) (lt-ltb 0 (waiting t k) (omega arith))
 
 -- One dispatch of a ready client.
 module _ (u : List ℤ) (w : Way u) (k : ℕ) (hk : k < nodes) (e : ready u k ≡ true) where

@@ -4,9 +4,9 @@ use Prim.Native.Nat.{ℕ, ◌+◌, ◌*◌, ◌-◌, ◌≤◌}
 use mathlib.Core.Path.{◌≡◌, refl, sym, ap, ◌∙◌}
 use mathlib.Core.List.{List, []}
 use native.Mathlib.Omega.{arith}
-use borrow.Author.Tests.{eqb_true, eqb_false}
+use borrow.Author.Tests.{eqb-true, eqb-false}
 use lib.Dec.{eqb}
-use lib.ListN.{length, drop, length_append, length_drop}
+use lib.ListN.{length, drop, length-append, length-drop}
 use lib.IntN.{ℤ, pos}
 use Rattle.numbers.proofs.Tests.{by_test, cond_true, cond_false}
 use Rattle.definitions.specs.Limits.{entry_length, first_port, second_port}
@@ -24,15 +24,15 @@ use Rattle.steps.specs.Steps.{Room, Lists, Shows, Follows}
 -- A list is as long as at first, where its entries are no longer.
 listed_length : (entries first : List ℤ) → length (listed entries first) ≡ length entries + (length first - length entries)
 unfolding listed
-listed_length entries first = length_append entries (drop (length entries) first) ∙ ap (λ n. length entries + n) (length_drop (length entries) first)
+listed_length entries first = length-append entries (drop (length entries) first) ∙ ap (λ n. length entries + n) (length-drop (length entries) first)
 
 -- One of the two lists gets an entry.
 gets_both : (q : ℕ) → q ≤ second_port → gets first_port q + gets second_port q ≡ 1
 unfolding gets
 gets_both q small =
     by_test (eqb q first_port)
-    (λ y. by_test (eqb q second_port) (λ z. absurd (omega (arith, eqb_true q first_port y, eqb_true q second_port z))) (λ z. rw (y, z)))
-    (λ y. by_test (eqb q second_port) (λ z. rw (y, z)) (λ z. absurd (omega (arith, eqb_false q first_port y, eqb_false q second_port z))))
+    (λ y. by_test (eqb q second_port) (λ z. absurd (omega (arith, eqb-true q first_port y, eqb-true q second_port z))) (λ z. rw (y, z)))
+    (λ y. by_test (eqb q second_port) (λ z. rw (y, z)) (λ z. absurd (omega (arith, eqb-false q first_port y, eqb-false q second_port z))))
 
 -- The list of a port after a dispatch.
 module _ (port_of : ℕ → ℕ) (p : ℕ) (from : List ℤ) (st : State) (l : List ℤ) (n k s : ℕ) (h : Lists port_of p from st l n) (w : whole st.entries) (same : port st.table k ≡ port_of k) where
@@ -49,8 +49,8 @@ module _ (port_of : ℕ → ℕ) (p : ℕ) (from : List ℤ) (st : State) (l : L
   unfolding gets list_after entered_on
   list_next room =
       by_test (eqb (port st.table k) p)
-      (λ y. cond_true _ _ l y ∙ list_here (eqb_true _ p y) (omega (arith, cond_true {A = ℕ} (eqb (port st.table k) p) 1 0 y)))
-      (λ y. cond_false _ _ l y ∙ h.list ∙ ap (λ (es : List ℤ). listed es from) (sym (entry_other port_of p st k s w (λ e. eqb_false _ p y (same ∙ e)))))
+      (λ y. cond_true _ _ l y ∙ list_here (eqb-true _ p y) (omega (arith, cond_true {A = ℕ} (eqb (port st.table k) p) 1 0 y)))
+      (λ y. cond_false _ _ l y ∙ h.list ∙ ap (λ (es : List ℤ). listed es from) (sym (entry_other port_of p st k s w (λ e. eqb-false _ p y (same ∙ e)))))
 
   count_next : entry_length * (n + gets p (port st.table k)) ≡ length (of_port port_of p (dispatched st k s).entries)
   unfolding gets

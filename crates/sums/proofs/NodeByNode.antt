@@ -5,8 +5,8 @@ use mathlib.Core.Bool.{true, false}
 use mathlib.Core.List.{List}
 use native.Mathlib.Omega.{arith}
 use native.Mathlib.Decide.{ℕ_discrete}
-use lib.ListN.{length, get_or, set, length_set, replicate, length_replicate, get_or_replicate}
-use lib.Seq.{get_or_set_same, get_or_set_other}
+use lib.ListN.{length, get_or, set, length-set, replicate, length-replicate, get_or-replicate}
+use lib.Seq.{get_or-set_same, get_or-set_other}
 use lib.IntN.{ℤ}
 use Rattle.numbers.specs.Below.{sum_below}
 use Rattle.numbers.proofs.Tests.{by_test, true_false}
@@ -63,16 +63,16 @@ module _ (tree : Tree) (c : ℕ) (f : ℕ → ℕ) (k : ℕ) (sums : List ℕ) (
   added_here : i ≡ a → a < length sums → child_of tree c k ≡ true → n ≡ f k → get_or (set sums a (get_or sums a 0 + n)) i 0 ≡ under_below (k + 1) tree c f
   added_here e room child amount =
       ap (λ (j : ℕ). get_or (set sums a (get_or sums a 0 + n)) j 0) e
-      ∙ get_or_set_same sums a (get_or sums a 0 + n) 0 room
+      ∙ get_or-set_same sums a (get_or sums a 0 + n) 0 room
       ∙ omega (arith, amount, so_far, ap (λ (j : ℕ). get_or sums j 0) e, under_next tree c f k, counted (child_of tree c k) f k child)
 
   added_elsewhere : (i ≡ a → ⊥) → (child_of tree c k ≡ true → f k ≡ 0) → get_or (set sums a (get_or sums a 0 + n)) i 0 ≡ under_below (k + 1) tree c f
-  added_elsewhere ne nothing = get_or_set_other sums a i (get_or sums a 0 + n) 0 ne ∙ so_far ∙ sym (under_skip tree c f k nothing)
+  added_elsewhere ne nothing = get_or-set_other sums a i (get_or sums a 0 + n) 0 ne ∙ so_far ∙ sym (under_skip tree c f k nothing)
 
 -- All sums at once: node k's term is added to the sum of its parent.
 module _ (which : Summand) (t : List ℤ) where
   pub sums_start : SumsBelow which t 1 (replicate nodes 0)
-  sums_start = record { long = length_replicate {A = ℕ} nodes 0; at = λ c hc. get_or_replicate nodes c 0 0 hc ∙ sym (under_root (tree_of t) c (term which t)) }
+  sums_start = record { long = length-replicate {A = ℕ} nodes 0; at = λ c hc. get_or-replicate nodes c 0 0 hc ∙ sym (under_root (tree_of t) c (term which t)) }
 
   pub sums_end : (sums : List ℕ) → SumsBelow which t nodes sums → (c : ℕ) → c < nodes → get_or sums c 0 ≡ sum_under (tree_of t) c (term which t)
   sums_end sums f c hc = f.at c hc ∙ under_end (tree_of t) c (term which t)
@@ -88,7 +88,7 @@ module _ (which : Summand) (t : List ℤ) where
   pub sums_next : (sums : List ℕ) (k p n : ℕ) → there (tree_of t) k ≡ true → (k ≡ 0 → ⊥) → (tree_of t).parent k ≡ p → p < nodes → n ≡ term which t k → SumsBelow which t k sums → SumsBelow which t (k + 1) (set sums p (get_or sums p 0 + n))
   sums_next sums k p n here below parent hp amount f =
       record {
-        long = length_set sums p (get_or sums p 0 + n) ∙ f.long;
+        long = length-set sums p (get_or sums p 0 + n) ∙ f.long;
         at = λ c hc.
             elim (ℕ_discrete c p) [
               | yes e ↦
@@ -106,7 +106,7 @@ one_side t k = one_is_zero (balance t k)
 -- All sums of shares at once: node k's share is added to the sum of its kind under its parent.
 module _ (tree : Tree) where
   pub share_sums_start : ShareSums tree 1 (replicate share_sums 0)
-  share_sums_start = record { long = length_replicate {A = ℕ} share_sums 0; at = λ c kind hc hk. get_or_replicate share_sums (sum_at c kind) 0 0 (omega arith) ∙ sym (under_root tree c (kind_share tree kind)) }
+  share_sums_start = record { long = length-replicate {A = ℕ} share_sums 0; at = λ c kind hc hk. get_or-replicate share_sums (sum_at c kind) 0 0 (omega arith) ∙ sym (under_root tree c (kind_share tree kind)) }
 
   pub share_sums_end : (sums : List ℕ) → ShareSums tree nodes sums → (c kind : ℕ) → c < nodes → kind < kinds → get_or sums (sum_at c kind) 0 ≡ kind_sum tree kind c
   unfolding kind_sum
@@ -137,7 +137,7 @@ module _ (tree : Tree) where
   pub share_sums_next : (sums : List ℕ) (k p d a n : ℕ) → there tree k ≡ true → (k ≡ 0 → ⊥) → tree.parent k ≡ p → p < nodes → tree.kind k ≡ d → d < kinds → a ≡ sum_at p d → n ≡ tree.share k → ShareSums tree k sums → ShareSums tree (k + 1) (set sums a (get_or sums a 0 + n))
   share_sums_next sums k p d a n here below parent hp own hd at amount f =
       record {
-        long = length_set sums a (get_or sums a 0 + n) ∙ f.long;
+        long = length-set sums a (get_or sums a 0 + n) ∙ f.long;
         at = λ c kind hc hk.
             let shares = kind_share tree kind in
             elim (ℕ_discrete (sum_at c kind) a) [

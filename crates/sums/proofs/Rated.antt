@@ -5,7 +5,7 @@ use mathlib.Core.Path.{◌≡◌, refl, sym, ap, ◌∙◌, subst}
 use mathlib.Core.Bool.{true, false, cond}
 use mathlib.Core.List.{List}
 use native.Mathlib.Omega.{arith}
-use native.Mathlib.Nat.{mul_le_mul}
+use native.Mathlib.Nat.{mul-le-mul}
 use native.Mathlib.Decide.{ℕ_discrete}
 use lib.ListN.{length}
 use lib.Dec.{eqb}
@@ -32,7 +32,7 @@ use Rattle.sums.specs.Rated.{Placed, Rated}
 
 -- A rate times a share fits 64 bits.
 pub product_small : (r s : ℕ) → r ≤ greatest_rate → s ≤ greatest_rate → r * s ≤ greatest_rate * greatest_rate
-product_small r s hr hs = mul_le_mul hr hs
+product_small r s hr hs = mul-le-mul hr hs
 
 -- A share counts where it is of the kind that is summed.
 pub share_of_law : (tree : Tree) (summed k kind share : ℕ) → tree.kind k ≡ kind → tree.share k ≡ share → kind_share tree summed k ≡ cond (eqb kind summed) share 0

@@ -5,7 +5,7 @@ use mathlib.Core.Bool.{Bool, true, false, true≢false}
 use mathlib.Core.List.{List}
 use lib.Dec.{eqb}
 use lib.IntN.{ℤ}
-use borrow.Author.Tests.{eqb_true, eqb_false, eq_eqb, ne_eqb}
+use borrow.Author.Tests.{eqb-true, eqb-false, eq-eqb, ne_eqb}
 use Rattle.numbers.proofs.Tests.{by_test, cond_true, cond_false}
 use Rattle.definitions.specs.Tick.{nobody, supplier, next}
 use Rattle.suppliers.specs.declared.Next.{Next}
@@ -33,7 +33,7 @@ supplier_in Nothing = nobody
 module _ (t : List ℤ) where
   pub answer_nothing : next t ≡ nobody → Nothing ≡ next_in t
   unfolding next_in
-  answer_nothing e = sym (cond_true (eqb (next t) nobody) _ _ (eq_eqb (next t) nobody e))
+  answer_nothing e = sym (cond_true (eqb (next t) nobody) _ _ (eq-eqb (next t) nobody e))
 
   pub answer_client : (k s : ℕ) → Goes t k s → Client k s ≡ next_in t
   unfolding next_in
@@ -51,7 +51,7 @@ module _ (t : List ℤ) where
       let is : Client k s ≡ Client (next t) (supplier t (next t)) = rw h at e in
       let client : k ≡ next t = ap client_in is in
       record {
-        some = λ d. eqb_false (next t) nobody h (sym client ∙ d);
+        some = λ d. eqb-false (next t) nobody h (sym client ∙ d);
         client = client;
         node = ap supplier_in is ∙ ap (supplier t) (sym client);
       })
@@ -60,5 +60,5 @@ module _ (t : List ℤ) where
   unfolding next_in is_client
   nothing_answer e =
       by_test (eqb (next t) nobody)
-      (eqb_true (next t) nobody)
+      (eqb-true (next t) nobody)
       (λ h. absurd (true≢false (sym (ap is_client (rw h at e)))))

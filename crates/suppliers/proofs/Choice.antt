@@ -8,7 +8,7 @@ use native.Mathlib.Omega.{arith}
 use native.Mathlib.Decide.{ℕ_discrete}
 use lib.Dec.{eqb, ltb}
 use lib.IntN.{ℤ}
-use borrow.Author.Tests.{lt_ltb, le_ltb, eq_eqb}
+use borrow.Author.Tests.{lt-ltb, le-ltb, eq-eqb}
 use Rattle.numbers.specs.Tests.{every}
 use Rattle.numbers.proofs.Tests.{cond_true, cond_false, or_true_left}
 use Rattle.numbers.proofs.Every.{none_left, holds_with, head_fails, rest_fail}
@@ -39,7 +39,7 @@ module _ (t : List ℤ) (k best : ℕ) where
 
   pub idle : waiting t k ≡ 0 → choice t k best ≡ best
   unfolding supplied
-  idle h = stays (head_fails (ltb 0 (waiting t k)) (is_found (supply t k) ∷ []) (le_ltb 0 (waiting t k) (omega arith)))
+  idle h = stays (head_fails (ltb 0 (waiting t k)) (is_found (supply t k) ∷ []) (le-ltb 0 (waiting t k) (omega arith)))
 
   pub unsupplied : found.Nobody ≡ supply t k → choice t k best ≡ best
   unfolding supplied is_found
@@ -52,7 +52,7 @@ module _ (t : List ℤ) (k best : ℕ) where
     unfolding goes_before steps_above steps_found
     test_is =
         elim (ℕ_discrete best nobody) [
-          | yes e ↦ or_true_left _ _ (eq_eqb best nobody e) ∙ sym (or_true_left _ _ (eq_eqb best nobody e))
+          | yes e ↦ or_true_left _ _ (eq-eqb best nobody e) ∙ sym (or_true_left _ _ (eq-eqb best nobody e))
           | no ne ↦ rw (met.number, met.held.steps ne, met.held.arrival ne, ← met.supply)
         ]
 
@@ -65,7 +65,7 @@ module _ (t : List ℤ) (k best : ℕ) where
     pub taken : (r : Bool) → r ≡ (eqb best nobody || better n a least lowest) → r ≡ true → (waiting t k ≡ 0 → ⊥) → choice t k best ≡ k
     unfolding choice supplied is_found
     taken r e h w =
-        let waits = holds_with (ltb 0 (waiting t k)) (is_found (supply t k) ∷ []) (lt_ltb 0 (waiting t k) (omega arith)) in
+        let waits = holds_with (ltb 0 (waiting t k)) (is_found (supply t k) ∷ []) (lt-ltb 0 (waiting t k) (omega arith)) in
         cond_true (every (supplied t k ∷ goes_before t k best ∷ [])) k best
         (holds_with (supplied t k) (goes_before t k best ∷ []) (waits (holds_with (is_found (supply t k)) [] (sym (ap is_found met.supply)) none_left))
         (holds_with (goes_before t k best) [] (sym (e ∙ test_is) ∙ h) none_left))

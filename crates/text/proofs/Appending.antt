@@ -2,10 +2,10 @@
 use Prim.Native.Nat.{ℕ, ◌+◌, ◌≤◌, ◌<◌}
 use mathlib.Core.Path.{◌≡◌, sym, ap, ◌∙◌}
 use mathlib.Core.List.{List, [], ◌∷◌, ◌++◌}
-use native.Mathlib.Numerals.{add_one}
+use native.Mathlib.Numerals.{add-one}
 use native.Mathlib.Omega.{arith}
-use lib.ListN.{length, take, drop, set, get_or, length_append}
-use lib.Seq.{length_take_le, take_suc, take_at}
+use lib.ListN.{length, take, drop, set, get_or, length-append}
+use lib.Seq.{length-take-le, take-suc, take_at}
 use Rattle.io.specs.Counts.{IsPrefixLen}
 use Rattle.planformat.specs.Written.{written}
 use Rattle.planformat.proofs.Written.{written_one, written_more, written_none, written_front}
@@ -24,17 +24,17 @@ module _ (b : List ℕ) (a : ℕ) where
   append_more u v after last next end room h more =
       record {
         bytes = more.bytes ∙ ap (λ (x : List ℕ). written x next v) h.bytes ∙ written_more b a u room next v h.behind;
-        behind = omega (arith, h.behind, more.behind, length_append u v);
+        behind = omega (arith, h.behind, more.behind, length-append u v);
       }
 
   -- One byte more of a piece, as a loop goes.
   pub copied_next : (piece now : List ℕ) (i : ℕ) → a + length piece ≤ length b → i < length piece → length now ≡ length b → now ≡ written b a (take i piece) → set now (a + i) (get_or piece i 0) ≡ written b a (take (i + 1) piece)
   copied_next piece now i room here long so_far =
-      let size = length_take_le i piece (omega arith) in
+      let size = length-take-le i piece (omega arith) in
       written_one now (a + i) (get_or piece i 0) (omega arith)
       ∙ ap (λ (x : List ℕ). written x (a + i) (get_or piece i 0 ∷ [])) so_far
       ∙ written_more b a (take i piece) (omega arith) (a + i) (get_or piece i 0 ∷ []) (omega arith)
-      ∙ ap (written b a) (sym (take_suc piece i 0 here) ∙ ap (λ (n : ℕ). take n piece) (sym (add_one i)))
+      ∙ ap (written b a) (sym (take-suc piece i 0 here) ∙ ap (λ (n : ℕ). take n piece) (sym (add-one i)))
 
 -- What is appended from the start on stands at the start, and the next place counts its bytes.
 module _ (b u after : List ℕ) (next : ℕ) (h : Appended b 0 u after next) where
@@ -46,7 +46,7 @@ module _ (b u after : List ℕ) (next : ℕ) (h : Appended b 0 u after next) whe
 
   pub appended_counts : IsPrefixLen next after
   appended_counts = (
-    omega (arith, ap length front, length_append u (drop (length u) b), h.behind),
+    omega (arith, ap length front, length-append u (drop (length u) b), h.behind),
     omega (arith, ap length appended_front, h.behind),
   )
 

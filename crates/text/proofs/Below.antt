@@ -3,7 +3,7 @@ use Prim.Native.Nat.{ℕ, zero, suc, ◌+◌, ◌*◌, ◌≤◌, ◌<◌}
 use mathlib.Core.Path.{◌≡◌, refl, sym}
 use mathlib.Core.List.{List}
 use native.Mathlib.Omega.{arith}
-use lib.ListN.{length, length_append}
+use lib.ListN.{length, length-append}
 use Rattle.planformat.specs.Bytes.{bytes_below}
 use Rattle.planformat.proofs.Shows.{bytes_next}
 use Rattle.text.specs.Appended.{Appended}
@@ -12,7 +12,7 @@ use Rattle.text.proofs.Appending.{append_as, append_more}
 pub bytes_short : (n m : ℕ) (f : ℕ → List ℕ) → ((k : ℕ) → length (f k) ≤ m) → length (bytes_below n f) ≤ m * n
 unfolding bytes_below
 bytes_short zero m f h = omega arith
-bytes_short (suc n) m f h = omega (arith, length_append (bytes_below n f) (f n), bytes_short n m f h, h n)
+bytes_short (suc n) m f h = omega (arith, length-append (bytes_below n f) (f n), bytes_short n m f h, h n)
 
 -- One piece more, as a loop goes.
 pub append_next : (b now after : List ℕ) (a at next i : ℕ) (f : ℕ → List ℕ) → a + length (bytes_below i f) ≤ length b → Appended b a (bytes_below i f) now at → Appended now at (f i) after next → Appended b a (bytes_below (i + 1) f) after next

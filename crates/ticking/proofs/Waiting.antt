@@ -4,7 +4,7 @@ use mathlib.Core.Path.{◌≡◌}
 use mathlib.Core.Bool.{true, false}
 use mathlib.Core.List.{List}
 use native.Mathlib.Omega.{arith}
-use borrow.Author.Tests.{ltb_false, not_false}
+use borrow.Author.Tests.{ltb-false, not-false}
 use lib.ListN.{length}
 use lib.IntN.{ℤ}
 use Rattle.numbers.proofs.Sums.{sum_bound}
@@ -33,7 +33,7 @@ pub record Passed (t list₀ list₁ : List ℤ) : Type 0 where
 -- A list that is not too short.
 room : (t : List ℤ) (p : ℕ) (list : List ℤ) → list_short t p list ≡ false → entry_length * port_waiting t p ≤ length list
 unfolding list_short
-room t p list h = ltb_false (length list) (entry_length * port_waiting t p) h
+room t p list h = ltb-false (length list) (entry_length * port_waiting t p) h
 
 pub tick_passed : (t list₀ list₁ : List ℤ) → tick_refusal t list₀ list₁ ≡ 0 → Passed t list₀ list₁
 unfolding tick_refusal
@@ -41,7 +41,7 @@ tick_passed t list₀ list₁ h =
     let p = none_first 1 _ _ (omega arith) h in
     let q = none_first 13 _ _ (omega arith) p.1 in
     record {
-      order = not_false _ p.0;
+      order = not-false _ p.0;
       first = room t first_port list₀ (or_false_left (list_short t first_port list₀) (list_short t second_port list₁) q.0);
       second = room t second_port list₁ (or_false_right (list_short t first_port list₀) (list_short t second_port list₁) q.0);
     }

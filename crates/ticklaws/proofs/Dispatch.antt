@@ -6,9 +6,9 @@ use mathlib.Core.Path.{◌≡◌, sym, ◌∙◌, subst, fun_ext}
 use mathlib.Core.Bool.{true, false, cond}
 use mathlib.Core.List.{List}
 use native.Mathlib.Omega.{arith}
-use borrow.Author.Tests.{eqb_true, eqb_false}
+use borrow.Author.Tests.{eqb-true, eqb-false}
 use lib.Dec.{eqb}
-use lib.ListN.{length, length_append}
+use lib.ListN.{length, length-append}
 use lib.IntN.{ℤ, pos, ◌-ℤ◌}
 use lib.Signed.{le_z}
 use Rattle.numbers.specs.Whole.{plus, minus}
@@ -92,8 +92,8 @@ pub dispatch_shifted : (tree : Tree) (t u : List ℤ) (k s : ℕ) → Dispatch t
 unfolding takes
 dispatch_shifted tree t u k s d j =
     by_test (eqb j k)
-    (λ e. rw (e, eqb_true j k e) d.own)
-    (λ e. rw e (d.other j (eqb_false j k e)))
+    (λ e. rw (e, eqb-true j k e) d.own)
+    (λ e. rw e (d.other j (eqb-false j k e)))
 
 -- A dispatch on the way from t, at a table that is reached.
 module _ (t : List ℤ) (f : InOrder t) (st : State) (r : Reached t st.table) (k : ℕ) (hk : k < nodes) (waits : 0 < waiting st.table k) (s : ℕ) (at : At (tree_of t) ((tree_of t).level s) s) where
@@ -124,4 +124,4 @@ module _ (t : List ℤ) (f : InOrder t) (st : State) (r : Reached t st.table) (k
 -- There is one entry more.
 pub dispatch_entry : (st : State) (k s : ℕ) → length (dispatched st k s).entries ≡ length st.entries + entry_length
 unfolding dispatched
-dispatch_entry st k s = length_append st.entries _
+dispatch_entry st k s = length-append st.entries _

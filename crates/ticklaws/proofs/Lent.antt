@@ -7,7 +7,7 @@ use mathlib.Core.Bool.{true, false}
 use mathlib.Core.List.{List}
 use native.Mathlib.Omega.{arith}
 use native.Mathlib.Decide.{ℕ_discrete}
-use borrow.Author.Tests.{eq_eqb, ne_eqb}
+use borrow.Author.Tests.{eq-eqb, ne_eqb}
 use lib.IntN.{ℤ, pos}
 use lib.Signed.{le_z}
 use Rattle.numbers.specs.Whole.{plus, minus}
@@ -35,7 +35,7 @@ lent_again n st ne = rw (ne_eqb (next st.table) nobody ne, lent)
 
 pub lent_done : (n : ℕ) (st : State) → next st.table ≡ nobody → lent (suc n) st ≡ st
 unfolding lent
-lent_done n st e = rw (eq_eqb (next st.table) nobody e, lent)
+lent_done n st e = rw (eq-eqb (next st.table) nobody e, lent)
 
 -- What each dispatch of a request that has a supplier keeps, step 4 keeps.
 pub lent_keeps : (P : State → Type 0) → ((st : State) → P st → (k : ℕ) → k < nodes → HasSupplier st.table k → P (dispatched st k (supplier st.table k))) → (n : ℕ) (st : State) → P st → P (lent n st)

@@ -5,9 +5,9 @@ use mathlib.Core.Path.{◌≡◌, sym, ap, ◌∙◌}
 use mathlib.Core.Bool.{true, false}
 use mathlib.Core.List.{List, [], ◌∷◌, ◌++◌}
 use native.Mathlib.Omega.{arith}
-use borrow.Author.Tests.{eqb_true, eqb_false, eq_eqb, ne_eqb}
+use borrow.Author.Tests.{eqb-true, eqb-false, eq-eqb, ne_eqb}
 use lib.Dec.{eqb}
-use lib.ListN.{length, length_append}
+use lib.ListN.{length, length-append}
 use lib.IntN.{ℤ, pos}
 use Rattle.numbers.specs.Whole.{plus}
 use Rattle.numbers.specs.Below.{sum_below}
@@ -61,8 +61,8 @@ port_most t p =
 pub waits_both : (t : List ℤ) → InOrder t → (k : ℕ) → count_if (eqb (port t k) first_port) (waiting t) k + count_if (eqb (port t k) second_port) (waiting t) k ≡ waiting t k
 waits_both t f k =
     by_port (port t) (ports_small t f) k
-    (λ here other. omega (arith, counted _ (waiting t) k (eq_eqb (port t k) first_port here), uncounted _ (waiting t) k (ne_eqb (port t k) second_port other)))
-    (λ other here. omega (arith, uncounted _ (waiting t) k (ne_eqb (port t k) first_port other), counted _ (waiting t) k (eq_eqb (port t k) second_port here)))
+    (λ here other. omega (arith, counted _ (waiting t) k (eq-eqb (port t k) first_port here), uncounted _ (waiting t) k (ne_eqb (port t k) second_port other)))
+    (λ other here. omega (arith, uncounted _ (waiting t) k (ne_eqb (port t k) first_port other), counted _ (waiting t) k (eq-eqb (port t k) second_port here)))
 
 pub port_both : (t : List ℤ) → InOrder t → port_waiting t first_port + port_waiting t second_port ≡ all_waiting t
 unfolding port_waiting all_waiting
@@ -120,8 +120,8 @@ module _ (port_of : ℕ → ℕ) (p : ℕ) (st : State) (k s : ℕ) (w : whole s
   unfolding gets
   entry_length_law =
       by_test (eqb (port_of k) p)
-      (λ e. omega (arith, ap length (entry_here (eqb_true _ p e)), length_append (of_port port_of p st.entries) (pos k ∷ tag st.table k 0 ∷ pos (size st.table k 0) ∷ pos s ∷ []), cond_true {A = ℕ} (eqb (port_of k) p) 1 0 e))
-      (λ e. omega (arith, ap length (entry_other (eqb_false _ p e)), cond_false {A = ℕ} (eqb (port_of k) p) 1 0 e))
+      (λ e. omega (arith, ap length (entry_here (eqb-true _ p e)), length-append (of_port port_of p st.entries) (pos k ∷ tag st.table k 0 ∷ pos (size st.table k 0) ∷ pos s ∷ []), cond_true {A = ℕ} (eqb (port_of k) p) 1 0 e))
+      (λ e. omega (arith, ap length (entry_other (eqb-false _ p e)), cond_false {A = ℕ} (eqb (port_of k) p) 1 0 e))
 
 pub entry_whole : (st : State) (k s : ℕ) → whole st.entries → whole (dispatched st k s).entries
 unfolding whole

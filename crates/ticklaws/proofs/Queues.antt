@@ -6,7 +6,7 @@ use mathlib.Core.Bool.{true, false}
 use mathlib.Core.List.{List}
 use native.Mathlib.Omega.{arith}
 use native.Mathlib.Decide.{dec_lt}
-use native.Mathlib.Nat.{add_suc}
+use native.Mathlib.Nat.{add-suc}
 use lib.IntN.{ℤ, pos}
 use Rattle.numbers.specs.Whole.{plus, minus, within_ℤ}
 use Rattle.numbers.proofs.Tests.{by_test, true_false}
@@ -131,7 +131,7 @@ module _ (tree : Tree) (n : ℕ) (t u : List ℤ) (d : ℕ → ℕ) (f : (k : �
               arith,
               shifted_arrival t u k (d k) (f k hk) i (waited k i hk (omega arith)).1,
               shifted_arrival t u k (d k) (f k hk) (suc i) (waited k (suc i) hk hi).1,
-              ap (arrival t k) (add_suc (d k) i),
+              ap (arrival t k) (add-suc (d k) i),
               q.rising k hk (d k + i) (omega (arith, waited k (suc i) hk hi)),
             );
         differ = λ k hk i hi j hj l hl e.

@@ -6,7 +6,7 @@ use mathlib.Core.Path.{◌≡◌, refl}
 use mathlib.Core.Bool.{true, false}
 use mathlib.Core.List.{List}
 use native.Mathlib.Omega.{arith}
-use borrow.Author.Tests.{ltb_true, lt_ltb}
+use borrow.Author.Tests.{ltb-true, lt-ltb}
 use lib.IntN.{ℤ, pos}
 use lib.Signed.{le_z}
 use Rattle.numbers.specs.Whole.{plus, minus}
@@ -50,11 +50,11 @@ pub record Ready (t : List ℤ) (k : ℕ) : Type 0 where
 
 pub ready_facts : (t : List ℤ) (k : ℕ) → ready t k ≡ true → Ready t k
 unfolding ready enough
-ready_facts t k h = record { waits = ltb_true 0 (waiting t k) (head_holds _ _ h); enough = head_holds _ _ (rest_hold _ _ h) }
+ready_facts t k h = record { waits = ltb-true 0 (waiting t k) (head_holds _ _ h); enough = head_holds _ _ (rest_hold _ _ h) }
 
 pub facts_ready : (t : List ℤ) (k : ℕ) → Ready t k → ready t k ≡ true
 unfolding ready enough
-facts_ready t k f = holds_with _ _ (lt_ltb 0 (waiting t k) f.waits) (holds_with _ _ f.enough none_left)
+facts_ready t k f = holds_with _ _ (lt-ltb 0 (waiting t k) f.waits) (holds_with _ _ f.enough none_left)
 
 -- A waiting client at a table that is reached is there, and covers what is enough from its own balance.
 module _ (t u : List ℤ) (r : Reached t u) (k : ℕ) (hk : k < nodes) (waits : 0 < waiting u k) where

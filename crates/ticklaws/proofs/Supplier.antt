@@ -3,7 +3,7 @@ use Prim.Native.Nat.{ℕ, zero, suc, ◌<◌}
 use mathlib.Core.Path.{◌≡◌, refl}
 use mathlib.Core.Bool.{true, false}
 use mathlib.Core.List.{List}
-use borrow.Author.Tests.{lt_ltb}
+use borrow.Author.Tests.{lt-ltb}
 use lib.IntN.{ℤ}
 use Rattle.numbers.proofs.Tests.{by_test, true_false}
 use Rattle.numbers.proofs.Every.{holds_with, none_left}
@@ -35,5 +35,5 @@ unfolding supplied supply at_or_above
 not_supplied t k waits h =
     none_on_way t (grains (size t k 0)) 0 ((tree_of t).level k) k
     (by_test (is_found (supply t k))
-    (λ l. absurd (true_false (holds_with _ _ (lt_ltb 0 (waiting t k) waits) (holds_with _ _ l none_left)) h))
+    (λ l. absurd (true_false (holds_with _ _ (lt-ltb 0 (waiting t k) waits) (holds_with _ _ l none_left)) h))
     (λ l. l))

@@ -8,7 +8,7 @@ use mathlib.Core.Logic.{⊎_elim}
 use mathlib.Core.List.{List}
 use native.Mathlib.Omega.{arith}
 use native.Mathlib.Decide.{ℕ_discrete}
-use borrow.Author.Tests.{eqb_true, eqb_false, ne_eqb, not_true}
+use borrow.Author.Tests.{eqb-true, eqb-false, ne_eqb, not-true}
 use lib.ListN.{length}
 use lib.Dec.{eqb}
 use lib.IntN.{ℤ, pos}
@@ -39,7 +39,7 @@ below_facts tree c k h =
     let h1 = rest_hold _ _ h in
     record {
       there = head_holds _ _ h;
-      other = eqb_false k c (not_true (eqb k c) (head_holds _ _ h1));
+      other = eqb-false k c (not-true (eqb k c) (head_holds _ _ h1));
       above = head_holds _ _ (rest_hold _ _ h1);
     }
 
@@ -88,7 +88,7 @@ module _ (tree : Tree) (w : Ways tree) where
           (λ ne.
           way_cases tree l k c (rw a.level at f.above)
           (λ e. absurd (f.other (sym e)))
-          (λ on. or_true_right (eqb p c) (below tree c p) (below_of tree c p (record { there = up.there; other = eqb_false p c ne; above = rw up.level on }))))
+          (λ on. or_true_right (eqb p c) (below tree c p) (below_of tree c p (record { there = up.there; other = eqb-false p c ne; above = rw up.level on }))))
 
       -- The class stands on the way from the parent, and so above the node.
       next : on_way tree l p c ≡ true → below tree c k ≡ true
@@ -103,13 +103,13 @@ module _ (tree : Tree) (w : Ways tree) where
       from : (eqb p c || below tree c p) ≡ true → below tree c k ≡ true
       from h =
           ⊎_elim
-          (λ e. next (rw (eqb_true p c e) (way_first tree l c)))
+          (λ e. next (rw (eqb-true p c e) (way_first tree l c)))
           (λ e. next (rw up.level at (below_facts tree c p e).above))
           (or_cases (eqb p c) (below tree c p) h)
 
   pub by_parent {ℓ} : {P : Type ℓ} (l c k : ℕ) → At tree (suc l) k → below tree c k ≡ true → (tree.parent k ≡ c → P) → (below tree c (tree.parent k) ≡ true → P) → P
   by_parent l c k a h class lower =
-      ⊎_elim (λ e. class (eqb_true (tree.parent k) c e)) lower
+      ⊎_elim (λ e. class (eqb-true (tree.parent k) c e)) lower
       (or_cases (eqb (tree.parent k) c) (below tree c (tree.parent k)) (sym (below_parent l c k a) ∙ h))
 
   -- The rate of a node below the class is that of a child.

@@ -4,7 +4,7 @@ use mathlib.Core.Path.{◌≡◌, refl, ap, ◌∙◌}
 use mathlib.Core.Bool.{Bool, true, false, not, cond}
 use mathlib.Core.List.{List}
 use native.Mathlib.Omega.{arith}
-use borrow.Author.Tests.{eqb_true, eqb_false, eq_eqb, ne_eqb, not_true}
+use borrow.Author.Tests.{eqb-true, eqb-false, eq-eqb, ne_eqb, not-true}
 use lib.Dec.{eqb}
 use lib.IntN.{ℤ, pos}
 use lib.Signed.{le_z}
@@ -32,23 +32,23 @@ child_facts tree c k h =
     let h1 = rest_hold _ _ h in
     record {
       there = head_holds _ _ h;
-      below = eqb_false k 0 (not_true (eqb k 0) (head_holds _ _ h1));
-      parent = eqb_true (tree.parent k) c (head_holds _ _ (rest_hold _ _ h1));
+      below = eqb-false k 0 (not-true (eqb k 0) (head_holds _ _ h1));
+      parent = eqb-true (tree.parent k) c (head_holds _ _ (rest_hold _ _ h1));
     }
 
 pub child_of_law : (tree : Tree) (c k : ℕ) → ChildOf tree c k → child_of tree c k ≡ true
 unfolding child_of
 child_of_law tree c k f =
-    holds_with _ _ f.there (holds_with _ _ (ap not (ne_eqb k 0 f.below)) (holds_with _ _ (eq_eqb (tree.parent k) c f.parent) none_left))
+    holds_with _ _ f.there (holds_with _ _ (ap not (ne_eqb k 0 f.below)) (holds_with _ _ (eq-eqb (tree.parent k) c f.parent) none_left))
 
 -- A class without children has no child.
 pub no_children_law : (tree : Tree) (c : ℕ) → childless tree c ≡ true → (k : ℕ) → k < nodes → ChildOf tree c k → ⊥
 unfolding childless
-no_children_law tree c h k hk child = true_false (child_of_law tree c k child) (not_true _ (all_at nodes (λ k. not (child_of tree c k)) h k hk))
+no_children_law tree c h k hk child = true_false (child_of_law tree c k child) (not-true _ (all_at nodes (λ k. not (child_of tree c k)) h k hk))
 
 pub class_there : (tree : Tree) (k : ℕ) → is_class tree k ≡ true → there tree k ≡ true
 unfolding there is_class
-class_there tree k e = ap not (ne_eqb (tree.sort k) 0 (λ z. omega (arith, eqb_true (tree.sort k) class e)))
+class_there tree k e = ap not (ne_eqb (tree.sort k) 0 (λ z. omega (arith, eqb-true (tree.sort k) class e)))
 
 -- A term that is counted, and one that is not.
 pub counted : (b : Bool) (f : ℕ → ℕ) (k : ℕ) → b ≡ true → count_if b f k ≡ f k

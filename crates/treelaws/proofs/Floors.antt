@@ -6,7 +6,7 @@ use mathlib.Core.Path.{◌≡◌, ap}
 use mathlib.Core.Bool.{true, false}
 use mathlib.Core.List.{List}
 use native.Mathlib.Omega.{arith}
-use native.Mathlib.Nat.{mul_le_mul_right, sub_le}
+use native.Mathlib.Nat.{mul-le-mul_right, sub-le}
 use lib.IntN.{ℤ, pos}
 use Rattle.numbers.specs.Whole.{plus, minus}
 use Rattle.numbers.proofs.Tests.{by_test}
@@ -57,7 +57,7 @@ step tree B L F m c hc e h =
       (F.room c hc (class_there tree c e)).class e,
       under_le tree c (λ k. minus (B k)) (λ k. tree.depth k * (grain_scale * m)) h,
       under_scale tree c tree.depth (grain_scale * m),
-      mul_le_mul_right (grain_scale * m) (L.depths c hc e),
+      mul-le-mul_right (grain_scale * m) (L.depths c hc e),
       one_is_zero (B c),
     )
 
@@ -79,7 +79,7 @@ floor_of_class tree B L F c hc e =
 pub floor_of_node : (tree : Tree) (B : ℕ → ℤ) → Levels tree → Floor tree B → (k : ℕ) → k < nodes → there tree k ≡ true → minus (B k) ≤ entry_length * (tree.depth k * grain_scale)
 floor_of_node tree B L F k hk h =
     by_test (is_class tree k)
-    (λ e. omega (arith, floor_of_class tree B L F k hk e, mul_le_mul_right (tree.depth k * grain_scale) (sub_le last_level (tree.level k))))
+    (λ e. omega (arith, floor_of_class tree B L F k hk e, mul-le-mul_right (tree.depth k * grain_scale) (sub-le last_level (tree.level k))))
     (λ e. omega (arith, client_floor tree B k (F.room k hk h) e))
 
 -- The facts of a table that the floor rests on, as the in-order test gives them clause by clause.

@@ -8,8 +8,8 @@ use mathlib.Core.Logic.{⊎_elim, ◌↔◌}
 use mathlib.Core.List.Memᴰ.{cases_cons as among_cases}
 use mathlib.Core.List.Memᴰ.{eq_of_singleton as among_one}
 use mathlib.Core.List.Memᴰ.{head as IsAmong-first}
-use mathlib.Core.List.Memᴰ.{not_nil as among_none}
-use mathlib.Core.List.Memᴰ.{tail as among_rest}
+use mathlib.Core.List.Memᴰ.{not-nil as among_none}
+use mathlib.Core.List.Memᴰ.{tail as among-rest}
 use mathlib.Core.List.{List, [], ◌∷◌, Memᴰ as Among}
 use native.Mathlib.Omega.{arith}
 use native.Mathlib.Decide.{ℕ_discrete, dec_lt}
@@ -65,7 +65,7 @@ next_leave t j v joins u a s r =
       long = r.long;
       heading = λ p hp. r.heading p hp ∙ s.heading p hp;
       rest = λ k p low hp other. r.rest k p low hp other ∙ s.rest k p low hp other;
-      kept = λ k p hp nobody. r.kept k p hp (λ h. nobody (h.0, among_rest h.1, h.2)) ∙ s.kept k p hp (λ e. nobody (j, IsAmong-first refl, sym e));
+      kept = λ k p hp nobody. r.kept k p hp (λ h. nobody (h.0, among-rest h.1, h.2)) ∙ s.kept k p hp (λ e. nobody (j, IsAmong-first refl, sym e));
       written = λ i m p hp. ⊎_elim (λ e. rw e (first p hp)) (λ n. r.written i n p hp) (among_cases m);
       free = λ i m. ⊎_elim (λ e. rw e a.unused) (λ n. earlier (plus i.node) (r.free i n)) (among_cases m);
       disk = r.disk ∙ s.disk;
@@ -112,7 +112,7 @@ found (i ∷ joins) k = go (ℕ_discrete (plus i.node) k) (found joins k)
   where
     go : Dec (plus i.node ≡ k) → Dec (HasNode joins k) → Dec (HasNode (i ∷ joins) k)
     go (yes e) below = yes (i, IsAmong-first refl, e)
-    go (no ne) (yes h) = yes (h.0, among_rest h.1, h.2)
+    go (no ne) (yes h) = yes (h.0, among-rest h.1, h.2)
     go (no ne) (no nobody) = no (λ h. ⊎_elim (λ same. ne (rw same at h.2)) (λ m. nobody (h.0, m, h.2)) (among_cases h.1))
 
 written_level : (t : List ℤ) (joins : List Join) (u : List ℤ) → JoinsLeave t joins u → (j : Join) → Among j joins → (tree_of u).level (plus j.node) ≡ suc ((tree_of u).level (plus j.parent))
@@ -190,4 +190,4 @@ unfolding after_joins
 two_joins t a b h1 h2 h3 h4 = join_order t (a ∷ b ∷ []) (b ∷ a ∷ []) (λ j. (swap a b j, swap b a j)) (next h1 (next h2 none)) (next h3 (next h4 none))
   where
     swap : (a b j : Join) → Among j (a ∷ b ∷ []) → Among j (b ∷ a ∷ [])
-    swap a b j m = ⊎_elim (λ e. among_rest (IsAmong-first e)) (λ n. IsAmong-first (among_one n)) (among_cases m)
+    swap a b j m = ⊎_elim (λ e. among-rest (IsAmong-first e)) (λ n. IsAmong-first (among_one n)) (among_cases m)

@@ -7,7 +7,7 @@ use mathlib.Core.Path.{◌≡◌, refl, ap}
 use mathlib.Core.Bool.{true}
 use mathlib.Core.List.{List, [], ◌∷◌}
 use native.Mathlib.Omega.{arith}
-use native.Mathlib.Nat.{div_zero, lt_of_mul_lt_mul_right}
+use native.Mathlib.Nat.{div-zero, lt_of_mul-lt-mul_right}
 use lib.IntN.{ℤ, pos}
 use lib.Signed.{le_z}
 use Rattle.numbers.specs.Whole.{plus, minus}
@@ -116,7 +116,7 @@ lost_of r shares h fits =
     let p = by_kind rest f w shares in
     let near : rest ≤ p.fixed_rates + p.fixed_count + left = omega (arith, left_rounded rest f, ap (λ (s : ℕ). rest * s) (whole f h)) in
     record {
-      weighted = λ some. omega (arith, lt_of_mul_lt_mul_right w {m = left} {n = p.weighted_rates + p.weighted_count} (omega (arith, p.some_weighted some, p.weighted_near some)));
+      weighted = λ some. omega (arith, lt_of_mul-lt-mul_right w {m = left} {n = p.weighted_rates + p.weighted_count} (omega (arith, p.some_weighted some, p.weighted_near some)));
       full = λ all. omega (arith, p.some_fixed (omega arith), ap (λ (s : ℕ). rest * s) all);
       least = λ none. omega (arith, rates_le rest f w shares, fixed_and_left rest f h, nothing left w none);
       most = omega arith;
@@ -126,7 +126,7 @@ lost_of r shares h fits =
     whole f h = omega arith
 
     nothing : (left w : ℕ) → w ≡ 0 → weighted_rate left w w ≡ 0
-    nothing left w none = rw none (div_zero (left * 0))
+    nothing left w none = rw none (div-zero (left * 0))
 
 -- The law for a class of a table in order.
 module _ (t : List ℤ) (f : InOrder t) (c : ℕ) (hc : c < nodes) (class : is_class (tree_of t) c ≡ true) where

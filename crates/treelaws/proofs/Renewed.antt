@@ -6,7 +6,7 @@ use mathlib.Core.Bool.{Bool, true, false, cond}
 use mathlib.Core.List.{List}
 use native.Mathlib.Omega.{arith}
 use native.Mathlib.Decide.{dec_lt, ℕ_discrete}
-use lib.ListN.{length, get_or_eq_default}
+use lib.ListN.{length, get_or-eq_default}
 use lib.IntN.{ℤ, pos}
 use Rattle.numbers.specs.Whole.{plus}
 use Rattle.numbers.specs.Below.{for_below}
@@ -101,7 +101,7 @@ same_tree_law t u h =
 -- Nothing stands beyond the table's end, so the nodes below 64 settle it.
 pub beyond : (t : List ℤ) (k p : ℕ) → length t ≡ table_length → nodes ≤ k → place t k p ≡ pos 0
 unfolding place
-beyond t k p nt h = get_or_eq_default t (pos 0) (omega arith)
+beyond t k p nt h = get_or-eq_default t (pos 0) (omega arith)
 
 pub same_tree_below : (t u : List ℤ) → length t ≡ table_length → length u ≡ table_length → ((k p : ℕ) → k < nodes → p < rate_at → place t k p ≡ place u k p) → tree_of t ≡ tree_of u
 same_tree_below t u nt nu h = same_tree_law t u (λ k p hp. elim (dec_lt k nodes) [ yes l ↦ h k p l hp | no l ↦ beyond t k p nt (omega arith) ∙ sym (beyond u k p nu (omega arith)) ])

@@ -7,9 +7,9 @@ use mathlib.Core.Path.{◌≡◌, refl, sym, ap, ◌∙◌}
 use mathlib.Core.Bool.{true, false, cond}
 use mathlib.Core.List.{List, [], ◌∷◌}
 use native.Mathlib.Omega.{arith}
-use native.Mathlib.Nat.{div_mul_le_self, le_div_iff_mul_le, div_le_of_le_mul, div_zero, mul_le_mul_left, add_zero}
+use native.Mathlib.Nat.{div-mul-le_self, le-div_iff_mul-le, div-le_of_le-mul, div-zero, mul-le-mul_left, add-zero}
 use native.Mathlib.Decide.{ℕ_discrete}
-use borrow.Author.Tests.{eq_eqb}
+use borrow.Author.Tests.{eq-eqb}
 use lib.IntN.{ℤ}
 use Rattle.numbers.specs.Whole.{plus, minus}
 use Rattle.numbers.specs.Below.{sum_below}
@@ -27,13 +27,13 @@ use Rattle.treelaws.specs.Lost.{divided_count}
 
 -- Rounding down.
 parts_le : (a s u m : ℕ) → a * s / m + a * u / m ≤ a * (s + u) / m
-parts_le a s u zero = omega (arith, div_zero (a * s), div_zero (a * u))
+parts_le a s u zero = omega (arith, div-zero (a * s), div-zero (a * u))
 parts_le a s u (suc m) =
-    (le_div_iff_mul_le {k = suc m} {x = a * s / suc m + a * u / suc m} {y = a * (s + u)} (omega arith)).1
-    (omega (arith, div_mul_le_self (a * s) (suc m), div_mul_le_self (a * u) (suc m)))
+    (le-div_iff_mul-le {k = suc m} {x = a * s / suc m + a * u / suc m} {y = a * (s + u)} (omega arith)).1
+    (omega (arith, div-mul-le_self (a * s) (suc m), div-mul-le_self (a * u) (suc m)))
 
 part_le : (a s m : ℕ) → s ≤ m → a * s / m ≤ a
-part_le a s m h = div_le_of_le_mul m (omega (arith, mul_le_mul_left a h))
+part_le a s m h = div-le_of_le-mul m (omega (arith, mul-le-mul_left a h))
 
 -- The pieces of a rate.
 pub fixed_le : (r s : ℕ) → s ≤ whole_share → fixed_rate r s ≤ r
@@ -56,9 +56,9 @@ unstated_le r s = omega arith
 pub rates_le : (r f w : ℕ) (shares : List Share) → sum_of (share_rate r f w) shares ≤ sum_of stated_part shares + fixed_rate r (sum_of fixed_part shares) + weighted_rate (left_rate r f) (sum_of weight_part shares) w
 unfolding sum_of share_rate fixed_part weight_part stated_part fixed_rate weighted_rate
 rates_le r f w [] = omega arith
-rates_le r f w (fixed s ∷ shares) = rw (add_zero, add_zero) (omega (arith, rates_le r f w shares, parts_le r (sum_of fixed_part shares) s whole_share))
+rates_le r f w (fixed s ∷ shares) = rw (add-zero, add-zero) (omega (arith, rates_le r f w shares, parts_le r (sum_of fixed_part shares) s whole_share))
 rates_le r f w (weighted s ∷ shares) = omega (arith, rates_le r f w shares, parts_le (left_rate r f) (sum_of weight_part shares) s w)
-rates_le r f w (stated s ∷ shares) = rw (add_zero, add_zero) (omega (arith, rates_le r f w shares))
+rates_le r f w (stated s ∷ shares) = rw (add-zero, add-zero) (omega (arith, rates_le r f w shares))
 
 -- The fixed part and what is left are at most the whole.
 pub fixed_and_left : (r f : ℕ) → f ≤ whole_share → fixed_rate r f + left_rate r f ≤ r
@@ -263,7 +263,7 @@ pub no_stated_under : (t : List ℤ) → InOrder t → (c : ℕ) → (c ≡ root
 unfolding kind_sum is_stated
 no_stated_under t f c ne =
     under_zero (tree_of t) c (kind_share (tree_of t) stated_kind)
-    (λ k hk child. other_share (tree_of t) stated_kind k (λ e. ne (sym child.parent ∙ f.stated.under k hk child.there (eq_eqb ((tree_of t).kind k) stated_kind e))))
+    (λ k hk child. other_share (tree_of t) stated_kind k (λ e. ne (sym child.parent ∙ f.stated.under k hk child.there (eq-eqb ((tree_of t).kind k) stated_kind e))))
 
 pub share_in_order : (t : List ℤ) → InOrder t → (k : ℕ) → k < nodes → there (tree_of t) k ≡ true → (k ≡ root → ⊥) → Shared (tree_of t) (rate t root) k
 unfolding tree_of

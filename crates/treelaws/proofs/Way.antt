@@ -7,7 +7,7 @@ use mathlib.Core.Logic.{⊎_elim}
 use mathlib.Core.List.{List}
 use native.Mathlib.Omega.{arith}
 use native.Mathlib.Decide.{ℕ_discrete}
-use borrow.Author.Tests.{eqb_true, eq_eqb, ne_eqb}
+use borrow.Author.Tests.{eqb-true, eq-eqb, ne_eqb}
 use lib.Dec.{eqb}
 use lib.IntN.{ℤ}
 use Rattle.numbers.specs.Whole.{plus}
@@ -46,8 +46,8 @@ pub record Above (tree : Tree) (l k : ℕ) : Type 0 where
 
 pub way_first : (tree : Tree) (l k : ℕ) → on_way tree l k k ≡ true
 unfolding on_way
-way_first tree zero k = eq_eqb k k refl
-way_first tree (suc l) k = or_true_left (eqb k k) (on_way tree l (tree.parent k) k) (eq_eqb k k refl)
+way_first tree zero k = eq-eqb k k refl
+way_first tree (suc l) k = or_true_left (eqb k k) (on_way tree l (tree.parent k) k) (eq-eqb k k refl)
 
 pub way_up : (tree : Tree) (l k j : ℕ) → on_way tree l (tree.parent k) j ≡ true → on_way tree (suc l) k j ≡ true
 unfolding on_way
@@ -55,11 +55,11 @@ way_up tree l k j h = or_true_right (eqb j k) (on_way tree l (tree.parent k) j) 
 
 pub way_top : (tree : Tree) (k j : ℕ) → on_way tree 0 k j ≡ true → j ≡ k
 unfolding on_way
-way_top tree k j h = eqb_true j k h
+way_top tree k j h = eqb-true j k h
 
 pub way_cases {ℓ} : {P : Type ℓ} (tree : Tree) (l k j : ℕ) → on_way tree (suc l) k j ≡ true → (j ≡ k → P) → (on_way tree l (tree.parent k) j ≡ true → P) → P
 unfolding on_way
-way_cases tree l k j h first on = ⊎_elim (λ e. first (eqb_true j k e)) on (or_cases (eqb j k) (on_way tree l (tree.parent k) j) h)
+way_cases tree l k j h first on = ⊎_elim (λ e. first (eqb-true j k e)) on (or_cases (eqb j k) (on_way tree l (tree.parent k) j) h)
 
 -- The nodes above, up to the root, stand on it.
 pub way_above : (tree : Tree) (n l k : ℕ) → n ≤ l → on_way tree l k (node_above tree n k) ≡ true

@@ -5,7 +5,7 @@ use mathlib.Core.Bool.{true, false, cond}
 use mathlib.Core.List.{List, []}
 use native.Mathlib.Omega.{arith}
 use lib.Dec.{eqb}
-use borrow.Author.Tests.{eq_eqb, ne_eqb}
+use borrow.Author.Tests.{eq-eqb, ne_eqb}
 use Rattle.numbers.proofs.Tests.{cond_true, cond_false}
 use Rattle.definitions.specs.Refusals.{accepted, refused}
 use Rattle.answers.specs.Answers.{number_of}
@@ -24,7 +24,7 @@ module _ (s : List ℕ) (number : ℕ) where
       ap (listed_from s number i) more
 
   pub listed_here : (i n : ℕ) → i < n → (entry_in s i).node ≡ number → listed_from s number i (n - i) ≡ body_values (entry_in s i)
-  listed_here i n h e = step i n h ∙ cond_true _ _ _ (eq_eqb (entry_in s i).node number e)
+  listed_here i n h e = step i n h ∙ cond_true _ _ _ (eq-eqb (entry_in s i).node number e)
 
   pub listed_later : (i n : ℕ) → i < n → ((entry_in s i).node ≡ number → ⊥) → listed_from s number i (n - i) ≡ listed_from s number (i + 1) (n - (i + 1))
   listed_later i n h e = step i n h ∙ cond_false _ _ _ (ne_eqb (entry_in s i).node number e)

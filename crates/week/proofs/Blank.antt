@@ -6,8 +6,8 @@ use native.Mathlib.Omega.{arith}
 use native.Mathlib.Decide.{ℕ_discrete}
 use borrow.Author.Tests.{ne_eqb}
 use lib.Dec.{eqb}
-use lib.ListN.{get_or, set, replicate, length_replicate}
-use lib.Seq.{get_or_set_same, get_or_set_other}
+use lib.ListN.{get_or, set, replicate, length-replicate}
+use lib.Seq.{get_or-set_same, get_or-set_other}
 use Rattle.cells.specs.Cells.{part_minutes}
 
 pub all_alike : {A : Type 0} (n i : ℕ) (a : A) → get_or (replicate n a) i a ≡ a
@@ -22,10 +22,10 @@ first_turn first j =
       | yes e ↦
           (let here : first ≡ first + 0 = omega arith in
           rw e
-          (get_or_set_same (replicate part_minutes false) 0 (eqb first 0) false (omega (arith, length_replicate {A = Bool} part_minutes false))
+          (get_or-set_same (replicate part_minutes false) 0 (eqb first 0) false (omega (arith, length-replicate {A = Bool} part_minutes false))
           ∙ ap (λ (n : ℕ). eqb n 0) here))
       | no ne ↦
-          (get_or_set_other (replicate part_minutes false) 0 j (eqb first 0) false ne
+          (get_or-set_other (replicate part_minutes false) 0 j (eqb first 0) false ne
           ∙ all_alike part_minutes j false
           ∙ sym (ne_eqb (first + j) 0 (λ e. ne (omega arith))))
     ]

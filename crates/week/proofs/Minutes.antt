@@ -4,7 +4,7 @@ use mathlib.Core.Path.{◌≡◌, refl, sym, ◌∙◌}
 use mathlib.Core.Bool.{Bool, true, false, cond}
 use mathlib.Core.List.{List}
 use native.Mathlib.Omega.{arith}
-use borrow.Author.Tests.{eqb_true, eq_eqb, ne_eqb}
+use borrow.Author.Tests.{eqb-true, eq-eqb, ne_eqb}
 use lib.Dec.{eqb}
 use lib.ListN.{get_or}
 use lib.IntN.{ℤ}
@@ -70,7 +70,7 @@ module _ (ws : List ℤ) (timed : (i : ℕ) → i < window_count ws → Timed ws
       let b = cover_facts ws j (window_node ws i) m c in
       let end = (timed i hi).ends in
       filled_some ws (window_node ws i) (m / part_minutes * part_minutes + m % part_minutes) i
-      (eqb_true _ 0
+      (eqb-true _ 0
       (test_at _ (λ l. eqb (value_in ws i (window_node ws i) (m / part_minutes * part_minutes + l)) 0) (m % part_minutes)
       (all_at part_minutes (λ l. test_if (covers ws i (window_node ws i) (m / part_minutes * part_minutes + l)) (λ l. eqb (value_in ws i (window_node ws i) (m / part_minutes * part_minutes + l)) 0) l)
       (h (m / part_minutes) (omega arith) i hi) (m % part_minutes) (omega arith))
@@ -83,7 +83,7 @@ module _ (ws : List ℤ) (timed : (i : ℕ) → i < window_count ws → Timed ws
   minute_clear h first i hi =
       all_intro part_minutes _
       (λ l hl. at_test (covers ws i (window_node ws i) (first + l)) (λ l. eqb (value_in ws i (window_node ws i) (first + l)) 0) l
-      (λ c. eq_eqb _ 0 (filled_none ws (window_node ws i) (first + l) i (apart_at ws h i hi (window_node ws i) (first + l) (cover_facts ws i (window_node ws i) (first + l) c)))))
+      (λ c. eq-eqb _ 0 (filled_none ws (window_node ws i) (first + l) i (apart_at ws h i hi (window_node ws i) (first + l) (cover_facts ws i (window_node ws i) (first + l) c)))))
 
   pub parts_apart : all_below week_parts (λ b. all_below (window_count ws) (clear_in ws (b * part_minutes))) ≡ apart ws
   parts_apart =

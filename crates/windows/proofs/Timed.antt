@@ -4,7 +4,7 @@ use mathlib.Core.Path.{◌≡◌}
 use mathlib.Core.Bool.{true}
 use mathlib.Core.List.{List}
 use native.Mathlib.Omega.{arith}
-use borrow.Author.Tests.{ltb_true}
+use borrow.Author.Tests.{ltb-true}
 use lib.IntN.{ℤ}
 use Rattle.numbers.specs.Below.{all_below}
 use Rattle.numbers.proofs.Every.{head_holds, rest_hold}
@@ -23,4 +23,4 @@ timed_of tree ws h i hi =
     let w2 = rest_hold _ _ w1 in
     let node = within_parts 1 last_node (window_number ws i window_node_at) (head_holds _ _ (rest_hold _ _ w2)) in
     let end = within_parts 0 week_minutes (window_number ws i window_end_at) (head_holds _ _ w1) in
-    record { whole = omega arith; node = omega arith; rises = ltb_true (window_start ws i) (window_end ws i) (head_holds _ _ w2); ends = omega arith }
+    record { whole = omega arith; node = omega arith; rises = ltb-true (window_start ws i) (window_end ws i) (head_holds _ _ w2); ends = omega arith }

@@ -6,7 +6,7 @@ use mathlib.Core.List.{List}
 use native.Mathlib.Omega.{arith}
 use native.Mathlib.Decide.{ℕ_discrete}
 use lib.ListN.{length, get_or, set}
-use lib.Seq.{get_or_set_same, get_or_set_other}
+use lib.Seq.{get_or-set_same, get_or-set_other}
 use lib.IntN.{ℤ}
 use Rattle.numbers.proofs.Tests.{by_test, true_false, cond_true, cond_false}
 use Rattle.numbers.proofs.All.{below_cases}
@@ -27,13 +27,13 @@ module _ (ws : List ℤ) (i m : ℕ) (shares : List ℕ) where
   pub share_given : (k : ℕ) → window_node ws i < length shares → covers ws i (window_node ws i) m ≡ true → get_or (set shares (window_node ws i) (window_share ws i)) k 0 ≡ cond (covers ws i k m) (window_share ws i) (get_or shares k 0)
   share_given k room h =
       elim (ℕ_discrete k (window_node ws i)) [
-        | yes e ↦ (rw e (get_or_set_same shares (window_node ws i) (window_share ws i) 0 room ∙ sym (cond_true _ _ _ h)))
+        | yes e ↦ (rw e (get_or-set_same shares (window_node ws i) (window_share ws i) 0 room ∙ sym (cond_true _ _ _ h)))
         | no ne ↦
-            (get_or_set_other shares (window_node ws i) k (window_share ws i) 0 ne
+            (get_or-set_other shares (window_node ws i) k (window_share ws i) 0 ne
             ∙ sym (cond_false _ _ _ (by_test (covers ws i k m) (λ e. absurd (ne (sym (cover_facts ws i k m e).node))) (λ e. e))))
       ]
 
 -- Shares below k are written, and one more.
 pub written_more : (shares : List ℕ) (f : ℕ → ℕ) (n v : ℕ) → n < length shares → v ≡ f n → ((k : ℕ) → k < n → get_or shares k 0 ≡ f k) → (k : ℕ) → k < n + 1 → get_or (set shares n v) k 0 ≡ f k
 written_more shares f n v room e h k hk =
-    below_cases n k (omega arith) (λ l. get_or_set_other shares n k v 0 (λ same. omega arith) ∙ h k l) (λ same. rw same (get_or_set_same shares n v 0 room ∙ e))
+    below_cases n k (omega arith) (λ l. get_or-set_other shares n k v 0 (λ same. omega arith) ∙ h k l) (λ same. rw same (get_or-set_same shares n v 0 room ∙ e))

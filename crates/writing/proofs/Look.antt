@@ -4,7 +4,7 @@ use mathlib.Core.Path.{◌≡◌, refl, sym, ap, ◌∙◌}
 use mathlib.Core.Bool.{true, false, not}
 use mathlib.Core.List.{List}
 use native.Mathlib.Omega.{arith}
-use borrow.Author.Tests.{not_false}
+use borrow.Author.Tests.{not-false}
 use lib.IntN.{ℤ, pos}
 use Rattle.numbers.specs.Whole.{plus, within_ℤ}
 use Rattle.numbers.proofs.Tests.{by_test}
@@ -17,7 +17,7 @@ use Rattle.definitions.proofs.Refusals.{none_first, first_none, first_end, outco
 
 pub look_accepted : (t : List ℤ) (values : List ℤ) → look_answer t (pos root) ≡ accepted values → in_order t ≡ true
 unfolding look_answer look_refusal number_told
-look_accepted t values h = not_false _ (none_first 1 _ _ (omega arith) (sym (number_outcome _ _) ∙ ap number_told h)).0
+look_accepted t values h = not-false _ (none_first 1 _ _ (omega arith) (sym (number_outcome _ _) ∙ ap number_told h)).0
 
 -- The root of a table in order is there.
 root_seen : (t : List ℤ) → in_order t ≡ true → look_refusal t (pos root) ≡ 0

@@ -3,7 +3,7 @@ use Prim.Native.Nat.{ℕ, ◌≤◌, ◌<◌}
 use mathlib.Core.Path.{◌≡◌, sym, ap, ◌∙◌}
 use mathlib.Core.Bool.{true, false, not}
 use mathlib.Core.List.{List, [], ◌∷◌}
-use borrow.Author.Tests.{lt_ltb, le_ltb, ne_eqb}
+use borrow.Author.Tests.{lt-ltb, le-ltb, ne_eqb}
 use lib.Dec.{eqb}
 use lib.ListN.{length}
 use lib.IntN.{ℤ, pos}
@@ -32,12 +32,12 @@ module _ (t : List ℤ) (edition : ℤ) (buffer : List ℕ) where
     module _ (known : within_ℤ first_edition second_edition edition ≡ true) where
       pub too_short : length buffer < length (plan_bytes (edition_told edition) t) → write_refusal t edition buffer ≡ 13
       unfolding write_refusal
-      too_short short = first_past 1 _ _ (ap not order) ∙ first_past 2 _ _ (ap not known) ∙ first_here 13 _ _ (lt_ltb (length buffer) _ short)
+      too_short short = first_past 1 _ _ (ap not order) ∙ first_past 2 _ _ (ap not known) ∙ first_here 13 _ _ (lt-ltb (length buffer) _ short)
 
       pub no_kind : length (plan_bytes (edition_told edition) t) ≤ length buffer → unwritable (edition_told edition) (tree_of t) ≡ true → write_refusal t edition buffer ≡ 16
       unfolding write_refusal
       no_kind room h =
-          first_past 1 _ _ (ap not order) ∙ first_past 2 _ _ (ap not known) ∙ first_past 13 _ _ (le_ltb (length buffer) _ room) ∙ first_here 16 _ _ h
+          first_past 1 _ _ (ap not order) ∙ first_past 2 _ _ (ap not known) ∙ first_past 13 _ _ (le-ltb (length buffer) _ room) ∙ first_here 16 _ _ h
 
   -- Refused, the number only, and the buffer as it came.
   pub refused_answer : (number : ℕ) (values : List ℤ) → (number ≡ 0 → ⊥) → write_refusal t edition buffer ≡ number → outcome number values ≡ write_answer t edition buffer

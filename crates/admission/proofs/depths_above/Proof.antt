@@ -26,7 +26,7 @@ returns : tie.Need-returns
 unfolding term tree_of
 returns c =
     let start = c.before.before.before in
-    ap₂ (λ (own sum : ℕ). ltb own (sum + start.args.new.depth)) c.before.before.natural.ensures c.before.sum_under.ensures
+    ap₂ (λ (own sum : ℕ). ltb own (sum + start.args.new.depth)) c.before.before.natural.ensures c.before.sum-under.ensures
     ∙ sym (depths_with _ _ start.requires)
 
 pub depths_above_spec : {M : Type 1} → statement M

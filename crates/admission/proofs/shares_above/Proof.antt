@@ -15,7 +15,7 @@ shares_above_requires c κs =
     (f.long, in_order_summable (Shares fixed) _ f, omega arith, c.requires.judged.limits.share)
 
 returns : tie.Need-returns
-returns c = c.shares_above.ensures ∙ sym (shares_with _ _ c.before.requires)
+returns c = c.shares-above.ensures ∙ sym (shares_with _ _ c.before.requires)
 
 pub shares_above_spec : {M : Type 1} → statement M
 shares_above_spec = tie.close (tie.spec shares_above_requires returns)

@@ -15,7 +15,7 @@ stated_wrong_requires c κs =
     (f.long, in_order_summable (Shares stated) _ f, omega arith, c.requires.judged.limits.share)
 
 returns : tie.Need-returns
-returns c = c.stated_wrong.ensures ∙ sym (stated_with _ _ c.before.requires)
+returns c = c.stated-wrong.ensures ∙ sym (stated_with _ _ c.before.requires)
 
 pub stated_wrong_spec : {M : Type 1} → statement M
 stated_wrong_spec = tie.close (tie.spec stated_wrong_requires returns)

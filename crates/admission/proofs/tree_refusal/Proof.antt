@@ -23,7 +23,7 @@ placeable c =
       judged = first.before.before.requires;
       unused = fails second.before.there2.ensures second.if2.false;
       there = holds first.before.there.ensures first.if1.false;
-      no_client = fails third.before.is_client.ensures third.if3.false;
+      no_client = fails third.before.is-client.ensures third.if3.false;
     }
 
 pub tree_refusal_spec : {M : Type 1} → statement M
@@ -40,4 +40,4 @@ tree_refusal_spec =
     (λ c κs. search rules)
     (λ c. (found _ _ (search causes depth 9 fits 4000), omega arith))
     (λ c κs. placeable c)
-    (λ c. (found _ _ (search (causes, handed_on) depth 9 fits 4000), c.sums_refusal.ensures.1)))
+    (λ c. (found _ _ (search (causes, handed_on) depth 9 fits 4000), c.sums-refusal.ensures.1)))

@@ -1,10 +1,10 @@
 -- `asking::ask` meets its contract: three draws, and the request that they give.
 use Prim.Native.Nat.{ℕ, ◌+◌, ◌%◌, ◌≤◌, ◌<◌}
 use mathlib.Core.Path.{sym, ap, ◌∙◌}
-use native.Mathlib.Nat.{mod_lt}
+use native.Mathlib.Nat.{mod-lt}
 use native.Mathlib.Omega.{arith}
 use mir.Syntax.{w64}
-use mir.ValLaws.{to_z_of_z}
+use mir.ValLaws.{to_z-of_z}
 use borrow.Author.Rules.{rules, sfits_of}
 use lib.ListN.{length, get_or}
 use lib.IntN.{pos}
@@ -34,7 +34,7 @@ pick : (c : tie.After-upper) → Picked (start c).args.table.now c.upper.result 
 pick c = picked _ _ _ (start c).requires.1 (test c).if1.false
 
 index : (c : tie.After-upper) → let n = length (start c).args.askers.now in c.upper.result % n < n
-index c = mod_lt c.upper.result (omega (arith, (test c).if1.false))
+index c = mod-lt c.upper.result (omega (arith, (test c).if1.false))
 
 -- Its depth, and the size that is drawn by it.
 deep : (c : tie.After-upper2) → (1 ≤ c.before.natural.result) × (c.before.natural.result ≤ greatest_depth)
@@ -43,7 +43,7 @@ deep c =
     (omega (arith, d.0, c.before.natural.ensures), omega (arith, d.1, c.before.natural.ensures))
 
 sized : (c : tie.After-upper2) → c.upper2.result % c.before.natural.result + 1 ≤ greatest_depth
-sized c = omega (arith, (deep c).0, (deep c).1, mod_lt c.upper2.result {m = c.before.natural.result} (deep c).0)
+sized c = omega (arith, (deep c).0, (deep c).1, mod-lt c.upper2.result {m = c.before.natural.result} (deep c).0)
 
 returns : tie.Need-returns
 returns c = asked_none _ (sym (ap length c.before.before.requires.1) ∙ c.if1.true)
@@ -103,18 +103,18 @@ returns_2 c =
     let tag = whole.before in
     let size = tag.before in
     let first = sizing size in
-    let second = first.before.before.next_state2 in
+    let second = first.before.before.next-state2 in
     let depth = size.before.natural in
     asked_request _ _ _ _ _ _ _ _ _ _
     (λ z. (test first).if1.left (ap length (start first).pre.1 ∙ z))
-    first.before.before.before.next_state.ensures
+    first.before.before.before.next-state.ensures
     second.ensures
-    first.before.next_state3.ensures
+    first.before.next-state3.ensures
     first.upper.ensures.0
     (pick first)
     (ap (λ (n : ℕ). n % depth.result + 1) size.upper2.ensures.0 ∙ ap (λ (n : ℕ). upper second.result % n + 1) depth.ensures)
-    (to_z_of_z w64 _ (sfits_of whole.whole.type_inv) ∙ whole.whole.ensures ∙ ap pos tag.upper3.ensures.0)
-    done.request_in_order.ensures
+    (to_z-of_z w64 _ (sfits_of whole.whole.type-inv) ∙ whole.whole.ensures ∙ ap pos tag.upper3.ensures.0)
+    done.request-in-order.ensures
 
 pub ask_spec : {M : Type 1} → statement M
 ask_spec =

@@ -4,7 +4,7 @@ use mathlib.Core.Logic.{⊎_elim}
 use mathlib.Core.Path.{◌≡◌, refl, sym, ◌∙◌}
 use native.Mathlib.Omega.{arith}
 use borrow.Author.Rules.{rules}
-use lib.ListN.{length, length_set}
+use lib.ListN.{length, length-set}
 use Rattle.definitions.specs.Limits.{nodes}
 use Rattle.definitions.specs.Tree.{tree_of}
 use Rattle.asking.specs.Asking.{clients_below}
@@ -12,10 +12,10 @@ use Rattle.asking.proofs.Listing.{Lists, lists_room, lists_more, lists_stay, lis
 use Rattle.asking.proofs.list_clients.Statement.{statement}
 use Rattle.asking.proofs.list_clients.Tie as tie
 
-abbrev invariant_loop : tie.invariant_loop
+abbrev invariant_loop : tie.invariant-loop
 invariant_loop table list₀ count₀ k₀ list count k = (k ≤ nodes) × (Lists (tree_of table) k count list) × (length list ≡ length list₀)
 
-abbrev decreases_loop : tie.decreases_loop
+abbrev decreases_loop : tie.decreases-loop
 decreases_loop table list₀ count₀ k₀ list count k = nodes - k
 
 loop_holds : tie.Need-loop-init invariant_loop decreases_loop
@@ -48,12 +48,12 @@ loop_again : tie.Need-loop-preserved invariant_loop decreases_loop
 loop_again c =
     let at = c.before.before.before in
     let old = at.loop.invariant.1 in
-    let test = c.before.is_client.ensures in (
+    let test = c.before.is-client.ensures in (
       omega arith,
       ⊎_elim (λ w. rw (w.1, w.2) (lists_more _ _ _ _ old (omega arith) (sym test ∙ w.0.taken)))
           (λ w. rw (w.1, w.2) (lists_stay _ _ _ _ old (sym test ∙ w.0.left)))
           c.if1.branch,
-      ⊎_elim (λ w. rw w.1 (length_set at.loop.list at.loop.count _ ∙ at.loop.invariant.2)) (λ w. rw w.1 at.loop.invariant.2) c.if1.branch,
+      ⊎_elim (λ w. rw w.1 (length-set at.loop.list at.loop.count _ ∙ at.loop.invariant.2)) (λ w. rw w.1 at.loop.invariant.2) c.if1.branch,
     )
 
 same_length : tie.Need-same-length invariant_loop decreases_loop

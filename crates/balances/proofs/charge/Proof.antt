@@ -13,12 +13,12 @@ use Rattle.balances.proofs.Charged.{Chargeable, chargeable_first, chargeable_nex
 use Rattle.balances.proofs.charge.Statement.{statement}
 use Rattle.balances.proofs.charge.Tie as tie
 
-abbrev invariant_loop : tie.invariant_loop
+abbrev invariant_loop : tie.invariant-loop
 invariant_loop table₀ amount s level₀ node₀ table level node =
     (node < nodes) × (Chargeable (tree_of table₀) amount level table)
     × (charge table amount level node ≡ charge table₀ amount ((tree_of table₀).level s) s)
 
-abbrev decreases_loop : tie.decreases_loop
+abbrev decreases_loop : tie.decreases-loop
 decreases_loop table₀ amount s level₀ node₀ table level node = level
 
 -- Back to the loop, from the charge in a turn and from the last one.
@@ -63,7 +63,7 @@ loop_again c =
     let start = at.before.before.before in
     let parent = charged.before.natural2.ensures in
     let low = c.before.lower.ensures in
-    let more : 0 < at.loop.level = omega (arith, charged.before.before.before.loop_test.true) in (
+    let more : 0 < at.loop.level = omega (arith, charged.before.before.before.loop-test.true) in (
       omega (arith, parent, chargeable_parent _ _ _ _ start.pre.0 at.loop.inv.1 _ at.loop.inv.0),
       subst (Chargeable _ start.args.amount (at.loop.level - 1)) (sym low) (chargeable_next _ _ _ _ at.loop.inv.1 more _ at.loop.inv.0),
       ap₂ (λ (u : List ℤ) (k : ℕ). charge u start.args.amount (at.loop.level - 1) k) low parent

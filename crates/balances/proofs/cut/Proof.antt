@@ -8,10 +8,10 @@ use Rattle.balances.proofs.Sweeps.{cutting, cutting_fits}
 use Rattle.balances.proofs.cut.Statement.{statement}
 use Rattle.balances.proofs.cut.Tie as tie
 
-abbrev invariant_loop : tie.invariant_loop
+abbrev invariant_loop : tie.invariant-loop
 invariant_loop table₀ k₀ table k = Turns nodes cutting table₀ table k
 
-abbrev decreases_loop : tie.decreases_loop
+abbrev decreases_loop : tie.decreases-loop
 decreases_loop table₀ k₀ table k = nodes - k
 
 -- From the end of a turn back to the loop.
@@ -36,7 +36,7 @@ loop_less c = omega arith
 loop_again : tie.Need-loop-preserved invariant_loop decreases_loop
 loop_again c =
     let at = (at c.before).loop in
-    turns_next at.inv (omega arith) _ c.before.cut_node.auto.0 c.before.cut_node.ensures
+    turns_next at.inv (omega arith) _ c.before.cut-node.auto.0 c.before.cut-node.ensures
 
 same_length : tie.Need-same-length invariant_loop decreases_loop
 same_length c = omega arith

@@ -5,7 +5,7 @@ use native.Mathlib.Omega.{arith}
 use lib.IntN.{pos}
 use lib.Signed.{le_z}
 use mir.Syntax.{w64}
-use mir.ValLaws.{to_z_of_z}
+use mir.ValLaws.{to_z-of_z}
 use borrow.Author.Rules.{rules, sfits_of}
 use Rattle.definitions.specs.Places.{put, balance, depth_grains}
 use Rattle.definitions.specs.Tree.{tree_of}
@@ -22,7 +22,7 @@ abbrev start : tie.After-at-most → tie.Start
 start c = (deep c).before.before
 
 -- The depth in grains is small, and what the test says.
-small : (c : tie.After-depth-grains) → c.depth_grains.result ≤ 2 ^ 60
+small : (c : tie.After-depth-grains) → c.depth-grains.result ≤ 2 ^ 60
 small c =
     let start = c.before.before in
     omega (arith, depth_grains_small start.args.table.now start.args.k start.requires.2)
@@ -33,8 +33,8 @@ tested c =
     sym
     (c.at_most.ensures
     ∙ ap₂ le_z
-    (to_z_of_z w64 _ (sfits_of c.before.before.get.type_inv) ∙ c.before.before.get.ensures)
-    (to_z_of_z w64 _ (sfits_of c.before.whole.type_inv) ∙ c.before.whole.ensures ∙ ap pos (deep c).depth_grains.ensures))
+    (to_z-of_z w64 _ (sfits_of c.before.before.get.type-inv) ∙ c.before.before.get.ensures)
+    (to_z-of_z w64 _ (sfits_of c.before.whole.type-inv) ∙ c.before.whole.ensures ∙ ap pos (deep c).depth-grains.ensures))
 
 depth_grains_requires : tie.Need-depth-grains-requires
 unfolding tree_of
@@ -64,8 +64,8 @@ same_length_2 c = search rules
 returns_2 : tie.Need-returns-2
 returns_2 c =
     let past = c.before.before.before in
-    c.before.put_natural.ensures
-    ∙ ap (put _ _ _) (ap pos (deep past.before).depth_grains.ensures)
+    c.before.put-natural.ensures
+    ∙ ap (put _ _ _) (ap pos (deep past.before).depth-grains.ensures)
     ∙ cut_falls _ _ (tested past.before ∙ past.if1.false)
 
 pub cut_node_spec : {M : Type 1} → statement M

@@ -3,7 +3,7 @@ use mathlib.Core.Path.{ap, ap₂, ◌∙◌}
 use native.Mathlib.Omega.{arith}
 use lib.IntN.{pos, ◌+ℤ◌}
 use mir.Syntax.{w64}
-use mir.ValLaws.{to_z_of_z}
+use mir.ValLaws.{to_z-of_z}
 use borrow.Author.Rules.{rules, sfits_of}
 use Rattle.numbers.specs.Whole.{plus}
 use Rattle.definitions.specs.Places.{put, rate, balance}
@@ -19,7 +19,7 @@ get_requires c κs = search rules
 raised_requires : tie.Need-raised-requires
 unfolding balance rate
 raised_requires c κs =
-    omega (arith, ap plus (to_z_of_z w64 _ (sfits_of c.get.type_inv) ∙ c.get.ensures))
+    omega (arith, ap plus (to_z-of_z w64 _ (sfits_of c.get.type-inv) ∙ c.get.ensures))
 
 put_requires : tie.Need-put-requires
 put_requires c κs = search rules
@@ -34,9 +34,9 @@ returns c =
     let read = made.before in
     c.before.put.ensures
     ∙ ap (put _ _ _)
-    (to_z_of_z w64 _ (sfits_of made.raised.type_inv)
+    (to_z-of_z w64 _ (sfits_of made.raised.type-inv)
     ∙ made.raised.ensures
-    ∙ ap₂ ◌+ℤ◌ (to_z_of_z w64 _ (sfits_of read.get.type_inv) ∙ read.get.ensures) (ap pos read.before.before.natural.ensures))
+    ∙ ap₂ ◌+ℤ◌ (to_z-of_z w64 _ (sfits_of read.get.type-inv) ∙ read.get.ensures) (ap pos read.before.before.natural.ensures))
 
 pub grow_node_spec : {M : Type 1} → statement M
 grow_node_spec =

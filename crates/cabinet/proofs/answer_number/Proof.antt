@@ -2,7 +2,7 @@
 use mathlib.Core.Path.{sym, ap, ◌∙◌}
 use borrow.Author.Rules.{rules, sfits_of}
 use mir.Syntax.{w64}
-use mir.ValLaws.{to_z_of_z}
+use mir.ValLaws.{to_z-of_z}
 use Rattle.answers.specs.Answers.{told}
 use Rattle.answers.specs.declared.Answer.{Answer}
 use Rattle.cabinet.specs.Exported.{exported}
@@ -21,13 +21,13 @@ negated_requires c κs = search rules
 returns : tie.Need-returns
 unfolding exported told
 returns c =
-    to_z_of_z w64 _ (record { sfits = c.known_told.given.0.1 })
+    to_z-of_z w64 _ (record { sfits = c.known-told.given.0.1 })
     ∙ sym (ap (λ (a : Answer). exported (told a)) c.before.answer.given.1)
 
 returns_2 : tie.Need-returns-2
 unfolding exported told
 returns_2 c =
-    to_z_of_z w64 _ (sfits_of c.negated.type_inv)
+    to_z-of_z w64 _ (sfits_of c.negated.type-inv)
     ∙ c.negated.ensures
     ∙ sym (ap (λ (a : Answer). exported (told a)) c.before.before.answer2.given.1)
 

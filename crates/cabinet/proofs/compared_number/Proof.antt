@@ -2,7 +2,7 @@
 use mathlib.Core.Path.{sym, ap, ◌∙◌}
 use borrow.Author.Rules.{rules, sfits_of}
 use mir.Syntax.{w64}
-use mir.ValLaws.{to_z_of_z}
+use mir.ValLaws.{to_z-of_z}
 use Rattle.answers.specs.Answers.{told_compared}
 use Rattle.answers.specs.declared.Compared.{Compared}
 use Rattle.cabinet.specs.Exported.{exported}
@@ -27,12 +27,12 @@ returns c = sym (ap (λ (a : Compared). exported (told_compared a)) c.enum_told.
 
 returns_2 : tie.Need-returns-2
 unfolding exported told_compared
-returns_2 c = sym (ap (λ (a : Compared). exported (told_compared a)) c.enum_told2.given.1)
+returns_2 c = sym (ap (λ (a : Compared). exported (told_compared a)) c.enum-told2.given.1)
 
 returns_3 : tie.Need-returns-3
 unfolding exported told_compared
 returns_3 c =
-    to_z_of_z w64 _ (sfits_of c.negated.type_inv)
+    to_z-of_z w64 _ (sfits_of c.negated.type-inv)
     ∙ c.negated.ensures
     ∙ sym (ap (λ (a : Compared). exported (told_compared a)) c.before.before.compared.given.1)
 

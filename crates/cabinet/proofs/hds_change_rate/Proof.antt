@@ -2,7 +2,7 @@
 use mathlib.Core.Path.{ap, ◌∙◌}
 use borrow.Author.Rules.{rules, sfits_of}
 use mir.Syntax.{w64}
-use mir.ValLaws.{to_z_of_z}
+use mir.ValLaws.{to_z-of_z}
 use Rattle.cabinet.specs.Exported.{exported}
 use Rattle.cabinet.proofs.hds_change_rate.Statement.{statement}
 use Rattle.cabinet.proofs.hds_change_rate.Tie as tie
@@ -21,8 +21,8 @@ returns c =
     let call = c.before.before in
     let s = call.before.before in
     let done =
-    rw (to_z_of_z w64 s.args.rate s.ranges.rate) at call.change_rate.ensures in
-    (to_z_of_z w64 _ (sfits_of c.answer_number.type_inv) ∙ c.answer_number.ensures ∙ ap exported done.0, done.1)
+    rw (to_z-of_z w64 s.args.rate s.ranges.rate) at call.change-rate.ensures in
+    (to_z-of_z w64 _ (sfits_of c.answer-number.type-inv) ∙ c.answer-number.ensures ∙ ap exported done.0, done.1)
 
 pub hds_change_rate_spec : {M : Type 1} → statement M
 hds_change_rate_spec = tie.close (tie.spec change_rate_requires answer_number_requires same_length returns)

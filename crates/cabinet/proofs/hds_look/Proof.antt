@@ -4,7 +4,7 @@ use mathlib.Core.List.{List, [], ◌∷◌}
 use borrow.Author.Rules.{rules, sfits_of}
 use lib.IntN.{ℤ}
 use mir.Syntax.{w64}
-use mir.ValLaws.{to_z_of_z}
+use mir.ValLaws.{to_z-of_z}
 use Rattle.answers.specs.Answers.{number_of, told_seen}
 use Rattle.definitions.specs.Calls.{look_answer}
 use Rattle.definitions.specs.Refusals.{Outcome, accepted, refused}
@@ -17,7 +17,7 @@ use Rattle.cabinet.proofs.hds_look.Tie as tie
 
 -- What look promises.
 promised : (c : tie.After-look) → let s = c.before in told_seen c.look.result ≡ look_answer s.args.table.now s.args.node
-promised c = let s = c.before in rw (to_z_of_z w64 s.args.node s.ranges.node) at c.look.ensures
+promised c = let s = c.before in rw (to_z-of_z w64 s.args.node s.ranges.node) at c.look.ensures
 
 four : {a b c d w x y z : ℤ} → w ≡ a → x ≡ b → y ≡ c → z ≡ d → ◌≡◌ {A = List ℤ} (w ∷ x ∷ y ∷ z ∷ []) (a ∷ b ∷ c ∷ d ∷ [])
 four p q r s = cc
@@ -49,13 +49,13 @@ returns c =
     let look = found.before.before in
     let s = look.before in
     let told = node_told _ _ _ _ found.found.given.1 (promised look) in
-    let fits = c.before.known_told.given in (
+    let fits = c.before.known-told.given in (
       accepted_number _ told,
       four
-          (to_z_of_z w64 _ (record { sfits = fits.0.1 }))
-          (to_z_of_z w64 _ (record { sfits = fits.1.0.1 }))
-          (to_z_of_z w64 _ (record { sfits = fits.1.1.0.1 }))
-          (to_z_of_z w64 _ (record { sfits = fits.1.1.1.0.1 }))
+          (to_z-of_z w64 _ (record { sfits = fits.0.1 }))
+          (to_z-of_z w64 _ (record { sfits = fits.1.0.1 }))
+          (to_z-of_z w64 _ (record { sfits = fits.1.1.0.1 }))
+          (to_z-of_z w64 _ (record { sfits = fits.1.1.1.0.1 }))
           ∙ accepted_buffer _ told s.args.seen.now,
     )
 
@@ -65,7 +65,7 @@ returns_2 c =
     let look = found.before.before in
     let s = look.before in
     let told = refusal_told _ found.found2.given.1 (promised look) in (
-      to_z_of_z w64 _ (sfits_of c.negated.type_inv) ∙ c.negated.ensures ∙ refused_number _ told,
+      to_z-of_z w64 _ (sfits_of c.negated.type-inv) ∙ c.negated.ensures ∙ refused_number _ told,
       refused_buffer _ told s.args.seen.now,
     )
 

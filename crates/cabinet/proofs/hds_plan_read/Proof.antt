@@ -2,7 +2,7 @@
 use mathlib.Core.Path.{ap, ◌∙◌}
 use borrow.Author.Rules.{rules, sfits_of}
 use mir.Syntax.{w64}
-use mir.ValLaws.{to_z_of_z}
+use mir.ValLaws.{to_z-of_z}
 use Rattle.cabinet.specs.Exported.{exported}
 use Rattle.cabinet.proofs.hds_plan_read.Statement.{statement}
 use Rattle.cabinet.proofs.hds_plan_read.Tie as tie
@@ -18,7 +18,7 @@ same_length c = search rules
 
 returns : tie.Need-returns
 returns c =
-    (to_z_of_z w64 _ (sfits_of c.answer_number.type_inv) ∙ c.answer_number.ensures ∙ ap exported c.before.before.read.ensures.0, c.before.before.read.ensures.1)
+    (to_z-of_z w64 _ (sfits_of c.answer-number.type-inv) ∙ c.answer-number.ensures ∙ ap exported c.before.before.read.ensures.0, c.before.before.read.ensures.1)
 
 pub hds_plan_read_spec : {M : Type 1} → statement M
 hds_plan_read_spec = tie.close (tie.spec read_requires answer_number_requires same_length returns)

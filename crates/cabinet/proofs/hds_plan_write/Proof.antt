@@ -2,7 +2,7 @@
 use mathlib.Core.Path.{ap, ◌∙◌}
 use borrow.Author.Rules.{rules, sfits_of}
 use mir.Syntax.{w64}
-use mir.ValLaws.{to_z_of_z}
+use mir.ValLaws.{to_z-of_z}
 use Rattle.cabinet.specs.Exported.{exported}
 use Rattle.cabinet.proofs.hds_plan_write.Statement.{statement}
 use Rattle.cabinet.proofs.hds_plan_write.Tie as tie
@@ -20,8 +20,8 @@ returns : tie.Need-returns
 returns c =
     let call = c.before.before.before in
     let s = call.before.before.before in
-    let wrote = rw (to_z_of_z w64 s.args.edition s.ranges.edition) at call.write.ensures in
-    (to_z_of_z w64 _ (sfits_of c.answer_number.type_inv) ∙ c.answer_number.ensures ∙ ap exported wrote.0, wrote.1)
+    let wrote = rw (to_z-of_z w64 s.args.edition s.ranges.edition) at call.write.ensures in
+    (to_z-of_z w64 _ (sfits_of c.answer-number.type-inv) ∙ c.answer-number.ensures ∙ ap exported wrote.0, wrote.1)
 
 pub hds_plan_write_spec : {M : Type 1} → statement M
 hds_plan_write_spec = tie.close (tie.spec write_requires answer_number_requires same_length returns)

@@ -2,7 +2,7 @@
 use mathlib.Core.Path.{ap, ◌∙◌}
 use borrow.Author.Rules.{rules, sfits_of}
 use mir.Syntax.{w64}
-use mir.ValLaws.{to_z_of_z}
+use mir.ValLaws.{to_z-of_z}
 use Rattle.cabinet.specs.Exported.{exported}
 use Rattle.cabinet.proofs.hds_same.Statement.{statement}
 use Rattle.cabinet.proofs.hds_same.Tie as tie
@@ -15,8 +15,8 @@ compared_number_requires c κs = search rules
 
 returns : tie.Need-returns
 returns c =
-    to_z_of_z w64 _ (sfits_of c.compared_number.type_inv)
-    ∙ c.compared_number.ensures
+    to_z-of_z w64 _ (sfits_of c.compared-number.type-inv)
+    ∙ c.compared-number.ensures
     ∙ ap exported c.before.same.ensures
 
 pub hds_same_spec : {M : Type 1} → statement M

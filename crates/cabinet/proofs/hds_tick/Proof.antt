@@ -4,7 +4,7 @@ use mathlib.Core.List.{List, [], ◌∷◌}
 use borrow.Author.Rules.{rules, sfits_of}
 use lib.IntN.{ℤ}
 use mir.Syntax.{w64}
-use mir.ValLaws.{to_z_of_z}
+use mir.ValLaws.{to_z-of_z}
 use Rattle.answers.specs.Answers.{number_of, told_ticked}
 use Rattle.definitions.specs.Refusals.{Outcome, accepted, refused}
 use Rattle.answers.specs.declared.Refusal.{Refusal}
@@ -58,7 +58,7 @@ returns c =
     let s = start tick in
     let done = tick.tick.ensures in
     let told = counts_told _ _ made.made.given.1 done.0 in
-    let fits = c.before.known_told.given in (
+    let fits = c.before.known-told.given in (
       accepted_number _ told,
       (
         done.1.0,
@@ -66,7 +66,7 @@ returns c =
           done.1.1.0,
           (
             done.1.1.1,
-            two (to_z_of_z w64 _ (record { sfits = fits.0.1 })) (to_z_of_z w64 _ (record { sfits = fits.1.0.1 })) ∙ accepted_buffer _ told s.args.counts.now,
+            two (to_z-of_z w64 _ (record { sfits = fits.0.1 })) (to_z-of_z w64 _ (record { sfits = fits.1.0.1 })) ∙ accepted_buffer _ told s.args.counts.now,
           ),
         ),
       ),
@@ -88,7 +88,7 @@ returns_2 c =
     let s = start tick in
     let done = tick.tick.ensures in
     let told = refusal_told _ made.made2.given.1 done.0 in (
-      to_z_of_z w64 _ (sfits_of c.negated.type_inv) ∙ c.negated.ensures ∙ refused_number _ told,
+      to_z-of_z w64 _ (sfits_of c.negated.type-inv) ∙ c.negated.ensures ∙ refused_number _ told,
       (done.1.0, (done.1.1.0, (done.1.1.1, refused_buffer _ told s.args.counts.now))),
     )
 

@@ -5,7 +5,7 @@ use borrow.Author.Rules.{rules, sfits_of}
 use Prim.Native.Nat.{ℕ}
 use lib.IntN.{pos, ◌-ℤ◌}
 use mir.Syntax.{w64}
-use mir.ValLaws.{to_z_of_z}
+use mir.ValLaws.{to_z-of_z}
 use Rattle.numbers.specs.Whole.{minus}
 use Rattle.cabinet.proofs.negated.Statement.{statement}
 use Rattle.cabinet.proofs.negated.Tie as tie
@@ -19,7 +19,7 @@ lowered_requires c κs = (omega (arith, c.number_of.ensures.1), omega (arith, c.
 
 returns : tie.Need-returns
 returns c =
-    to_z_of_z w64 _ (sfits_of c.lowered.type_inv)
+    to_z-of_z w64 _ (sfits_of c.lowered.type-inv)
     ∙ c.lowered.ensures
     ∙ ap (λ (n : ℕ). pos 0 -ℤ pos n) c.before.number_of.ensures.0
 

@@ -1,5 +1,5 @@
 use mathlib.Core.Path.{sym, ◌∙◌}
-use borrow.Author.Tests.{not_true}
+use borrow.Author.Tests.{not-true}
 use borrow.Author.Rules.{rules}
 use Rattle.cells.proofs.Covered.{beyond, beyond_filled, beyond_marked}
 use Rattle.cells.proofs.add_window.Statement.{statement}
@@ -12,7 +12,7 @@ returns : tie.Need-returns
 returns c =
     let start = c.before.before in
     let ws = start.args.windows.now in
-    let far = beyond ws start.args.i start.args.first start.requires.2.rises (sym c.before.reaches.ensures ∙ not_true _ c.if1.true) in
+    let far = beyond ws start.args.i start.args.first start.requires.2.rises (sym c.before.reaches.ensures ∙ not-true _ c.if1.true) in
     (beyond_filled ws start.args.i start.args.first far start.args.cells.now start.requires.0, beyond_marked ws start.args.i start.args.first far start.args.turns.now start.requires.1)
 
 mark_window_requires : tie.Need-mark-window-requires

@@ -14,14 +14,14 @@ use Rattle.cells.proofs.Turns.{turns_start, turns_next, turns_all}
 use Rattle.cells.proofs.add_windows.Statement.{statement}
 use Rattle.cells.proofs.add_windows.Tie as tie
 
-abbrev invariant_loop : tie.invariant_loop
+abbrev invariant_loop : tie.invariant-loop
 invariant_loop cells₀ turns₀ windows first n clear₀ i₀ cells turns clear i =
     (n ≡ window_count windows) × (i ≤ n) × (length cells ≡ cell_count) × (length turns ≡ part_minutes)
     × ((k j : ℕ) → j < part_minutes → get_or cells (cell_at k j) 0 ≡ value_in windows i k (first + j))
     × ((j : ℕ) → j < part_minutes → get_or turns j false ≡ (turns_by windows i (first + j) || eqb (first + j) 0))
     × (clear ≡ all_below i (clear_in windows first))
 
-abbrev decreases_loop : tie.decreases_loop
+abbrev decreases_loop : tie.decreases-loop
 decreases_loop cells₀ turns₀ windows first n clear₀ i₀ cells turns clear i = n - i
 
 loop_holds : tie.Need-loop-init invariant_loop decreases_loop
@@ -54,8 +54,8 @@ loop_again c =
     let at = c.before.before.before.before in
     let args = at.before.args in
     let ws = args.windows.now in
-    let filling = c.add_window.ensures.0 in
-    let marking = c.add_window.ensures.1 in (
+    let filling = c.add-window.ensures.0 in
+    let marking = c.add-window.ensures.1 in (
       refl,
       omega arith,
       filling.long,

@@ -4,7 +4,7 @@ use mathlib.Core.Bool.{Bool, cond}
 use lib.Dec.{eqb}
 use native.Mathlib.Omega.{arith}
 use borrow.Author.Rules.{rules}
-use lib.ListN.{length, get_or, length_set}
+use lib.ListN.{length, get_or, length-set}
 use Rattle.numbers.specs.Below.{all_below}
 use Rattle.numbers.proofs.Tests.{cond_false}
 use Rattle.numbers.proofs.All.{all_grows, all_done}
@@ -13,12 +13,12 @@ use Rattle.cells.proofs.Covered.{not_between, fill_more}
 use Rattle.cells.proofs.fill.Statement.{statement}
 use Rattle.cells.proofs.fill.Tie as tie
 
-abbrev invariant_loop : tie.invariant_loop
+abbrev invariant_loop : tie.invariant-loop
 invariant_loop cells₀ from to v clear₀ x₀ cells clear x =
     (from ≤ x) × (x ≤ to) × (length cells ≡ cell_count) × ((y : ℕ) → get_or cells y 0 ≡ cond (between from x y) v (get_or cells₀ y 0))
     × (clear ≡ all_below (x - from) (λ i. eqb (get_or cells₀ (from + i) 0) 0))
 
-abbrev decreases_loop : tie.decreases_loop
+abbrev decreases_loop : tie.decreases-loop
 decreases_loop cells₀ from to v clear₀ x₀ cells clear x = to - x
 
 loop_holds : tie.Need-loop-init invariant_loop decreases_loop
@@ -58,7 +58,7 @@ loop_again c =
     let same = at.invariant.3 at.x ∙ cond_false _ args.v _ (not_between args.from at.x at.x (λ h. omega arith)) in (
       omega arith,
       omega arith,
-      length_set at.cells at.x args.v ∙ at.invariant.2,
+      length-set at.cells at.x args.v ∙ at.invariant.2,
       λ y. fill_more at.cells args.cells.now args.from at.x args.v y (omega arith) (omega arith) (at.invariant.3 y),
       all_done (at.x - args.from + 1) (at.x + 1 - args.from) (λ i. old (args.from + i)) _
           (all_grows (at.x - args.from) (λ i. old (args.from + i)) _ _ at.invariant.4 (ap (λ (n : ℕ). eqb n 0) same ∙ ap old (sym here))) (omega arith),

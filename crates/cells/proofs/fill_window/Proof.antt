@@ -23,7 +23,7 @@ returns c =
     let valued = c.before.before in
     let start = valued.before.before in
     let args = start.args in
-    let at = valued.before.cover_of.ensures in
+    let at = valued.before.cover-of.ensures in
     let filled = c.fill.ensures in
     record {
       long = filled.long;

@@ -5,7 +5,7 @@ use native.Mathlib.Omega.{arith}
 use borrow.Author.Rules.{rules}
 use lib.IntN.{ℤ, pos}
 use mathlib.Core.Bool.{true, false, not, cond}
-use borrow.Author.Tests.{not_true, not_false}
+use borrow.Author.Tests.{not-true, not-false}
 use Rattle.numbers.specs.Tests.{every}
 use Rattle.numbers.proofs.Every.{head_fails, rest_fail, holds_with, none_left}
 use Rattle.numbers.proofs.Tests.{cond_true, cond_false}
@@ -35,24 +35,24 @@ abbrev passed : tie.Else2 → tie.Else1
 passed c = c.before.before
 
 first_order : (c : tie.Else1) → let s = c.before.before in in_order s.args.first.now ≡ true
-first_order c = sym c.before.in_order.ensures ∙ not_false _ c.if1.false
+first_order c = sym c.before.in_order.ensures ∙ not-false _ c.if1.false
 
 second_order : (c : tie.Else2) → let s = (passed c).before.before in in_order s.args.second.now ≡ true
-second_order c = sym c.before.in_order2.ensures ∙ not_false _ c.if2.false
+second_order c = sym c.before.in-order2.ensures ∙ not-false _ c.if2.false
 
 in_order_requires : tie.Need-in-order-requires
 in_order_requires c κs = search rules
 
 returns : tie.Need-returns
 unfolding told_compared
-returns c = sym (not_both _ _ (head_fails _ _ (sym c.before.in_order.ensures ∙ not_true _ c.if1.true)))
+returns c = sym (not_both _ _ (head_fails _ _ (sym c.before.in_order.ensures ∙ not-true _ c.if1.true)))
 
 in_order_requires_2 : tie.Need-in-order-requires-2
 in_order_requires_2 c κs = search rules
 
 returns_2 : tie.Need-returns-2
 unfolding told_compared
-returns_2 c = sym (not_both _ _ (rest_fail _ _ (head_fails _ _ (sym c.before.in_order2.ensures ∙ not_true _ c.if2.true))))
+returns_2 c = sym (not_both _ _ (rest_fail _ _ (head_fails _ _ (sym c.before.in-order2.ensures ∙ not-true _ c.if2.true))))
 
 same_tree_requires : tie.Need-same-tree-requires
 same_tree_requires c κs = (long _ (first_order (passed c)), long _ (second_order c))

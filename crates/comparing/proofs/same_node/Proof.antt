@@ -10,11 +10,11 @@ use Rattle.definitions.specs.Places.{place}
 use Rattle.comparing.proofs.same_node.Statement.{statement}
 use Rattle.comparing.proofs.same_node.Tie as tie
 
-abbrev invariant_loop : tie.invariant_loop
+abbrev invariant_loop : tie.invariant-loop
 invariant_loop first second k same₀ p₀ same p =
     (p ≤ rate_at) × (same ≡ all_below p (λ q. same_ℤ (place first k q) (place second k q)))
 
-abbrev decreases_loop : tie.decreases_loop
+abbrev decreases_loop : tie.decreases-loop
 decreases_loop first second k same₀ p₀ same p = rate_at - p
 
 loop_holds : tie.Need-loop-init invariant_loop decreases_loop

@@ -10,11 +10,11 @@ use Rattle.definitions.specs.Places.{place}
 use Rattle.comparing.proofs.same_nodes.Statement.{statement}
 use Rattle.comparing.proofs.same_nodes.Tie as tie
 
-abbrev invariant_loop : tie.invariant_loop
+abbrev invariant_loop : tie.invariant-loop
 invariant_loop first second same₀ k₀ same k =
     (k ≤ nodes) × (same ≡ all_below k (λ j. all_below rate_at (λ q. same_ℤ (place first j q) (place second j q))))
 
-abbrev decreases_loop : tie.decreases_loop
+abbrev decreases_loop : tie.decreases-loop
 decreases_loop first second same₀ k₀ same k = nodes - k
 
 loop_holds : tie.Need-loop-init invariant_loop decreases_loop

@@ -2,7 +2,7 @@
 use mathlib.Core.Path.{sym}
 use native.Mathlib.Omega.{arith}
 use borrow.Author.Rules.{rules}
-use borrow.Author.Tests.{lt_ltb, ltb_true}
+use borrow.Author.Tests.{lt-ltb, ltb-true}
 use Rattle.numbers.proofs.Tests.{same_truth}
 use Rattle.definitions.specs.Cost.{cost}
 use Rattle.definitions.proofs.Cost.{cost_bounds}
@@ -10,7 +10,7 @@ use Rattle.costs.proofs.above.Statement.{statement}
 use Rattle.costs.proofs.above.Tie as tie
 
 returns : tie.Need-returns
-returns c = let a = c.before.args in sym (lt_ltb a.depth (cost a.size) (omega (arith, cost_bounds a.size)))
+returns c = let a = c.before.args in sym (lt-ltb a.depth (cost a.size) (omega (arith, cost_bounds a.size)))
 
 cost_requires : tie.Need-cost-requires
 cost_requires c κs = search rules
@@ -18,8 +18,8 @@ cost_requires c κs = search rules
 returns_2 : tie.Need-returns-2
 returns_2 c =
     same_truth _ _
-    (λ h. omega (arith, lt_ltb, ltb_true, c.cost.ensures))
-    (λ h. omega (arith, lt_ltb, ltb_true, c.cost.ensures))
+    (λ h. omega (arith, lt-ltb, ltb-true, c.cost.ensures))
+    (λ h. omega (arith, lt-ltb, ltb-true, c.cost.ensures))
 
 pub above_spec : {M : Type 1} → statement M
 above_spec = tie.close (tie.spec returns cost_requires returns_2)

@@ -2,10 +2,10 @@
 -- verdict, since a cost is above its size by a few tokens at most.
 use Prim.Native.Nat.{ℕ, ◌≤◌}
 use mathlib.Core.Path.{◌≡◌, sym, ap, ◌∙◌}
-use mathlib.Core.Bool.{Bool, not, ◌&&◌, and_true as and_with_true}
+use mathlib.Core.Bool.{Bool, not, ◌&&◌, and-true as and-with-true}
 use native.Mathlib.Omega.{arith}
 use borrow.Author.Rules.{rules}
-use borrow.Author.Tests.{leb_true, le_leb, lt_leb, ltb_true, ltb_false}
+use borrow.Author.Tests.{leb-true, le-leb, lt-leb, ltb-true, ltb-false}
 use lib.Dec.{leb, ltb}
 use lib.IntN.{ℤ, pos}
 use lib.Signed.{le_z}
@@ -21,12 +21,12 @@ use Rattle.costs.proofs.within.Tie as tie
 
 at_least_one : (z : ℤ) → leb 1 (plus z) ≡ le_z (pos 1) z
 at_least_one z =
-    same_truth _ _ (λ h. omega (arith, zarith, leb_true 1 (plus z) h, one_is_zero z, plus_pos 1, minus_pos 1))
-    (λ h. le_leb 1 (plus z) (omega (arith, zarith, one_is_zero z, plus_pos 1, minus_pos 1)))
+    same_truth _ _ (λ h. omega (arith, zarith, leb-true 1 (plus z) h, one_is_zero z, plus_pos 1, minus_pos 1))
+    (λ h. le-leb 1 (plus z) (omega (arith, zarith, one_is_zero z, plus_pos 1, minus_pos 1)))
 
 not_below : (a b : ℕ) → not (ltb a b) ≡ leb b a
 not_below a b =
-    by_test (ltb a b) (λ h. rw h (sym (lt_leb b a (ltb_true a b h)))) (λ h. rw h (sym (le_leb b a (ltb_false a b h))))
+    by_test (ltb a b) (λ h. rw h (sym (lt-leb b a (ltb-true a b h)))) (λ h. rw h (sym (le-leb b a (ltb-false a b h))))
 
 -- Where the cost is within the depth, the least size alone decides.
 cheap : (depth : ℕ) (size : ℤ) → cost (plus size) ≤ depth → le_z (pos 1) size ≡ size_within depth size
@@ -34,8 +34,8 @@ unfolding size_within
 cheap depth size h =
     sym
     (every_two (le_z (pos 1) size) (leb (cost (plus size)) depth)
-    ∙ ap (λ (b : Bool). le_z (pos 1) size && b) (le_leb (cost (plus size)) depth h)
-    ∙ and_with_true (le_z (pos 1) size))
+    ∙ ap (λ (b : Bool). le_z (pos 1) size && b) (le-leb (cost (plus size)) depth h)
+    ∙ and-with-true (le_z (pos 1) size))
 
 -- The number that the code goes on with, and its test.
 size_is : (c : tie.After-natural) → c.natural.result ≡ plus c.before.args.size

@@ -8,7 +8,7 @@ use native.Mathlib.Omega.{arith}
 use borrow.Author.Rules.{rules}
 use lib.IntN.{ℤ}
 use mir.Syntax.{w64}
-use mir.ValLaws.{to_z_of_z}
+use mir.ValLaws.{to_z-of_z}
 use Rattle.definitions.specs.Limits.{root, rate_at}
 use Rattle.definitions.specs.Places.{put}
 use Rattle.answers.specs.Answers.{told}
@@ -25,8 +25,8 @@ use Rattle.diskrate.proofs.change_rate.Statement.{statement}
 use Rattle.diskrate.proofs.change_rate.Tie as tie
 
 -- The number is that of the definition.
-number : (c : tie.After-change-rate-refusal) → let s = c.before.before in c.change_rate_refusal.result ≡ change_rate_refusal s.args.table.now s.args.rate
-number c = let s = c.before.before in rw (to_z_of_z w64 s.args.rate s.ranges.rate) at c.change_rate_refusal.ensures.0
+number : (c : tie.After-change-rate-refusal) → let s = c.before.before in c.change-rate-refusal.result ≡ change_rate_refusal s.args.table.now s.args.rate
+number c = let s = c.before.before in rw (to_z-of_z w64 s.args.rate s.ranges.rate) at c.change-rate-refusal.ensures.0
 
 accepted : (c : tie.Else1) → let s = c.before.before.before in change_rate_refusal s.args.table.now s.args.rate ≡ 0
 accepted c = sym (number c.before) ∙ c.if1.false
@@ -36,7 +36,7 @@ accepts c = c.before.before
 
 -- What is written.
 written : (c : tie.After-put) → let s = (accepts c).before.before.before in c.put.new.0 ≡ put s.args.table.now root rate_at s.args.rate
-written c = let s = (accepts c).before.before.before in rw (to_z_of_z w64 s.args.rate s.fits.rate) at c.put.ensures
+written c = let s = (accepts c).before.before.before in rw (to_z-of_z w64 s.args.rate s.fits.rate) at c.put.ensures
 
 in_order_law : (c : tie.Else1) → let s = c.before.before.before in in_order (renewed (put s.args.table.now root rate_at s.args.rate)) ≡ true
 unfolding change_rate_table
@@ -64,7 +64,7 @@ returns_2 c =
     let renewal = c.before in
     let w = renewal.before.before.before in
     let zero = accepted (accepts w) in
-    (sym (outcome_accepted _ _ zero), renewal.renew_below.ensures ∙ ap (λ (u : List ℤ). renewed_below u root) (written w) ∙ (change_rate_renews_below _ _ zero).all ∙ sym (kept_new _ _ _ zero))
+    (sym (outcome_accepted _ _ zero), renewal.renew-below.ensures ∙ ap (λ (u : List ℤ). renewed_below u root) (written w) ∙ (change_rate_renews_below _ _ zero).all ∙ sym (kept_new _ _ _ zero))
 
 pub change_rate_spec : {M : Type 1} → statement M
 change_rate_spec =

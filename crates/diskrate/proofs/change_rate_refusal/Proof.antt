@@ -5,7 +5,7 @@ use mathlib.Core.Path.{◌≡◌, sym, ap, ◌∙◌}
 use mathlib.Core.Bool.{true}
 use native.Mathlib.Omega.{arith}
 use lib.Dec.{ltb}
-use mir.Facts.{to_z_of_z}
+use mir.Facts.{to_z-of_z}
 use Rattle.numbers.specs.Whole.{within_ℤ}
 use Rattle.definitions.specs.Limits.{root, rate_at, greatest_rate}
 use Rattle.definitions.specs.Places.{put}
@@ -20,7 +20,7 @@ use Rattle.diskrate.proofs.change_rate_refusal.Statement.{statement}
 use Rattle.diskrate.proofs.change_rate_refusal.Tie as tie
 
 fits : (c : tie.After-within) → c.within.result ≡ within_ℤ 1 greatest_rate c.before.before.before.args.rate
-fits c = c.within.ensures ∙ ap (within_ℤ 1 greatest_rate) (to_z_of_z c.before.before.before.ranges.rate)
+fits c = c.within.ensures ∙ ap (within_ℤ 1 greatest_rate) (to_z-of_z c.before.before.before.ranges.rate)
 
 -- From the second test back to the start.
 abbrev start : tie.Else2 → tie.Start
@@ -30,11 +30,11 @@ order : (c : tie.Else2) → in_order (start c).args.table.now ≡ true
 order c = let first = c.before.before in holds first.before.in_order.ensures first.if1.false
 
 -- The third test is cause 16.
-stated : (c : tie.After-stated-above) → let s = start c.before.before in c.stated_above.result ≡ stated_wrong (put s.args.table.now root rate_at s.args.rate)
+stated : (c : tie.After-stated-above) → let s = start c.before.before in c.stated-above.result ≡ stated_wrong (put s.args.table.now root rate_at s.args.rate)
 stated c =
     let second = c.before.before in
     let s = start second in
-    c.stated_above.ensures
+    c.stated-above.ensures
     ∙ ap (λ (r : ℕ). ltb r (stated_sum (tree_of s.args.table.now) root)) (natural_of c.before.natural.ensures s.fits.rate)
     ∙ sym (stated_rerated s.args.table.now s.args.rate (facts _ (order second)))
 

@@ -13,7 +13,7 @@ sum_under_requires c κs = let f = facts _ c.requires in (f.long, in_order_summa
 
 returns : tie.Need-returns
 unfolding term kind_sum
-returns c = ap (ltb c.before.args.rate) c.sum_under.ensures
+returns c = ap (ltb c.before.args.rate) c.sum-under.ensures
 
 pub stated_above_spec : {M : Type 1} → statement M
 stated_above_spec = tie.close (tie.spec sum_under_requires returns)

@@ -6,7 +6,7 @@ use mathlib.Core.List.{List}
 use native.Mathlib.Omega.{arith}
 use lib.IntN.{ℤ, pos}
 use mir.Syntax.{w64}
-use mir.ValLaws.{to_z_of_z}
+use mir.ValLaws.{to_z-of_z}
 use borrow.Author.Rules.{rules, sfits_of}
 use Rattle.numbers.specs.Whole.{plus}
 use Rattle.definitions.specs.Limits.{waiting_at, port_at, queue_at, size_at, greatest_depth, first_port, second_port}
@@ -126,9 +126,9 @@ returns c =
     let weighed = (charged c).before in
     let size = (sized weighed.before).natural.ensures in
     let tagged = (sized weighed.before).before.before in
-    let tag = to_z_of_z w64 _ (sfits_of tagged.get.ok) ∙ tagged.get.ensures in
+    let tag = to_z-of_z w64 _ (sfits_of tagged.get.ok) ∙ tagged.get.ensures in
     let ported = ported weighed.before in
-    let made = (listed weighed.before).list_entry.ensures in (
+    let made = (listed weighed.before).list-entry.ensures in (
       table_after_law _ _ _ _ _ _ _ size (weighed_is weighed) (charged c).charge.ensures c.before.take_out.ensures,
       (
         list_after_law first_port _ _ _ _ _ _ _ _ _ tag size ported.natural2.ensures made.0,

@@ -25,17 +25,17 @@ returns : tie.Need-returns
 returns c =
     let known = c.before.before in
     let s = known.before in
-    share known ∙ sym (stated_child (tree_of s.args.table.now) s.args.rate s.args.k (sym c.before.is_stated.ensures ∙ c.if1.true))
+    share known ∙ sym (stated_child (tree_of s.args.table.now) s.args.rate s.args.k (sym c.before.is-stated.ensures ∙ c.if1.true))
 
 division_of_requires : tie.Need-division-of-requires
-division_of_requires c κs = (c.before.before.before.requires, sym c.before.is_stated.ensures ∙ c.if1.false)
+division_of_requires c κs = (c.before.before.before.requires, sym c.before.is-stated.ensures ∙ c.if1.false)
 
 mul_result : tie.Need-overflow-mul-result
 mul_result c =
     let divided = c.before in
     let known = divided.before.before.before in
     let s = known.before in
-    let by = divided.division_of in
+    let by = divided.division-of in
     omega (arith, product_small by.result.whole known.natural.result by.ensures.small (omega (arith, share known, s.requires.placed.most, limit_le ((tree_of s.args.table.now).kind s.args.k))))
 
 div_result : tie.Need-nonzero-div-result
@@ -44,7 +44,7 @@ div_result c = search rules
 returns_2 : tie.Need-returns-2
 returns_2 c =
     let by = c.before.before in
-    ap (λ (s : ℕ). by.division_of.result.whole * s / by.division_of.result.parts) (share by.before.before.before) ∙ sym by.division_of.ensures.rate
+    ap (λ (s : ℕ). by.division-of.result.whole * s / by.division-of.result.parts) (share by.before.before.before) ∙ sym by.division-of.ensures.rate
 
 pub child_rate_spec : {M : Type 1} → statement M
 child_rate_spec =

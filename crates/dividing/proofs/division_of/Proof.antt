@@ -17,11 +17,11 @@ unfolding weighted_rate
 same_weighted s left weights = cc
 
 -- What the stated rates leave, and its limit.
-rest : (c : tie.After-unstated-rate) → let s = c.before in let tree = tree_of s.args.table.now in c.unstated_rate.result ≡ unstated_rate s.args.rate (stated_sum tree (tree.parent s.args.k))
-rest c = let s = c.before in c.unstated_rate.ensures ∙ ap (unstated_rate s.args.rate) s.requires.0.stated
+rest : (c : tie.After-unstated-rate) → let s = c.before in let tree = tree_of s.args.table.now in c.unstated-rate.result ≡ unstated_rate s.args.rate (stated_sum tree (tree.parent s.args.k))
+rest c = let s = c.before in c.unstated-rate.ensures ∙ ap (unstated_rate s.args.rate) s.requires.0.stated
 
-rest_small : (c : tie.After-unstated-rate) → c.unstated_rate.result ≤ greatest_rate
-rest_small c = let s = c.before in omega (arith, c.unstated_rate.ensures, unstated_le s.args.rate s.args.sums.stated, s.requires.0.small)
+rest_small : (c : tie.After-unstated-rate) → c.unstated-rate.result ≤ greatest_rate
+rest_small c = let s = c.before in omega (arith, c.unstated-rate.ensures, unstated_le s.args.rate s.args.sums.stated, s.requires.0.small)
 
 unstated_rate_requires : tie.Need-unstated-rate-requires
 unstated_rate_requires c κs = search rules
@@ -40,7 +40,7 @@ returns c =
     let tree = tree_of start.args.table.now in
     record {
       rate =
-          fixed_child tree _ start.args.rate start.args.k refl start.requires.1 (sym c.before.is_fixed.ensures ∙ c.if1.true)
+          fixed_child tree _ start.args.rate start.args.k refl start.requires.1 (sym c.before.is-fixed.ensures ∙ c.if1.true)
           ∙ ap (λ (r : ℕ). fixed_rate r (tree.share start.args.k)) (sym (rest known));
       small = rest_small known;
       some = omega arith;
@@ -54,13 +54,13 @@ returns_2 c =
     let start = known.before in
     let pre = start.requires.0 in
     let tree = tree_of start.args.table.now in
-    let unfixed = sym c.before.is_fixed.ensures ∙ c.if1.false in
-    let left = divided.left_rate.ensures in
+    let unfixed = sym c.before.is-fixed.ensures ∙ c.if1.false in
+    let left = divided.left-rate.ensures in
     record {
       rate =
           weighted_child tree (tree.parent start.args.k) start.args.rate start.args.k refl start.requires.1 unfixed
           ∙ sym (same_weighted (tree.share start.args.k) (left ∙ ap₂ left_rate (rest known) pre.fixed) pre.weights);
-      small = omega (arith, left, left_le known.unstated_rate.result start.args.sums.fixed, rest_small known);
+      small = omega (arith, left, left_le known.unstated-rate.result start.args.sums.fixed, rest_small known);
       some = omega (arith, pre.weights, weights_there tree start.args.k pre.low pre.here (λ e. omega arith) pre.placed start.requires.1 unfixed);
       few = pre.few;
     }

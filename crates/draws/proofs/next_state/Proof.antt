@@ -11,7 +11,7 @@ wrapping_add_u32_requires : tie.Need-wrapping-add-u32-requires
 wrapping_add_u32_requires c κs = search rules
 
 returns : tie.Need-returns
-returns c = c.wrapping_add_u32.ensures ∙ next_wraps _ _ c.before.wrapping_product.ensures
+returns c = c.wrapping-add-u32.ensures ∙ next_wraps _ _ c.before.wrapping-product.ensures
 
 pub next_state_spec : {M : Type 1} → statement M
 next_state_spec = tie.close (tie.spec wrapping_product_requires wrapping_add_u32_requires returns)

@@ -13,19 +13,19 @@ use borrow.Author.Rules.{rules}
 use Rattle.entering.proofs.join_entries.Statement.{statement}
 use Rattle.entering.proofs.join_entries.Tie as tie
 
-abbrev invariant_loop : tie.invariant_loop
+abbrev invariant_loop : tie.invariant-loop
 invariant_loop table₀ s edition n i₀ table i =
     (i ≤ n) × (entries_refusal table₀ (plan_in s) i ≡ 0) × (table ≡ after_entries table₀ (plan_in s) i) × (length table ≡ length table₀)
 
-abbrev decreases_loop : tie.decreases_loop
+abbrev decreases_loop : tie.decreases-loop
 decreases_loop table₀ s edition n i₀ table i = n - i
 
 -- What the entries up to the one just joined give.
-so_far : (c : tie.After-join-entry invariant_loop decreases_loop) → let at = c.before.before.before in let x = at.before.before.args in c.join_entry.result ≡ entries_refusal x.table.now (plan_in x.s.now) (at.loop.i + 1)
+so_far : (c : tie.After-join-entry invariant_loop decreases_loop) → let at = c.before.before.before in let x = at.before.before.args in c.join-entry.result ≡ entries_refusal x.table.now (plan_in x.s.now) (at.loop.i + 1)
 so_far c =
     let at = c.before.before.before in
     let p = plan_in at.before.before.args.s.now in
-    c.join_entry.ensures.0
+    c.join-entry.ensures.0
     ∙ ap (λ (u : List ℤ). entry_refusal u (p.entry at.loop.i)) at.loop.invariant.2
     ∙ sym (entries_next _ p at.loop.i at.loop.invariant.1)
 
@@ -67,7 +67,7 @@ loop_again c =
     let p = plan_in at.before.before.args.s.now in (
       omega arith,
       sym (so_far call) ∙ c.if1.false,
-      call.join_entry.ensures.1.1 ∙ ap (λ (u : List ℤ). after_entry u (p.entry at.loop.i)) at.loop.invariant.2 ∙ sym (after_next _ p at.loop.i),
+      call.join-entry.ensures.1.1 ∙ ap (λ (u : List ℤ). after_entry u (p.entry at.loop.i)) at.loop.invariant.2 ∙ sym (after_next _ p at.loop.i),
       search rules,
     )
 

@@ -22,7 +22,7 @@ same_length c = search rules
 returns : tie.Need-returns
 unfolding plan_in
 returns c =
-    let joined = c.before.join_node.ensures in
+    let joined = c.before.join-node.ensures in
     let node = c.before.before.node_at.ensures.0 in
     (joined.0 ∙ ap (entry_refusal _) node, (joined.1.0, joined.1.1 ∙ ap (after_entry _) node))
 

@@ -37,10 +37,10 @@ same_length c = search rules
 returns : tie.Need-returns
 unfolding entry_by
 returns c =
-    let joined = c.before.join_numbers.ensures in
+    let joined = c.before.join-numbers.ensures in
     let given = c.before.before.before in
-    let kind = given.before.share_kind_in.ensures.0 in
-    let number = given.before.before.sort_number.ensures.0 in
+    let kind = given.before.share-kind-in.ensures.0 in
+    let number = given.before.before.sort-number.ensures.0 in
     let held = given.before.before.before.held_by.ensures in
     let args = (start given).args in
     let x = args.node.sort in

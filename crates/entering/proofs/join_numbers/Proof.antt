@@ -1,7 +1,7 @@
 -- `entering::join_numbers` meets its contract: the numbers are given to join as they are.
 use mathlib.Core.Path.{ap, ◌∙◌}
 use mir.Syntax.{w64}
-use mir.ValLaws.{to_z_of_z}
+use mir.ValLaws.{to_z-of_z}
 use Rattle.definitions.specs.Calls.{done, join_answer}
 use Rattle.definitions.specs.Refusals.{number_told}
 use Rattle.definitions.proofs.Refusals.{number_outcome}
@@ -45,15 +45,15 @@ returns c =
     let last = c.before.before.before in
     let w = last.before in
     let third = w.before.before.before in
-    let node = to_z_of_z w64 _ (sfits_of third.before.before.whole.type_inv) ∙ third.before.before.whole.ensures in
-    let parent = to_z_of_z w64 _ (sfits_of third.before.whole2.type_inv) ∙ third.before.whole2.ensures in
-    let sort = to_z_of_z w64 _ (sfits_of third.whole3.type_inv) ∙ third.whole3.ensures in
-    let kind = to_z_of_z w64 _ (sfits_of w.before.before.whole4.type_inv) ∙ w.before.before.whole4.ensures in
-    let share = to_z_of_z w64 _ (sfits_of w.before.whole5.type_inv) ∙ w.before.whole5.ensures in
-    let depth = to_z_of_z w64 _ (sfits_of w.whole6.type_inv) ∙ w.whole6.ensures in
-    let port = to_z_of_z w64 _ (sfits_of last.whole7.type_inv) ∙ last.whole7.ensures in
+    let node = to_z-of_z w64 _ (sfits_of third.before.before.whole.type-inv) ∙ third.before.before.whole.ensures in
+    let parent = to_z-of_z w64 _ (sfits_of third.before.whole2.type-inv) ∙ third.before.whole2.ensures in
+    let sort = to_z-of_z w64 _ (sfits_of third.whole3.type-inv) ∙ third.whole3.ensures in
+    let kind = to_z-of_z w64 _ (sfits_of w.before.before.whole4.type-inv) ∙ w.before.before.whole4.ensures in
+    let share = to_z-of_z w64 _ (sfits_of w.before.whole5.type-inv) ∙ w.before.whole5.ensures in
+    let depth = to_z-of_z w64 _ (sfits_of w.whole6.type-inv) ∙ w.whole6.ensures in
+    let port = to_z-of_z w64 _ (sfits_of last.whole7.type-inv) ∙ last.whole7.ensures in
     let joined = rw (node, parent, sort, kind, share, depth, port) at c.before.before.join.ensures in
-    (c.number_told.ensures.0 ∙ ap number_told joined.0 ∙ number_outcome _ done, (c.number_told.ensures.1, joined.1))
+    (c.number-told.ensures.0 ∙ ap number_told joined.0 ∙ number_outcome _ done, (c.number-told.ensures.1, joined.1))
 
 pub join_numbers_spec : {M : Type 1} → statement M
 join_numbers_spec =

@@ -3,7 +3,7 @@ use Prim.Native.Nat.{ℕ, suc, ◌+◌, ◌≤◌, ◌-◌}
 use mathlib.Core.Path.{ap₂, ◌≡◌, refl, ap, ◌∙◌}
 use mathlib.Core.Bool.{Bool}
 use mathlib.Core.List.{List}
-use native.Mathlib.Numerals.{add_one}
+use native.Mathlib.Numerals.{add-one}
 use native.Mathlib.Omega.{arith}
 use lib.Dec.{ltb}
 use lib.IntN.{ℤ}
@@ -20,11 +20,11 @@ use Rattle.entering.proofs.rising.Tie as tie
 abbrev rises : List ℤ → List ℕ → ℕ → Bool
 rises t s j = ltb (standing (tree_of t) ((plan_in s).entry j).node) (standing (tree_of t) ((plan_in s).entry (suc j)).node)
 
-abbrev invariant_loop : tie.invariant_loop
+abbrev invariant_loop : tie.invariant-loop
 invariant_loop table s edition n ok₀ i₀ ok i =
     (i ≤ n - 1) × (ok ≡ all_below i (rises table s))
 
-abbrev decreases_loop : tie.decreases_loop
+abbrev decreases_loop : tie.decreases-loop
 decreases_loop table s edition n ok₀ i₀ ok i = n - i
 
 loop_holds : tie.Need-loop-init invariant_loop decreases_loop
@@ -63,8 +63,8 @@ loop_again c =
     let at = c.before.before.before in
     let t = at.before.before.args.table.now in
     let s = at.before.before.args.s.now in
-    let next = ap (λ (j : ℕ). standing (tree_of t) ((plan_in s).entry j).node) (add_one at.loop.i) in
-    (omega arith, all_grows at.loop.i (rises t s) _ _ at.loop.invariant.1 (ap₂ ltb c.before.standing_of.ensures (c.standing_of2.ensures ∙ next)))
+    let next = ap (λ (j : ℕ). standing (tree_of t) ((plan_in s).entry j).node) (add-one at.loop.i) in
+    (omega arith, all_grows at.loop.i (rises t s) _ _ at.loop.invariant.1 (ap₂ ltb c.before.standing-of.ensures (c.standing-of2.ensures ∙ next)))
 
 returns : tie.Need-returns invariant_loop decreases_loop
 unfolding rising plan_in

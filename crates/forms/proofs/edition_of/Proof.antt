@@ -1,6 +1,6 @@
 -- `forms::edition_of` meets its contract.
 use mathlib.Core.Path.{sym}
-use borrow.Author.Tests.{eq_eqb, ne_eqb}
+use borrow.Author.Tests.{eq-eqb, ne_eqb}
 use Rattle.numbers.proofs.Tests.{cond_true, cond_false}
 use Rattle.planformat.specs.declared.Edition.TheVariants.{First, Second}
 use Rattle.planformat.specs.Format.{first_edition, edition_of}
@@ -9,7 +9,7 @@ use Rattle.forms.proofs.edition_of.Tie as tie
 
 returns : tie.Need-returns
 unfolding edition_of
-returns c = sym (cond_true _ First Second (eq_eqb _ first_edition c.if1.true))
+returns c = sym (cond_true _ First Second (eq-eqb _ first_edition c.if1.true))
 
 returns_2 : tie.Need-returns-2
 unfolding edition_of

@@ -9,10 +9,10 @@ use borrow.Author.Rules.{rules}
 use Rattle.forms.proofs.entries_formed.Statement.{statement}
 use Rattle.forms.proofs.entries_formed.Tie as tie
 
-abbrev invariant_loop : tie.invariant_loop
+abbrev invariant_loop : tie.invariant-loop
 invariant_loop s edition n ok₀ i₀ ok i = (i ≤ n) × (ok ≡ all_below i (entry_formed s))
 
-abbrev decreases_loop : tie.decreases_loop
+abbrev decreases_loop : tie.decreases-loop
 decreases_loop s edition n ok₀ i₀ ok i = n - i
 
 loop_holds : tie.Need-loop-init invariant_loop decreases_loop
@@ -31,7 +31,7 @@ loop_less c = search rules
 loop_again : tie.Need-loop-preserved invariant_loop decreases_loop
 loop_again c =
     let at = c.before.before in
-    (omega arith, all_grows at.loop.i (entry_formed at.before.before.args.s.now) _ _ at.loop.invariant.1 c.entry_formed.ensures)
+    (omega arith, all_grows at.loop.i (entry_formed at.before.before.args.s.now) _ _ at.loop.invariant.1 c.entry-formed.ensures)
 
 returns : tie.Need-returns invariant_loop decreases_loop
 returns c =

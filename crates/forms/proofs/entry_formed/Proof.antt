@@ -48,7 +48,7 @@ returns c =
     let entry = tested.before.entry_at.ensures ∙ ap (λ (e : Edition). entry_at e i) edition in
     joined_as
     (same_tests (ap₂ eqb (tested.pair.ensures.0 ∙ ap (λ (a : ℕ). le2 s (a + entry_offset_at)) entry) body)
-    (last_test (ap₂ leb (c.before.byte.ensures.0 ∙ ap (byte_at s) body) (c.last_kind.ensures ∙ ap last_kind edition))))
+    (last_test (ap₂ leb (c.before.byte.ensures.0 ∙ ap (byte_at s) body) (c.last-kind.ensures ∙ ap last_kind edition))))
 
 pub entry_formed_spec : {M : Type 1} → statement M
 entry_formed_spec =

@@ -25,7 +25,7 @@ start c = c.before.before
 
 -- The head's start in the edition of the bytes.
 head : (c : tie.After-start-of) → c.start_of_lem.result ≡ start_of (edition_in (start (met c)).args.s.now)
-head c = c.start_of_lem.ensures.0 ∙ ap start_of (met c).edition_in.ensures
+head c = c.start_of_lem.ensures.0 ∙ ap start_of (met c).edition-in.ensures
 
 edition_in_requires : tie.Need-edition-in-requires
 edition_in_requires c κs = search rules
@@ -42,19 +42,19 @@ returns c = not_formed _ (λ f. omega (arith, head c.before, f.long))
 count_in_requires : tie.Need-count-in-requires
 count_in_requires c κs =
     let placed = c.before in
-    ((met placed).edition_in.ensures, omega (arith, placed.start_of_lem.ensures.0))
+    ((met placed).edition-in.ensures, omega (arith, placed.start_of_lem.ensures.0))
 
 returns_2 : tie.Need-returns-2
-returns_2 c = not_formed _ (λ f. omega (arith, c.before.count_in.ensures, f.count))
+returns_2 c = not_formed _ (λ f. omega (arith, c.before.count-in.ensures, f.count))
 
 plan_length_requires : tie.Need-plan-length-requires
 plan_length_requires c κs = omega arith
 
 -- The length that the edition and the count ask for.
-asked : (c : tie.After-plan-length) → let counted = c.before.before in let s = (start (met counted.before.before)).args.s.now in c.plan_length.result ≡ plan_length (edition_in s) (count_in s)
+asked : (c : tie.After-plan-length) → let counted = c.before.before in let s = (start (met counted.before.before)).args.s.now in c.plan-length.result ≡ plan_length (edition_in s) (count_in s)
 asked c =
     let counted = c.before.before in
-    c.plan_length.ensures ∙ ap₂ plan_length (met counted.before.before).edition_in.ensures counted.count_in.ensures
+    c.plan-length.ensures ∙ ap₂ plan_length (met counted.before.before).edition-in.ensures counted.count-in.ensures
 
 returns_3 : tie.Need-returns-3
 returns_3 c = not_formed _ (λ f. omega (arith, asked c.before, f.long))
@@ -63,10 +63,10 @@ entries_formed_requires : tie.Need-entries-formed-requires
 entries_formed_requires c κs =
     let counted = c.before.before.before in
     record {
-      edition = (met counted.before.before).edition_in.ensures;
-      counted = counted.count_in.ensures;
+      edition = (met counted.before.before).edition-in.ensures;
+      counted = counted.count-in.ensures;
       few = omega arith;
-      long = omega (arith, c.before.plan_length.ensures);
+      long = omega (arith, c.before.plan-length.ensures);
     }
 
 returns_4 : tie.Need-returns-4
@@ -74,9 +74,9 @@ returns_4 c =
     let past = c.before in
     let counted = past.before.before.before in
     let s = (start (met counted.before.before)).args.s.now in
-    let few : count_in s ≤ last_count = omega (arith, counted.count_in.ensures) in
+    let few : count_in s ≤ last_count = omega (arith, counted.count-in.ensures) in
     let long : length s ≡ plan_length (edition_in s) (count_in s) = omega (arith, asked past.before) in
-    c.entries_formed.ensures ∙ ap (λ (n : ℕ). all_below n (entry_formed s)) counted.count_in.ensures ∙ sym (formed_rest s few long)
+    c.entries-formed.ensures ∙ ap (λ (n : ℕ). all_below n (entry_formed s)) counted.count-in.ensures ∙ sym (formed_rest s few long)
 
 pub formed_spec : {M : Type 1} → statement M
 formed_spec =

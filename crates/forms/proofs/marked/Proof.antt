@@ -11,10 +11,10 @@ use Rattle.planformat.proofs.Editions.{short_unmarked}
 use Rattle.forms.proofs.marked.Statement.{statement}
 use Rattle.forms.proofs.marked.Tie as tie
 
-abbrev invariant_loop : tie.invariant_loop
+abbrev invariant_loop : tie.invariant-loop
 invariant_loop s all₀ i₀ all i = (i ≤ mark_length) × (all ≡ all_below i (λ j. eqb (byte_at s j) mark_byte))
 
-abbrev decreases_loop : tie.decreases_loop
+abbrev decreases_loop : tie.decreases-loop
 decreases_loop s all₀ i₀ all i = mark_length - i
 
 returns : tie.Need-returns invariant_loop decreases_loop

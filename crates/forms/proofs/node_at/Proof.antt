@@ -67,10 +67,10 @@ share_length_requires : tie.Need-share-length-requires
 share_length_requires c κs = search rules
 
 add_four : tie.Need-overflow-add-four
-add_four c = omega (arith, small (placed c.before.before), c.share_length.ensures.1)
+add_four c = omega (arith, small (placed c.before.before), c.share-length.ensures.1)
 
 four_requires : tie.Need-four-requires
-four_requires c κs = omega (arith, within (placed c.before.before), c.share_length.ensures.0)
+four_requires c κs = omega (arith, within (placed c.before.before), c.share-length.ensures.0)
 
 sort_of_requires : tie.Need-sort-of-requires
 sort_of_requires c κs = let read = c.before.before.before in let s = start (placed read) in omega (arith, kind read, s.pre.2, last_kind_small s.args.edition)
@@ -87,15 +87,15 @@ returns c =
     let number = read.before.before.byte in
     let parent = read.before.byte2 in
     let share = c.before.before.before.share in
-    let width = c.before.before.share_length in
+    let width = c.before.before.share-length in
     let depth = c.before.four in (
       same_entry _ _
           (number.ensures.0 ∙ ap (byte_at s) entry)
           (parent.ensures.0 ∙ ap (λ (a : ℕ). byte_at s (a + entry_parent_at)) entry)
-          (c.sort_of.ensures.0 ∙ kind read)
-          (c.sort_of.ensures.1 ∙ share.ensures.0 ∙ ap₂ (λ (e : Edition) (a : ℕ). share_from e s (a + body_share_at)) edition at_body)
+          (c.sort-of.ensures.0 ∙ kind read)
+          (c.sort-of.ensures.1 ∙ share.ensures.0 ∙ ap₂ (λ (e : Edition) (a : ℕ). share_from e s (a + body_share_at)) edition at_body)
           (depth.ensures.0 ∙ ap (le4 s) (omega (arith, at_body, width.ensures.0, ap share_length edition))),
-      (number.ensures.1, parent.ensures.1, omega (arith, c.sort_of.ensures.1, share.ensures.1), depth.ensures.1),
+      (number.ensures.1, parent.ensures.1, omega (arith, c.sort-of.ensures.1, share.ensures.1), depth.ensures.1),
     )
 
 pub node_at_spec : {M : Type 1} → statement M

@@ -7,7 +7,7 @@ use mathlib.Core.List.{List}
 use borrow.Author.Rules.{rules}
 use lib.IntN.{ℤ}
 use mir.Syntax.{w64}
-use mir.ValLaws.{to_z_of_z}
+use mir.ValLaws.{to_z-of_z}
 use Rattle.numbers.specs.Whole.{plus}
 use Rattle.answers.specs.Answers.{told}
 use Rattle.definitions.specs.Refusals.{outcome}
@@ -29,10 +29,10 @@ abbrev join : tie.Start → Join
 join s = asked s.args.node s.args.parent s.args.sort s.args.kind s.args.share s.args.depth s.args.port
 
 -- The number is that of the definition.
-number : (c : tie.After-join-refusal) → let s = c.before.before in c.join_refusal.result ≡ refusal_of s.args.table.now (join s)
+number : (c : tie.After-join-refusal) → let s = c.before.before in c.join-refusal.result ≡ refusal_of s.args.table.now (join s)
 number c =
     let s = c.before.before.ranges in
-    rw (to_z_of_z w64 _ s.node, to_z_of_z w64 _ s.parent, to_z_of_z w64 _ s.sort, to_z_of_z w64 _ s.kind, to_z_of_z w64 _ s.share, to_z_of_z w64 _ s.depth, to_z_of_z w64 _ s.port) at c.join_refusal.ensures.0
+    rw (to_z-of_z w64 _ s.node, to_z-of_z w64 _ s.parent, to_z-of_z w64 _ s.sort, to_z-of_z w64 _ s.kind, to_z-of_z w64 _ s.share, to_z-of_z w64 _ s.depth, to_z-of_z w64 _ s.port) at c.join-refusal.ensures.0
 
 accepted : (c : tie.Else1) → let s = c.before.before.before in refusal_of s.args.table.now (join s) ≡ 0
 accepted c = sym (number c.before) ∙ c.if1.false
@@ -43,15 +43,15 @@ accepts c = c.before.before
 abbrev start : tie.Else1 → tie.Start
 start c = c.before.before.before
 
-natural : (c : tie.After-new-node) → Natural c.new_node.result (join (start (accepts c)))
+natural : (c : tie.After-new-node) → Natural c.new-node.result (join (start (accepts c)))
 natural c =
     let s = (start (accepts c)).ranges in
-    rw (to_z_of_z w64 _ s.node, to_z_of_z w64 _ s.parent, to_z_of_z w64 _ s.sort, to_z_of_z w64 _ s.kind, to_z_of_z w64 _ s.share, to_z_of_z w64 _ s.depth, to_z_of_z w64 _ s.port) at c.new_node.ensures
+    rw (to_z-of_z w64 _ s.node, to_z-of_z w64 _ s.parent, to_z-of_z w64 _ s.sort, to_z-of_z w64 _ s.kind, to_z-of_z w64 _ s.share, to_z-of_z w64 _ s.depth, to_z-of_z w64 _ s.port) at c.new-node.ensures
 
 -- What is written.
-written : (c : tie.After-write-node) → let s = start (accepts c.before) in c.write_node.new.0 ≡ joined_by s.args.table.now (join s)
+written : (c : tie.After-write-node) → let s = start (accepts c.before) in c.write-node.new.0 ≡ joined_by s.args.table.now (join s)
 written c =
-    c.write_node.ensures ∙ ap (joined_by _) (as_asked _ _ (natural c.before) (accepted_limits _ _ (accepted (accepts c.before))))
+    c.write-node.ensures ∙ ap (joined_by _) (as_asked _ _ (natural c.before) (accepted_limits _ _ (accepted (accepts c.before))))
 
 in_order_law : (c : tie.Else1) → let s = start c in in_order (renewed (joined_by s.args.table.now (join s))) ≡ true
 unfolding refusal_of joined_by join_table
@@ -90,7 +90,7 @@ returns_2 c =
     let w = known.before.before.before in
     let acceptance = accepts w.before in
     let zero = accepted acceptance in
-    (sym (outcome_accepted _ _ zero), renewal.renew_below.ensures ∙ ap₂ renewed_below (written w) (parent known) ∙ (renews acceptance).all ∙ sym (kept_new _ _ _ zero))
+    (sym (outcome_accepted _ _ zero), renewal.renew-below.ensures ∙ ap₂ renewed_below (written w) (parent known) ∙ (renews acceptance).all ∙ sym (kept_new _ _ _ zero))
 
 pub join_spec : {M : Type 1} → statement M
 join_spec =

@@ -4,7 +4,7 @@ use mathlib.Core.Path.{◌≡◌, ap, ◌∙◌}
 use mathlib.Core.Bool.{true}
 use native.Mathlib.Omega.{arith}
 use mir.Syntax.{w64}
-use mir.ValLaws.{to_z_of_z}
+use mir.ValLaws.{to_z-of_z}
 use Rattle.definitions.specs.Order.{in_order}
 use Rattle.definitions.specs.Calls.{join_refusal}
 use Rattle.definitions.proofs.Refusals.{causes, found, holds}
@@ -23,26 +23,26 @@ start c = c.before.before.before.before
 order : (c : tie.Else1) → in_order c.before.before.args.table.now ≡ true
 order c = holds c.before.in_order.ensures c.if1.false
 
-fits : (c : tie.After-join-limits) → c.join_limits.result ≡ limits_of (join c.before.before.before)
+fits : (c : tie.After-join-limits) → c.join-limits.result ≡ limits_of (join c.before.before.before)
 unfolding limits_of
 fits c =
     let s = c.before.before.before.ranges in
-    rw (to_z_of_z w64 _ s.node, to_z_of_z w64 _ s.parent, to_z_of_z w64 _ s.sort, to_z_of_z w64 _ s.kind, to_z_of_z w64 _ s.share, to_z_of_z w64 _ s.depth, to_z_of_z w64 _ s.port) at c.join_limits.ensures
+    rw (to_z-of_z w64 _ s.node, to_z-of_z w64 _ s.parent, to_z-of_z w64 _ s.sort, to_z-of_z w64 _ s.kind, to_z-of_z w64 _ s.share, to_z-of_z w64 _ s.depth, to_z-of_z w64 _ s.port) at c.join-limits.ensures
 
 within : (c : tie.Else2) → limits_of (join (start c)) ≡ true
 within c = holds (fits c.before) c.if2.false
 
-natural : (c : tie.After-new-node) → Natural c.new_node.result (join (start c.before))
+natural : (c : tie.After-new-node) → Natural c.new-node.result (join (start c.before))
 natural c =
     let s = (start c.before).ranges in
-    rw (to_z_of_z w64 _ s.node, to_z_of_z w64 _ s.parent, to_z_of_z w64 _ s.sort, to_z_of_z w64 _ s.kind, to_z_of_z w64 _ s.share, to_z_of_z w64 _ s.depth, to_z_of_z w64 _ s.port) at c.new_node.ensures
+    rw (to_z-of_z w64 _ s.node, to_z-of_z w64 _ s.parent, to_z-of_z w64 _ s.sort, to_z-of_z w64 _ s.kind, to_z-of_z w64 _ s.share, to_z-of_z w64 _ s.depth, to_z-of_z w64 _ s.port) at c.new-node.ensures
 
 tree_refusal_requires : tie.Need-tree-refusal-requires
 tree_refusal_requires c κs = judged _ _ _ (natural c) (order c.before.before.before) (within c.before)
 
 returns_3 : tie.Need-returns-3
 returns_3 c =
-    let e = c.tree_refusal.ensures in
+    let e = c.tree-refusal.ensures in
     (e.0 ∙ ap (refusal_of _) (as_asked _ _ (natural c.before) (within c.before.before)), e.1)
 
 pub join_refusal_spec : {M : Type 1} → statement M

@@ -3,7 +3,7 @@ use Prim.Native.Nat.{ℕ, suc}
 use mathlib.Core.Path.{◌≡◌, refl, sym, ap, ◌∙◌}
 use mathlib.Core.List.{List}
 use native.Mathlib.Omega.{arith}
-use native.Mathlib.Numerals.{add_one}
+use native.Mathlib.Numerals.{add-one}
 use borrow.Author.Rules.{rules}
 use lib.IntN.{ℤ, pos}
 use Rattle.numbers.specs.Whole.{plus}
@@ -42,14 +42,14 @@ returns c =
     let balance = sort.before.before.before in
     let own = balance.before.before in
     let k = own.before.before.args.new.node in
-    put_then k port_at port.put_natural8.ensures refl
-    (put_then k depth_at depth.put_natural7.ensures refl
-    (put_then k share_at share.put_natural6.ensures refl
-    (put_then k kind_at kind.put_natural5.ensures refl
-    (put_then k level_at level.put_natural4.ensures (ap pos (add_one _ ∙ ap suc own.natural.ensures))
-    (put_then k parent_at parent.put_natural3.ensures refl
-    (put_then k sort_at sort.put_natural2.ensures refl
-    (unwritten k balance_at balance.put_natural.ensures own.before.before.requires.balance)))))))
+    put_then k port_at port.put-natural8.ensures refl
+    (put_then k depth_at depth.put-natural7.ensures refl
+    (put_then k share_at share.put-natural6.ensures refl
+    (put_then k kind_at kind.put-natural5.ensures refl
+    (put_then k level_at level.put-natural4.ensures (ap pos (add-one _ ∙ ap suc own.natural.ensures))
+    (put_then k parent_at parent.put-natural3.ensures refl
+    (put_then k sort_at sort.put-natural2.ensures refl
+    (unwritten k balance_at balance.put-natural.ensures own.before.before.requires.balance)))))))
 
 pub write_node_spec : {M : Type 1} → statement M
 write_node_spec =

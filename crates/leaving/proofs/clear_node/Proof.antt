@@ -13,10 +13,10 @@ use Rattle.leaving.proofs.clear_node.Tie as tie
 abbrev step : ℕ → ℕ → List ℤ → List ℤ
 step k p u = put u k p (pos 0)
 
-abbrev invariant_loop : tie.invariant_loop
+abbrev invariant_loop : tie.invariant-loop
 invariant_loop table₀ k p₀ table p = Turns record_length (step k) table₀ table p
 
-abbrev decreases_loop : tie.decreases_loop
+abbrev decreases_loop : tie.decreases-loop
 decreases_loop table₀ k p₀ table p = record_length - p
 
 loop_holds : tie.Need-loop-init invariant_loop decreases_loop

@@ -2,7 +2,7 @@
 use mathlib.Core.Path.{◌∙◌, ap}
 use borrow.Author.Rules.{rules, sfits_of}
 use lib.Dec.{ltb}
-use mir.Facts.{to_z_of_z}
+use mir.Facts.{to_z-of_z}
 use Rattle.numbers.specs.Whole.{minus}
 use Rattle.numbers.proofs.Every.{joined_as, same_tests, last_test}
 use Rattle.definitions.specs.Places.{balance}
@@ -15,9 +15,9 @@ unfolding balance
 returns c =
     let start = c.before.before.before in
     joined_as
-    (same_tests c.before.before.is_class.ensures
+    (same_tests c.before.before.is-class.ensures
     (last_test
-    (ap (ltb 0) (c.negative.ensures ∙ ap minus (to_z_of_z (sfits_of c.before.get.type_inv) ∙ c.before.get.ensures))
+    (ap (ltb 0) (c.negative.ensures ∙ ap minus (to_z-of_z (sfits_of c.before.get.type-inv) ∙ c.before.get.ensures))
     ∙ below_zero (balance start.args.table.now start.args.k))))
 
 pub in_debt_spec : {M : Type 1} → statement M

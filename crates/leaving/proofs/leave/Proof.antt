@@ -8,7 +8,7 @@ use native.Mathlib.Omega.{arith}
 use borrow.Author.Rules.{rules}
 use lib.IntN.{ℤ}
 use mir.Syntax.{w64}
-use mir.ValLaws.{to_z_of_z}
+use mir.ValLaws.{to_z-of_z}
 use Rattle.numbers.specs.Whole.{plus}
 use Rattle.answers.specs.Answers.{told}
 use Rattle.definitions.specs.Refusals.{outcome}
@@ -26,8 +26,8 @@ use Rattle.leaving.proofs.leave.Statement.{statement}
 use Rattle.leaving.proofs.leave.Tie as tie
 
 -- The number is that of the definition.
-number : (c : tie.After-leave-refusal) → let s = c.before.before in c.leave_refusal.result ≡ leave_refusal s.args.table.now s.args.node
-number c = let s = c.before.before in rw (to_z_of_z w64 s.args.node s.ranges.node) at c.leave_refusal.ensures.0
+number : (c : tie.After-leave-refusal) → let s = c.before.before in c.leave-refusal.result ≡ leave_refusal s.args.table.now s.args.node
+number c = let s = c.before.before in rw (to_z-of_z w64 s.args.node s.ranges.node) at c.leave-refusal.ensures.0
 
 accepted : (c : tie.Else1) → let s = c.before.before.before in leave_refusal s.args.table.now s.args.node ≡ 0
 accepted c = sym (number c.before) ∙ c.if1.false
@@ -50,8 +50,8 @@ unfolding tree_of
 parent c = rw (node (node_of c)) at c.natural2.ensures
 
 -- What is written.
-written : (c : tie.After-clear-node) → let s = start (accepts (node_of c.before.before)) in c.clear_node.new.0 ≡ cleared s.args.table.now (plus s.args.node)
-written c = rw (node (node_of c.before.before)) at c.clear_node.ensures
+written : (c : tie.After-clear-node) → let s = start (accepts (node_of c.before.before)) in c.clear-node.new.0 ≡ cleared s.args.table.now (plus s.args.node)
+written c = rw (node (node_of c.before.before)) at c.clear-node.ensures
 
 in_order_law : (c : tie.Else1) → let s = start c in in_order (renewed (cleared s.args.table.now (plus s.args.node))) ≡ true
 unfolding leave_table
@@ -87,7 +87,7 @@ returns_2 c =
     let w = renewal.before.before.before in
     let acceptance = accepts (node_of w.before.before) in
     let zero = accepted acceptance in
-    (sym (outcome_accepted _ _ zero), renewal.renew_below.ensures ∙ ap₂ renewed_below (written w) (parent w.before.before) ∙ (renews acceptance).all ∙ sym (kept_new _ _ _ zero))
+    (sym (outcome_accepted _ _ zero), renewal.renew-below.ensures ∙ ap₂ renewed_below (written w) (parent w.before.before) ∙ (renews acceptance).all ∙ sym (kept_new _ _ _ zero))
 
 pub leave_spec : {M : Type 1} → statement M
 leave_spec =

@@ -4,7 +4,7 @@ use mathlib.Core.Path.{◌≡◌, ap, ◌∙◌}
 use mathlib.Core.Bool.{true}
 use native.Mathlib.Omega.{arith}
 use lib.IntN.{pos}
-use mir.Facts.{to_z_of_z}
+use mir.Facts.{to_z-of_z}
 use Rattle.numbers.specs.Whole.{within_ℤ}
 use Rattle.definitions.specs.Limits.{last_node}
 use Rattle.definitions.specs.Calls.{leave_refusal}
@@ -16,7 +16,7 @@ abbrev start : tie.Else2 → tie.Start
 start c = c.before.before.before.before
 
 fits : (c : tie.After-within) → let s = c.before.before.before in c.within.result ≡ within_ℤ 0 last_node s.args.node
-fits c = c.within.ensures ∙ ap (within_ℤ 0 last_node) (to_z_of_z c.before.before.before.ranges.node)
+fits c = c.within.ensures ∙ ap (within_ℤ 0 last_node) (to_z-of_z c.before.before.before.ranges.node)
 
 within : (c : tie.Else2) → within_ℤ 0 last_node (start c).args.node ≡ true
 within c = holds (fits c.before) c.if2.false
@@ -31,7 +31,7 @@ tree_refusal_requires c κs =
     (holds first.before.in_order.ensures first.if1.false, rw (same c) (within c.before))
 
 returns_3 : tie.Need-returns-3
-returns_3 c = let e = c.tree_refusal.ensures in (e.0 ∙ ap (leave_refusal _) (same c.before), e.1)
+returns_3 c = let e = c.tree-refusal.ensures in (e.0 ∙ ap (leave_refusal _) (same c.before), e.1)
 
 pub leave_refusal_spec : {M : Type 1} → statement M
 unfolding leave_refusal

@@ -11,11 +11,11 @@ use Rattle.planlaws.specs.Writing.{any_stated}
 use Rattle.listing.proofs.any_stated.Statement.{statement}
 use Rattle.listing.proofs.any_stated.Tie as tie
 
-abbrev invariant_loop : tie.invariant_loop
+abbrev invariant_loop : tie.invariant-loop
 invariant_loop table none₀ k₀ none k =
     (k ≤ nodes) × (none ≡ all_below k (λ j. test_if (there (tree_of table) j) (λ i. not (is_stated (tree_of table) i)) j))
 
-abbrev decreases_loop : tie.decreases_loop
+abbrev decreases_loop : tie.decreases-loop
 decreases_loop table none₀ k₀ none k = nodes - k
 
 loop_holds : tie.Need-loop-init invariant_loop decreases_loop

@@ -3,10 +3,10 @@ use Prim.Native.Nat.{ℕ, ◌+◌, ◌-◌, ◌%◌, ◌≤◌, ◌<◌}
 use mathlib.Core.Path.{◌≡◌, refl, sym, ap, ◌∙◌}
 use mathlib.Core.Bool.{Bool, cond}
 use mathlib.Core.List.{List, [], ◌∷◌, ◌++◌}
-use native.Mathlib.Numerals.{add_one}
+use native.Mathlib.Numerals.{add-one}
 use native.Mathlib.Omega.{arith}
-use lib.ListN.{length, take, set, length_set, length_append}
-use lib.Seq.{take_suc_set, take_set_le}
+use lib.ListN.{length, take, set, length-set, length-append}
+use lib.Seq.{take-suc-set, take-set-le}
 use Rattle.numbers.proofs.Tests.{by_test, cond_true, cond_false}
 use Rattle.definitions.specs.Limits.{nodes}
 use Rattle.definitions.specs.Tree.{Tree, tree_of}
@@ -24,9 +24,9 @@ next_nodes tree m count r xs long size has h =
     let one : r ≡ 1 = h ∙ cond_true (stands tree m) 1 0 e in
     let more = order_more tree m e in
     let room : count < length xs = omega (arith, order_few tree m) in (
-      omega (arith, ap length more, length_append (order_below tree m) (m % nodes ∷ [])),
-      ap (λ (n : ℕ). take n (set xs count (m % nodes))) (ap (λ (n : ℕ). count + n) one ∙ add_one count)
-          ∙ take_suc_set xs count (m % nodes) room
+      omega (arith, ap length more, length-append (order_below tree m) (m % nodes ∷ [])),
+      ap (λ (n : ℕ). take n (set xs count (m % nodes))) (ap (λ (n : ℕ). count + n) one ∙ add-one count)
+          ∙ take-suc-set xs count (m % nodes) room
           ∙ ap (λ (ys : List ℕ). ys ++ (m % nodes ∷ [])) has
           ∙ sym more,
     ))
@@ -35,14 +35,14 @@ next_nodes tree m count r xs long size has h =
     let stay = order_stays tree m e in
     let same : count + r ≡ count = omega arith in (
       omega (arith, ap length stay),
-      ap (λ (n : ℕ). take n (set xs count (m % nodes))) same ∙ take_set_le count xs count (m % nodes) (omega arith) ∙ has ∙ sym stay,
+      ap (λ (n : ℕ). take n (set xs count (m % nodes))) same ∙ take-set-le count xs count (m % nodes) (omega arith) ∙ has ∙ sym stay,
     ))
 
-abbrev invariant_loop : tie.invariant_loop
+abbrev invariant_loop : tie.invariant-loop
 invariant_loop table xs₀ count₀ m₀ xs count m =
     (m ≤ standings) × (length xs ≡ nodes) × (count ≡ length (order_below (tree_of table) m)) × (take count xs ≡ order_below (tree_of table) m)
 
-abbrev decreases_loop : tie.decreases_loop
+abbrev decreases_loop : tie.decreases-loop
 decreases_loop table xs₀ count₀ m₀ xs count m = standings - m
 
 loop_holds : tie.Need-loop-init invariant_loop decreases_loop
@@ -75,7 +75,7 @@ loop_again c =
     let at = c.before.before.before in
     let tree = tree_of at.before.args.table.now in
     let next = next_nodes tree at.loop.m at.loop.count c.counted.result at.loop.nodes at.loop.invariant.1 at.loop.invariant.2 at.loop.invariant.3 (c.counted.ensures.0 ∙ ap (λ (b : Bool). cond b 1 0) c.before.stands.ensures) in
-    (omega arith, length_set at.loop.nodes at.loop.count (at.loop.m % nodes) ∙ at.loop.invariant.1, next.0, next.1)
+    (omega arith, length-set at.loop.nodes at.loop.count (at.loop.m % nodes) ∙ at.loop.invariant.1, next.0, next.1)
 
 returns : tie.Need-returns invariant_loop decreases_loop
 unfolding order

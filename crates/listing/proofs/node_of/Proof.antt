@@ -24,7 +24,7 @@ returns : tie.Need-returns
 unfolding entry_by entry_of tree_of
 returns c =
     let s = c.before.before.before.requires in (
-      same_entry _ _ refl c.before.before.natural.ensures c.before.sort_at.ensures.0 c.before.sort_at.ensures.1 c.natural2.ensures,
+      same_entry _ _ refl c.before.before.natural.ensures c.before.sort-at.ensures.0 c.before.sort-at.ensures.1 c.natural2.ensures,
       (s.small, omega (arith, limited_parent _ _ (standing_limits _ _ s), c.before.before.natural.ensures)),
     )
 

@@ -19,13 +19,13 @@ natural_requires c κs = let s = c.before.requires in (standing_long _ _ s, s.sm
 returns : tie.Need-returns
 unfolding held_by sort_in kind_in tree_of
 returns c =
-    let share = c.before.before.share_at in
+    let share = c.before.before.share-at in
     (ap₂ kind_of (omega arith) share.ensures.1, share.ensures.0)
 
 returns_2 : tie.Need-returns-2
 unfolding held_by sort_in kind_in tree_of
 returns_2 c =
-    let share = c.before.before.share_at in
+    let share = c.before.before.share-at in
     (ap₂ kind_of (omega (arith, zarith, (standing_limits _ _ c.before.before.before.requires).sort)) share.ensures.1, share.ensures.0)
 
 pub sort_at_spec : {M : Type 1} → statement M

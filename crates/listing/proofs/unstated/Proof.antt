@@ -2,7 +2,7 @@
 use Prim.Native.Nat.{ℕ}
 use mathlib.Core.Path.{sym, ap, ◌∙◌}
 use mathlib.Core.Bool.{not}
-use borrow.Author.Tests.{eq_eqb, ne_eqb}
+use borrow.Author.Tests.{eq-eqb, ne_eqb}
 use lib.Dec.{eqb}
 use Rattle.definitions.specs.Limits.{unused, stated}
 use Rattle.definitions.specs.Tree.{tree_of, there, is_stated}
@@ -18,7 +18,7 @@ natural_requires c κs = search rules
 returns : tie.Need-returns
 unfolding there tree_of
 returns c =
-    let gone = ap not (ap (λ (n : ℕ). eqb n unused) (sym c.before.natural.ensures) ∙ eq_eqb _ unused c.if1.true) in
+    let gone = ap not (ap (λ (n : ℕ). eqb n unused) (sym c.before.natural.ensures) ∙ eq-eqb _ unused c.if1.true) in
     sym (at_test _ _ _ (λ e. absurd (true_false e gone)))
 
 natural_requires_2 : tie.Need-natural-requires-2

@@ -22,11 +22,11 @@ enum_told_2 c = search rules
 
 returns : tie.Need-returns
 unfolding unwritable
-returns c = c.any_stated.ensures ∙ told _ c.before.enum_told.given.1
+returns c = c.any-stated.ensures ∙ told _ c.before.enum_told.given.1
 
 returns_2 : tie.Need-returns-2
 unfolding unwritable
-returns_2 c = told _ c.enum_told2.given.1
+returns_2 c = told _ c.enum-told2.given.1
 
 pub unwritable_spec : {M : Type 1} → statement M
 unwritable_spec = tie.close (tie.spec enum_told any_stated_requires enum_told_2 returns returns_2)

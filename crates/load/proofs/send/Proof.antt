@@ -3,7 +3,7 @@ use Prim.Native.Nat.{◌-◌, ◌<◌}
 use mathlib.Core.Path.{◌≡◌, refl, sym, ◌∙◌}
 use native.Mathlib.Omega.{arith}
 use borrow.Author.Rules.{rules}
-use borrow.Author.Tests.{ltb_true, ltb_false, not_false}
+use borrow.Author.Tests.{ltb-true, ltb-false, not-false}
 use Rattle.numbers.proofs.Tests.{true_false}
 use lib.ListN.{length}
 use Rattle.definitions.specs.Limits.{table_length}
@@ -15,11 +15,11 @@ use Rattle.loadformat.proofs.Whole.{UnderWay, begins_way, goes_way, part_stands}
 use Rattle.load.proofs.send.Statement.{statement}
 use Rattle.load.proofs.send.Tie as tie
 
-abbrev invariant_loop : tie.invariant_loop
+abbrev invariant_loop : tie.invariant-loop
 invariant_loop input table₀ text₀ progress₀ sent₀ table text progress sent =
     (UnderWay input (load_of table progress.state) progress.made progress.ticks) × (length text ≡ part_length) × (length table ≡ table_length) × (sent.tick ≡ progress.made) × (progress.ticks ≡ ticks_allowed input)
 
-abbrev decreases_loop : tie.decreases_loop
+abbrev decreases_loop : tie.decreases-loop
 decreases_loop input table₀ text₀ progress₀ sent₀ table text progress sent = progress.ticks - progress.made
 
 -- Back from a part to the test of the loop, and to the loop's head; and that ticks are left there.
@@ -30,7 +30,7 @@ abbrev head : tie.Then2 invariant_loop decreases_loop → tie.At-loop invariant_
 head c = c.before.before.before.before
 
 left : (c : tie.Then2 invariant_loop decreases_loop) → (head c).loop.progress.made < (head c).loop.progress.ticks
-left c = ltb_true (head c).loop.progress.made (head c).loop.progress.ticks c.if2.true
+left c = ltb-true (head c).loop.progress.made (head c).loop.progress.ticks c.if2.true
 
 large_buffer_requires : tie.Need-large-buffer-requires invariant_loop decreases_loop
 large_buffer_requires c κs = search rules
@@ -43,7 +43,7 @@ slice_aggregate_begin_2 c = search rules
 
 begin_requires : tie.Need-begin-requires invariant_loop decreases_loop
 unfolding blank
-begin_requires c κs = (omega (arith, c.before.before.large_buffer.ensures), refl)
+begin_requires c κs = (omega (arith, c.before.before.large-buffer.ensures), refl)
 
 array_share_prefix_text : tie.Need-array-share-prefix-text invariant_loop decreases_loop
 array_share_prefix_text c = search rules
@@ -58,7 +58,7 @@ loop_holds : tie.Need-loop-init invariant_loop decreases_loop
 loop_holds c =
     let call = c.before.before.before.before in
     let begins = call.begin.ensures.1.0 in
-    (begins_way _ _ _ _ _ _ _ begins call.begin.ensures.1.1, search rules, search rules, c.send_opening.ensures ∙ sym begins.none, begins.all)
+    (begins_way _ _ _ _ _ _ _ begins call.begin.ensures.1.1, search rules, search rules, c.send-opening.ensures ∙ sym begins.none, begins.all)
 
 slice_aggregate_go_on : tie.Need-slice-aggregate-go-on invariant_loop decreases_loop
 slice_aggregate_go_on c = sym (head c.before).loop.inv.1
@@ -96,17 +96,17 @@ loop_again c =
     let call = c.before.before.before.before in
     let at = head (test call) in
     let way = goes_way _ _ _ _ _ _ _ _ _ at.loop.inv.0 (left (test call)) call.go_on.ensures.1.0 in
-    (rw call.go_on.ensures.1.1.2 way, search rules, search rules, c.send_part.ensures, call.go_on.ensures.1.1.2 ∙ at.loop.inv.4)
+    (rw call.go_on.ensures.1.1.2 way, search rules, search rules, c.send-part.ensures, call.go_on.ensures.1.1.2 ∙ at.loop.inv.4)
 
 returns : tie.Need-returns invariant_loop decreases_loop
 returns c good =
     let at = c.before.before.before.before in
     let inv = at.loop.invariant in
-    let end = ltb_false at.loop.progress.made at.loop.progress.ticks c.if2.false in
+    let end = ltb-false at.loop.progress.made at.loop.progress.ticks c.if2.false in
     omega (arith, end, inv.0.within, inv.3, inv.4)
 
 returns_2 : tie.Need-returns-2 invariant_loop decreases_loop
-returns_2 c good = absurd (true_false (not_false _ c.if1.false) good)
+returns_2 c good = absurd (true_false (not-false _ c.if1.false) good)
 
 pub send_spec : {M : Type 1} → statement M
 send_spec =

@@ -1,5 +1,5 @@
 -- `loadinput::begin` meets its contract: the line of the refusal, or the load of the input.
-use Prim.Native.Nat.{◌≤◌, zero_le}
+use Prim.Native.Nat.{◌≤◌, zero-le}
 use mathlib.Core.Path.{◌≡◌, refl, sym, ◌∙◌}
 use native.Mathlib.Omega.{arith}
 use borrow.Author.Rules.{rules}
@@ -12,7 +12,7 @@ use Rattle.loadinput.proofs.begin.Tie as tie
 
 -- Where the input is accepted, it has a head.
 accepted : (c : tie.Else1) → load_refusal c.before.before.before.before.before.before.args.input.now ≡ 0
-accepted c = sym c.before.before.read_input.ensures.0 ∙ c.if1.false
+accepted c = sym c.before.before.read-input.ensures.0 ∙ c.if1.false
 
 head : (c : tie.Else1) → plan_at ≤ length c.before.before.before.before.before.before.args.input.now
 head c = accepted_long _ (accepted c)
@@ -33,7 +33,7 @@ returns : tie.Need-returns
 returns c =
     let put = c.before.before in
     let test = put.before.before in
-    let begins = refused_begins _ _ _ _ _ _ test.before.before.read_input.ensures.0 test.if1.true put.Put-refused.ensures in
+    let begins = refused_begins _ _ _ _ _ _ test.before.before.read-input.ensures.0 test.if1.true put.Put-refused.ensures in
     (appended_counts _ _ _ _ begins.text, (begins, omega arith))
 
 four_requires : tie.Need-four-requires
@@ -51,9 +51,9 @@ same_length_3 c = search rules
 returns_2 : tie.Need-returns-2
 returns_2 c =
     let test = c.before.before in
-    let table = test.before.before.read_input.ensures.1.1 test.if1.false in
+    let table = test.before.before.read-input.ensures.1.1 test.if1.false in
     let begins = accepted_begins _ _ _ _ _ (accepted test) table c.before.four.ensures.0 c.four2.ensures.0 in
-    ((zero_le, refl), (begins, c.four2.ensures.1))
+    ((zero-le, refl), (begins, c.four2.ensures.1))
 
 pub begin_spec : {M : Type 1} → statement M
 begin_spec =

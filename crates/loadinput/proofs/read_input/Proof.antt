@@ -3,7 +3,7 @@ use Prim.Native.Nat.{◌-◌}
 use mathlib.Core.Path.{sym, ap, ◌∙◌}
 use native.Mathlib.Omega.{arith}
 use borrow.Author.Rules.{rules}
-use lib.ListN.{length, drop, length_drop}
+use lib.ListN.{length, drop, length-drop}
 use lib.Seq.{take_all}
 use Rattle.definitions.specs.Refusals.{number_told}
 use Rattle.loadformat.specs.Text.{plan_at}
@@ -37,9 +37,9 @@ returns_2 c =
     let read = c.before.before in
     let test = read.before.before.before in
     let s = test.before.before.args.input.now in
-    let part = take_all (length s - plan_at) (drop plan_at s) (omega (arith, length_drop plan_at s)) in
-    let got = plan_read s _ _ _ _ test.if1.false part test.before.before.requires (c.number_told.ensures.0 ∙ ap number_told read.read.ensures.0) read.read.ensures.1 in
-    (got.0, (c.number_told.ensures.1, got.1))
+    let part = take_all (length s - plan_at) (drop plan_at s) (omega (arith, length-drop plan_at s)) in
+    let got = plan_read s _ _ _ _ test.if1.false part test.before.before.requires (c.number-told.ensures.0 ∙ ap number_told read.read.ensures.0) read.read.ensures.1 in
+    (got.0, (c.number-told.ensures.1, got.1))
 
 pub read_input_spec : {M : Type 1} → statement M
 read_input_spec =

@@ -1,6 +1,6 @@
 -- `loadlines::put_dispatch` meets its contract: the tick, the entry's numbers and the line's end stand one behind the other.
 use native.Mathlib.Omega.{arith}
-use lib.ListN.{length_append}
+use lib.ListN.{length-append}
 use borrow.Author.Rules.{rules}
 use Rattle.definitions.specs.Limits.{entry_length}
 use Rattle.planformat.specs.Bytes.{bytes_below}
@@ -47,9 +47,9 @@ returns c =
     let x = (start tick).args in
     let short = decimal_short x.tick in
     let entry = entry_short x.list.now x.i entry_length in
-    append_more _ _ _ _ _ _ _ _ (omega (arith, length_append (decimal x.tick) (bytes_below entry_length (number_text x.list.now x.i))))
-    (append_more _ _ _ _ _ _ _ _ (omega arith) tick.put_decimal.ensures numbers.put_entry.ensures)
-    end.put_text.ensures
+    append_more _ _ _ _ _ _ _ _ (omega (arith, length-append (decimal x.tick) (bytes_below entry_length (number_text x.list.now x.i))))
+    (append_more _ _ _ _ _ _ _ _ (omega arith) tick.put-decimal.ensures numbers.put-entry.ensures)
+    end.put-text.ensures
 
 pub put_dispatch_spec : {M : Type 1} → statement M
 put_dispatch_spec =

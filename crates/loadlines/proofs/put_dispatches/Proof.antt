@@ -13,11 +13,11 @@ use Rattle.loadformat.proofs.Lines.{lines_short}
 use Rattle.loadlines.proofs.put_dispatches.Statement.{statement}
 use Rattle.loadlines.proofs.put_dispatches.Tie as tie
 
-abbrev invariant_loop : tie.invariant_loop
+abbrev invariant_loop : tie.invariant-loop
 invariant_loop text₀ a tick list count at₀ i₀ text at i =
     (i ≤ count) × (Appended text₀ a (bytes_below i (dispatch_line tick list)) text at) × (length text ≡ length text₀)
 
-abbrev decreases_loop : tie.decreases_loop
+abbrev decreases_loop : tie.decreases-loop
 decreases_loop text₀ a tick list count at₀ i₀ text at i = count - i
 
 loop_holds : tie.Need-loop-init invariant_loop decreases_loop
@@ -43,7 +43,7 @@ loop_again c =
     let start = at.before.before.args in
     let i = at.loop.i in (
       omega arith,
-      append_next _ _ _ _ _ _ i (dispatch_line start.tick start.list.now) (omega (arith, lines_short start.tick i start.list.now)) at.loop.invariant.1 call.put_dispatch.ensures,
+      append_next _ _ _ _ _ _ i (dispatch_line start.tick start.list.now) (omega (arith, lines_short start.tick i start.list.now)) at.loop.invariant.1 call.put-dispatch.ensures,
       search rules,
     )
 

@@ -14,11 +14,11 @@ use Rattle.loadformat.proofs.Lines.{entry_short}
 use Rattle.loadlines.proofs.put_entry.Statement.{statement}
 use Rattle.loadlines.proofs.put_entry.Tie as tie
 
-abbrev invariant_loop : tie.invariant_loop
+abbrev invariant_loop : tie.invariant-loop
 invariant_loop text₀ a list i at₀ p₀ text at p =
     (p ≤ entry_length) × (Appended text₀ a (bytes_below p (number_text list i)) text at) × (length text ≡ length text₀)
 
-abbrev decreases_loop : tie.decreases_loop
+abbrev decreases_loop : tie.decreases-loop
 decreases_loop text₀ a list i at₀ p₀ text at p = entry_length - p
 
 loop_holds : tie.Need-loop-init invariant_loop decreases_loop
@@ -44,7 +44,7 @@ loop_again c =
     let f = number_text start.list.now start.i in
     let p = at.loop.p in (
       omega arith,
-      append_next _ _ _ _ _ _ p f (omega (arith, entry_short start.list.now start.i p)) at.loop.invariant.1 call.put_number.ensures,
+      append_next _ _ _ _ _ _ p f (omega (arith, entry_short start.list.now start.i p)) at.loop.invariant.1 call.put-number.ensures,
       search rules,
     )
 

@@ -2,7 +2,7 @@
 use mathlib.Core.Path.{ap, ◌∙◌}
 use native.Mathlib.Omega.{arith}
 use mir.Syntax.{w64}
-use mir.ValLaws.{to_z_of_z}
+use mir.ValLaws.{to_z-of_z}
 use borrow.Author.Rules.{rules, sfits_of}
 use Rattle.numbers.specs.Whole.{plus}
 use Rattle.text.specs.Text.{ascii, decimal}
@@ -35,8 +35,8 @@ returns c =
     let digits = c.before.before in
     let number = digits.before in
     let space = number.before.before.before.before.before in
-    append_more _ _ (ascii " ") _ _ _ _ _ (omega arith) space.put_text.ensures
-    (append_as _ _ _ _ _ _ (ap decimal (number.natural.ensures ∙ ap plus (to_z_of_z w64 _ (sfits_of number.before.entry_number.type_inv) ∙ number.before.entry_number.ensures))) digits.put_decimal.ensures)
+    append_more _ _ (ascii " ") _ _ _ _ _ (omega arith) space.put-text.ensures
+    (append_as _ _ _ _ _ _ (ap decimal (number.natural.ensures ∙ ap plus (to_z-of_z w64 _ (sfits_of number.before.entry-number.type-inv) ∙ number.before.entry-number.ensures))) digits.put-decimal.ensures)
 
 pub put_number_spec : {M : Type 1} → statement M
 put_number_spec =

@@ -52,7 +52,7 @@ returns : tie.Need-returns
 returns c =
     let put = c.before.before in
     let made = put.before.before.before.before.before.before in
-    (append_as _ _ _ _ _ _ ((shown made).lines _) put.put_dispatches.ensures, made.run.ensures.0)
+    (append_as _ _ _ _ _ _ ((shown made).lines _) put.put-dispatches.ensures, made.run.ensures.0)
 
 pub put_tick_spec : {M : Type 1} → statement M
 put_tick_spec =

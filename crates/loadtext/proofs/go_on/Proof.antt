@@ -29,7 +29,7 @@ same_length_2 c = search rules
 
 returns : tie.Need-returns
 returns c =
-    let part = c.before.before.before.put_ticks.ensures in
+    let part = c.before.before.before.put-ticks.ensures in
     (appended_counts _ _ _ _ part.0.text, (part.0, part.1))
 
 pub go_on_spec : {M : Type 1} → statement M

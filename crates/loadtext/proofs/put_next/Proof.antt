@@ -33,8 +33,8 @@ returns c =
     let put = c.before.before.before.before in
     let asking = put.before.before.before.before.before.before in
     let request = asking.ask.ensures in (
-      append_as _ _ _ _ _ _ (ap (tick_lines _) (next_entries _ _ _ request)) put.put_tick.ensures.0,
-      (next_load _ _ _ request _ put.put_tick.ensures.1, (refl, refl)),
+      append_as _ _ _ _ _ _ (ap (tick_lines _) (next_entries _ _ _ request)) put.put-tick.ensures.0,
+      (next_load _ _ _ request _ put.put-tick.ensures.1, (refl, refl)),
     )
 
 pub put_next_spec : {M : Type 1} → statement M

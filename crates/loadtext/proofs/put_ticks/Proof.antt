@@ -3,7 +3,7 @@ use Prim.Native.Nat.{◌*◌, ◌-◌, ◌≤◌}
 use mathlib.Core.Path.{◌≡◌, refl, sym, ap, ◌∙◌}
 use native.Mathlib.Omega.{arith}
 use borrow.Author.Rules.{rules}
-use borrow.Author.Tests.{leb_true, leb_false}
+use borrow.Author.Tests.{leb-true, leb-false}
 use lib.ListN.{length}
 use Rattle.definitions.specs.Limits.{entry_length}
 use Rattle.asking.specs.Asking.{clients, Load, load_of}
@@ -13,7 +13,7 @@ use Rattle.loadformat.proofs.Seams.{after_clients}
 use Rattle.loadtext.proofs.put_ticks.Statement.{statement}
 use Rattle.loadtext.proofs.put_ticks.Tie as tie
 
-abbrev invariant_loop : tie.invariant_loop
+abbrev invariant_loop : tie.invariant-loop
 invariant_loop text₀ table₀ askers list₀ last next₀ text table list next =
     (GoesOn text₀ (load_of table₀ next₀.state) next₀.made next₀.ticks text (load_of table next.state) next.made next.length)
     × (next.made ≤ last)
@@ -23,7 +23,7 @@ invariant_loop text₀ table₀ askers list₀ last next₀ text table list next
     × (length list ≡ entry_length * most_dispatches)
     × (askers ≡ clients table)
 
-abbrev decreases_loop : tie.decreases_loop
+abbrev decreases_loop : tie.decreases-loop
 decreases_loop text₀ table₀ askers list₀ last next₀ text table list next = last - next.made
 
 last_tick_requires : tie.Need-last-tick-requires invariant_loop decreases_loop
@@ -32,7 +32,7 @@ last_tick_requires c κs = search rules
 loop_holds : tie.Need-loop-init invariant_loop decreases_loop
 loop_holds c =
     let start = c.before.before.before in
-    (goes_none _ _ _ _ (omega (arith, start.requires.3)) start.requires.1, omega (arith, c.last_tick.ensures.0), refl, refl, refl, refl, start.requires.2)
+    (goes_none _ _ _ _ (omega (arith, start.requires.3)) start.requires.1, omega (arith, c.last-tick.ensures.0), refl, refl, refl, refl, start.requires.2)
 
 -- Back from a tick to the second test, and from there to the loop's head and to the start.
 abbrev room : tie.After-list invariant_loop decreases_loop → tie.Then2 invariant_loop decreases_loop
@@ -51,7 +51,7 @@ put_next_requires : tie.Need-put-next-requires invariant_loop decreases_loop
 put_next_requires c κs =
     let inv = (head (room c)).loop.inv in
     let begin = start (head (room c)) in
-    let short = leb_true (head (room c)).loop.next.length last_place (room c).if2.true in
+    let short = leb-true (head (room c)).loop.next.length last_place (room c).if2.true in
     (omega (arith, short, inv.3, begin.pre.0), inv.0.loaded, inv.6, omega (arith, inv.5), omega (arith, inv.0.within, begin.pre.4))
 
 loop_less : tie.Need-loop-smaller invariant_loop decreases_loop
@@ -64,8 +64,8 @@ loop_again c =
     let at = head test in
     let inv = at.loop.inv in
     let call = put.put_next.ensures in
-    let short = leb_true at.loop.next.length last_place test.if2.taken in (
-      goes_next _ _ _ _ _ _ _ _ inv.0 _ _ _ _ (omega (arith, at.before.last_tick.ensures.1)) (omega (arith, short, (start at).pre.0)) call.0 call.1.0 call.1.1.0,
+    let short = leb-true at.loop.next.length last_place test.if2.taken in (
+      goes_next _ _ _ _ _ _ _ _ inv.0 _ _ _ _ (omega (arith, at.before.last-tick.ensures.1)) (omega (arith, short, (start at).pre.0)) call.0 call.1.0 call.1.1.0,
       omega (arith, call.1.1.0),
       call.1.1.1 ∙ inv.2,
       search rules,
@@ -84,8 +84,8 @@ returns : tie.Need-returns invariant_loop decreases_loop
 returns c =
     let at = c.before.before.before.before in
     let part = at.loop.invariant.0 in
-    let test = leb_false at.loop.next.length last_place c.if2.false in
-    (part, (goes_some _ _ _ _ _ _ _ _ part (omega (arith, test)), omega (arith, at.before.last_tick.ensures.2), at.loop.invariant.2))
+    let test = leb-false at.loop.next.length last_place c.if2.false in
+    (part, (goes_some _ _ _ _ _ _ _ _ part (omega (arith, test)), omega (arith, at.before.last-tick.ensures.2), at.loop.invariant.2))
 
 same_length_3 : tie.Need-same-length-3 invariant_loop decreases_loop
 same_length_3 c = c.before.before.loop.invariant.3
@@ -97,7 +97,7 @@ returns_2 : tie.Need-returns-2 invariant_loop decreases_loop
 returns_2 c =
     let at = c.before.before in
     let part = at.loop.invariant.0 in
-    (part, (omega (arith, at.before.last_tick.ensures.0), omega (arith, at.before.last_tick.ensures.2), at.loop.invariant.2))
+    (part, (omega (arith, at.before.last-tick.ensures.0), omega (arith, at.before.last-tick.ensures.2), at.loop.invariant.2))
 
 pub put_ticks_spec : {M : Type 1} → statement M
 put_ticks_spec =

@@ -5,10 +5,10 @@ use mathlib.Core.Bool.{true}
 use mathlib.Core.List.{List, [], ◌∷◌}
 use native.Mathlib.Omega.{arith}
 use borrow.Author.Rules.{sfits_of}
-use borrow.Author.Tests.{not_false}
+use borrow.Author.Tests.{not-false}
 use lib.IntN.{ℤ}
 use mir.Syntax.{w64}
-use mir.ValLaws.{to_z_of_z}
+use mir.ValLaws.{to_z-of_z}
 use Rattle.numbers.specs.Whole.{plus}
 use Rattle.definitions.specs.Limits.{nodes}
 use Rattle.definitions.specs.Order.{in_order}
@@ -20,8 +20,8 @@ use Rattle.definitions.proofs.Passed.{long, below}
 use Rattle.looking.proofs.look.Statement.{statement}
 use Rattle.looking.proofs.look.Tie as tie
 
-number : (c : tie.After-look-refusal) → let s = c.before in c.look_refusal.result ≡ look_refusal s.args.table.now s.args.node
-number c = let s = c.before in rw (to_z_of_z w64 s.args.node s.ranges.node) at c.look_refusal.ensures.0
+number : (c : tie.After-look-refusal) → let s = c.before in c.look-refusal.result ≡ look_refusal s.args.table.now s.args.node
+number c = let s = c.before in rw (to_z-of_z w64 s.args.node s.ranges.node) at c.look-refusal.ensures.0
 
 none : (c : tie.Else1) → let s = c.before.before in look_refusal s.args.table.now s.args.node ≡ 0
 none c = sym (number c.before) ∙ c.if1.false
@@ -38,7 +38,7 @@ unfolding look_refusal
 passed t z h =
     let p = none_first 1 _ _ (omega arith) h in
     let q = none_first 2 _ _ (omega arith) p.1 in
-    (not_false _ p.0, below 0 z (not_false _ q.0))
+    (not-false _ p.0, below 0 z (not-false _ q.0))
 
 safe : (c : tie.After-natural) → let s = c.before.before.before in (in_order s.args.table.now ≡ true) × (c.natural.result < nodes)
 safe c = let p = passed _ _ (none c.before) in (p.0, omega (arith, node c))
@@ -48,7 +48,7 @@ unfolding told_seen look_answer
 returns c =
     let ne = c.before.if1.true in
     let same = number c.before.before in
-    ap refused (c.refusal_of.ensures ∙ same) ∙ sym (outcome_refused _ _ (λ e. ne (same ∙ e)))
+    ap refused (c.refusal-of.ensures ∙ same) ∙ sym (outcome_refused _ _ (λ e. ne (same ∙ e)))
 
 returns_2 : tie.Need-returns-2
 unfolding told_seen look_answer
@@ -57,10 +57,10 @@ returns_2 c =
     let got2 = got3.before in
     let got = got2.before in
     let natural = got.before in
-    let rate = to_z_of_z w64 got.get.result (sfits_of got.get.type_inv) ∙ (rw (node natural) at got.get.ensures) in
-    let balance = to_z_of_z w64 got2.get2.result (sfits_of got2.get2.type_inv) ∙ (rw (node natural) at got2.get2.ensures) in
-    let waits = to_z_of_z w64 got3.get3.result (sfits_of got3.get3.type_inv) ∙ (rw (node natural) at got3.get3.ensures) in
-    let lost = to_z_of_z w64 c.lost_grains.result (sfits_of c.lost_grains.type_inv) ∙ (rw (node natural) at c.lost_grains.ensures) in
+    let rate = to_z-of_z w64 got.get.result (sfits_of got.get.type-inv) ∙ (rw (node natural) at got.get.ensures) in
+    let balance = to_z-of_z w64 got2.get2.result (sfits_of got2.get2.type-inv) ∙ (rw (node natural) at got2.get2.ensures) in
+    let waits = to_z-of_z w64 got3.get3.result (sfits_of got3.get3.type-inv) ∙ (rw (node natural) at got3.get3.ensures) in
+    let lost = to_z-of_z w64 c.lost-grains.result (sfits_of c.lost-grains.type-inv) ∙ (rw (node natural) at c.lost-grains.ensures) in
     values rate balance waits lost ∙ sym (outcome_accepted _ _ (none natural.before))
 
 pub look_spec : {M : Type 1} → statement M

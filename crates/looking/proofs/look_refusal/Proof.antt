@@ -2,7 +2,7 @@
 -- that the code made on the way.
 use mathlib.Core.Path.{◌≡◌, ap, ◌∙◌}
 use native.Mathlib.Omega.{arith}
-use mir.Facts.{to_z_of_z}
+use mir.Facts.{to_z-of_z}
 use Rattle.numbers.specs.Whole.{plus, within_ℤ}
 use Rattle.definitions.specs.Limits.{last_node}
 use Rattle.definitions.specs.Tree.{tree_of, there}
@@ -17,7 +17,7 @@ start c = c.before.before.before.before
 
 -- The node, within its limits.
 fits : (c : tie.After-within) → let s = c.before.before.before in c.within.result ≡ within_ℤ 0 last_node s.args.node
-fits c = c.within.ensures ∙ ap (within_ℤ 0 last_node) (to_z_of_z c.before.before.before.ranges.node)
+fits c = c.within.ensures ∙ ap (within_ℤ 0 last_node) (to_z-of_z c.before.before.before.ranges.node)
 
 number : (c : tie.After-natural) → c.natural.result ≡ plus (start c.before).args.node
 number c = natural_of c.natural.ensures (start c.before).ranges.node

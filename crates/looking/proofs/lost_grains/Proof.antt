@@ -6,11 +6,11 @@ use mathlib.Core.Bool.{true}
 use mathlib.Core.List.{List}
 use native.Mathlib.Omega.{arith}
 use borrow.Author.Rules.{sfits_of}
-use borrow.Author.Tests.{not_true, not_false}
+use borrow.Author.Tests.{not-true, not-false}
 use lib.IntN.{ℤ, pos, ◌-ℤ◌}
 use mir.Syntax.{w64}
 use mir.Val.{of_z, to_z}
-use mir.ValLaws.{to_z_of_z}
+use mir.ValLaws.{to_z-of_z}
 use Rattle.numbers.specs.Whole.{minus}
 use Rattle.numbers.proofs.Tests.{cond_true, cond_false}
 use Rattle.definitions.specs.Limits.{nodes, rate_at, greatest_rate}
@@ -33,18 +33,18 @@ small t k order hk class =
     (rate_natural t f k hk (class_there (tree_of t) k class), omega (arith, fair_rates t f k hk class, rate_small t f k hk))
 
 class : (c : tie.Else1) → let s = c.before.before in is_class (tree_of s.args.table.now) s.args.k ≡ true
-class c = sym c.before.is_class.ensures ∙ not_false _ c.if1.false
+class c = sym c.before.is-class.ensures ∙ not-false _ c.if1.false
 
-given : (c : tie.After-sum-under) → let s = c.before.before.before in c.sum_under.result ≡ sum_under (tree_of s.args.table.now) s.args.k (rate s.args.table.now)
+given : (c : tie.After-sum-under) → let s = c.before.before.before in c.sum-under.result ≡ sum_under (tree_of s.args.table.now) s.args.k (rate s.args.table.now)
 unfolding term
-given c = c.sum_under.ensures
+given c = c.sum-under.ensures
 
 is_class_requires : tie.Need-is-class-requires
 is_class_requires c κs = ((facts _ c.requires.0).long, c.requires.1)
 
 returns : tie.Need-returns
 unfolding lost_grains
-returns c = sym (cond_false _ _ _ (sym c.before.is_class.ensures ∙ not_true _ c.if1.true))
+returns c = sym (cond_false _ _ _ (sym c.before.is-class.ensures ∙ not-true _ c.if1.true))
 
 sum_under_requires : tie.Need-sum-under-requires
 sum_under_requires c κs = let f = facts _ c.before.before.requires.0 in (f.long, in_order_summable _ _ f)
@@ -53,7 +53,7 @@ get_requires : tie.Need-get-requires
 get_requires c κs = let s = c.before.before.before in ((facts _ s.requires.0).long, s.requires.1, omega arith)
 
 stored : (c : tie.After-get) → let s = c.before.before.before.before in to_z w64 (of_z w64 c.get.result) ≡ place s.args.table.now s.args.k rate_at
-stored c = to_z_of_z w64 c.get.result (sfits_of c.get.type_inv) ∙ c.get.ensures
+stored c = to_z-of_z w64 c.get.result (sfits_of c.get.type-inv) ∙ c.get.ensures
 
 lowered_requires : tie.Need-lowered-requires
 lowered_requires c κs =
@@ -63,7 +63,7 @@ lowered_requires c κs =
 returns_2 : tie.Need-returns-2
 unfolding lost_grains
 returns_2 c =
-    to_z_of_z w64 c.lowered.result (sfits_of c.lowered.type_inv)
+    to_z-of_z w64 c.lowered.result (sfits_of c.lowered.type-inv)
     ∙ c.lowered.ensures
     ∙ ap₂ ◌-ℤ◌ (stored c.before) (ap pos (given c.before.before))
     ∙ sym (cond_true _ _ _ (class c.before.before.before))

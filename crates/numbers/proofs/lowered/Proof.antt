@@ -5,7 +5,7 @@ use borrow.Author.Rules.{rules}
 use lib.IntN.{pos, ◌-ℤ◌}
 use mir.Syntax.{w64}
 use mir.Val.{SFits}
-use mir.ValLaws.{to_z_of_z, to_z_pos}
+use mir.ValLaws.{to_z-of_z, to_z_pos}
 use Rattle.numbers.specs.Whole.{plus, minus}
 use Rattle.numbers.proofs.Parts.{one_is_zero, sub_parts, fits_parts, parts_fit}
 use Rattle.numbers.proofs.lowered.Statement.{statement}
@@ -24,11 +24,11 @@ cast_result : tie.Need-overflow-cast-result
 cast_result c = search rules
 
 sub_result : tie.Need-overflow-sub-result
-sub_result c = rw (to_z_of_z w64 c.args.z c.ranges.z, to_z_pos w64 c.args.by c.requires.1) (fits c)
+sub_result c = rw (to_z-of_z w64 c.args.z c.ranges.z, to_z_pos w64 c.args.by c.requires.1) (fits c)
 
 returns : tie.Need-returns
 returns c =
-    rw (to_z_of_z w64 c.args.z c.ranges.z, to_z_pos w64 c.args.by c.requires.1, to_z_of_z w64 _ (fits c))
+    rw (to_z-of_z w64 c.args.z c.ranges.z, to_z_pos w64 c.args.by c.requires.1, to_z-of_z w64 _ (fits c))
 
 pub lowered_spec : {M : Type 1} → statement M
 lowered_spec = tie.close (tie.spec cast_result sub_result returns)

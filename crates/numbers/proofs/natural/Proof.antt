@@ -2,13 +2,13 @@
 use native.Mathlib.Omega.{arith}
 use mathlib.Core.Path.{◌≡◌, refl}
 use mathlib.Core.Bool.{true, false, true≢false}
-use borrow.Author.Tests.{ltb_true}
+use borrow.Author.Tests.{ltb-true}
 use lib.Dec.{T}
 use lib.IntN.{ℤ, pos, negsuc, nat_abs}
 use lib.Signed.{lt_z, non_neg}
 use mir.Syntax.{w64}
 use mir.Val.{Fits, SFits}
-use mir.ValLaws.{to_z_of_z}
+use mir.ValLaws.{to_z-of_z}
 use Rattle.numbers.specs.Whole.{plus}
 use Rattle.numbers.proofs.natural.Statement.{statement}
 use Rattle.numbers.proofs.natural.Tie as tie
@@ -19,7 +19,7 @@ fits (negsuc n) f h = absurd (true≢false h)
 
 none : (z : ℤ) → lt_z z (pos 0) ≡ true → 0 ≡ plus z
 unfolding plus
-none (pos n) h = absurd (omega (arith, ltb_true n 0 h))
+none (pos n) h = absurd (omega (arith, ltb-true n 0 h))
 none (negsuc n) h = refl
 
 itself : (z : ℤ) → lt_z z (pos 0) ≡ false → nat_abs z ≡ plus z
@@ -31,16 +31,16 @@ cast_result : tie.Need-overflow-cast-result
 cast_result c =
     let z = c.before.args.z in
     let f = c.before.ranges.z in
-    rw (to_z_of_z w64 z f) (fits z f (rw (to_z_of_z w64 z f) at c.if1.false))
+    rw (to_z-of_z w64 z f) (fits z f (rw (to_z-of_z w64 z f) at c.if1.false))
 
 returns : tie.Need-returns
-returns c = none c.before.args.z (rw (to_z_of_z w64 c.before.args.z c.before.ranges.z) at c.if1.true)
+returns c = none c.before.args.z (rw (to_z-of_z w64 c.before.args.z c.before.ranges.z) at c.if1.true)
 
 returns_2 : tie.Need-returns-2
 returns_2 c =
     let z = c.before.args.z in
     let f = c.before.ranges.z in
-    rw (to_z_of_z w64 z f) (itself z (rw (to_z_of_z w64 z f) at c.if1.false))
+    rw (to_z-of_z w64 z f) (itself z (rw (to_z-of_z w64 z f) at c.if1.false))
 
 pub natural_spec : {M : Type 1} → statement M
 natural_spec = tie.close (tie.spec cast_result returns returns_2)

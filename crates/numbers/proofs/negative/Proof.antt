@@ -8,7 +8,7 @@ use lib.IntN.{ℤ, pos, ◌+ℤ◌, ◌-ℤ◌}
 use lib.Signed.{lt_z}
 use mir.Syntax.{w64}
 use mir.Val.{SFits}
-use mir.ValLaws.{to_z_of_z}
+use mir.ValLaws.{to_z-of_z}
 use Rattle.numbers.specs.Whole.{plus, minus}
 use Rattle.numbers.proofs.Parts.{zarith, one_is_zero, add_parts, sub_parts, fits_parts, parts_fit}
 use Rattle.numbers.proofs.negative.Statement.{statement}
@@ -34,7 +34,7 @@ module _ (z : ℤ) (f : SFits w64 z) (h : lt_z z (pos 0) ≡ true) where
       (omega (arith, zarith, one_is_zero (pos 0 -ℤ (z +ℤ pos 1)), add_parts z (pos 1), sub_parts (pos 0) (z +ℤ pos 1)))
 
 below : (c : tie.Then1) → lt_z c.before.args.z (pos 0) ≡ true
-below c = rw (to_z_of_z w64 c.before.args.z c.before.ranges.z) at c.if1.true
+below c = rw (to_z-of_z w64 c.before.args.z c.before.ranges.z) at c.if1.true
 
 -- z + 1 and -(z + 1) as the machine has them.
 next_fits : (c : tie.Then1) → SFits w64 (c.before.args.z +ℤ pos 1)
@@ -44,11 +44,11 @@ turned_fits : (c : tie.Then1) → SFits w64 (pos 0 -ℤ (c.before.args.z +ℤ po
 turned_fits c = turned c.before.args.z c.before.ranges.z (below c)
 
 add_natural : tie.Need-overflow-add-natural
-add_natural c = rw (to_z_of_z w64 c.before.args.z c.before.ranges.z) (next_fits c)
+add_natural c = rw (to_z-of_z w64 c.before.args.z c.before.ranges.z) (next_fits c)
 
 sub_natural : tie.Need-overflow-sub-natural
 sub_natural c =
-    rw (to_z_of_z w64 c.before.args.z c.before.ranges.z, to_z_of_z w64 _ (next_fits c)) (turned_fits c)
+    rw (to_z-of_z w64 c.before.args.z c.before.ranges.z, to_z-of_z w64 _ (next_fits c)) (turned_fits c)
 
 natural_requires : tie.Need-natural-requires
 natural_requires c κs = search rules
@@ -57,7 +57,7 @@ part : (c : tie.After-natural) → c.natural.result + 1 ≡ minus c.before.befor
 part c =
     let z = c.before.before.args.z in
     let f = c.before.before.ranges.z in
-    omega (arith, size z f (below c.before), rw (to_z_of_z w64 z f, to_z_of_z w64 _ (next_fits c.before), to_z_of_z w64 _ (turned_fits c.before)) at c.natural.ensures)
+    omega (arith, size z f (below c.before), rw (to_z-of_z w64 z f, to_z-of_z w64 _ (next_fits c.before), to_z-of_z w64 _ (turned_fits c.before)) at c.natural.ensures)
 
 add_result : tie.Need-overflow-add-result
 add_result c = omega (arith, part c, parts_fit c.before.before.args.z c.before.before.ranges.z)
@@ -69,7 +69,7 @@ returns_2 : tie.Need-returns-2
 unfolding plus minus
 returns_2 c =
     let z = c.before.args.z in
-    let h : lt_z z (pos 0) ≡ false = rw (to_z_of_z w64 z c.before.ranges.z) at c.if1.false in
+    let h : lt_z z (pos 0) ≡ false = rw (to_z-of_z w64 z c.before.ranges.z) at c.if1.false in
     omega (arith, zarith, one_is_zero z)
 
 pub negative_spec : {M : Type 1} → statement M

@@ -6,7 +6,7 @@ use lib.IntN.{ℤ, pos, negsuc, nat_abs}
 use lib.Signed.{non_neg}
 use mir.Syntax.{w64}
 use mir.Val.{Fits, SFits}
-use mir.ValLaws.{to_z_of_z}
+use mir.ValLaws.{to_z-of_z}
 use Rattle.numbers.specs.Whole.{plus, minus}
 use Rattle.numbers.proofs.unsigned.Statement.{statement}
 use Rattle.numbers.proofs.unsigned.Tie as tie
@@ -22,10 +22,10 @@ itself (pos n) h = refl
 itself (negsuc n) h = absurd (omega arith)
 
 cast_result : tie.Need-overflow-cast-result
-cast_result c = let z = c.args.z in rw (to_z_of_z w64 z c.ranges.z) (fits z c.ranges.z c.requires)
+cast_result c = let z = c.args.z in rw (to_z-of_z w64 z c.ranges.z) (fits z c.ranges.z c.requires)
 
 returns : tie.Need-returns
-returns c = let z = c.args.z in rw (to_z_of_z w64 z c.ranges.z) (itself z c.requires)
+returns c = let z = c.args.z in rw (to_z-of_z w64 z c.ranges.z) (itself z c.requires)
 
 pub unsigned_spec : {M : Type 1} → statement M
 unsigned_spec = tie.close (tie.spec cast_result returns)

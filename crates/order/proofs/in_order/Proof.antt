@@ -2,7 +2,7 @@
 use mathlib.Core.Path.{◌≡◌, sym, ◌∙◌}
 use mathlib.Core.Bool.{true, ◌&&◌}
 use mathlib.Core.List.{List}
-use borrow.Author.Tests.{eq_eqb, ne_eqb, not_true, not_false}
+use borrow.Author.Tests.{eq-eqb, ne_eqb, not-true, not-false}
 use lib.ListN.{length}
 use lib.Dec.{eqb}
 use lib.IntN.{ℤ}
@@ -29,17 +29,17 @@ table c = (measured c).before.args.table.now
 long : (c : tie.Else2) → length (table c.before) ≡ table_length
 long c = (measured c.before).if1.false
 
-shaped : (c : tie.Else2) → (c.before.before.before.header_in_order.result && c.before.before.root_in_order.result && c.before.records_in_order.result) ≡ true
-shaped c = not_false _ c.if2.false
+shaped : (c : tie.Else2) → (c.before.before.before.header-in-order.result && c.before.before.root-in-order.result && c.before.records-in-order.result) ≡ true
+shaped c = not-false _ c.if2.false
 
 header : (c : tie.Else2) → header_in_order (table c.before) ≡ true
-header c = sym c.before.before.before.header_in_order.ensures ∙ and_left c.before.before.before.header_in_order.result _ (and_left _ c.before.records_in_order.result (shaped c))
+header c = sym c.before.before.before.header-in-order.ensures ∙ and_left c.before.before.before.header-in-order.result _ (and_left _ c.before.records-in-order.result (shaped c))
 
 root : (c : tie.Else2) → root_in_order (table c.before) ≡ true
-root c = sym c.before.before.root_in_order.ensures ∙ and_right c.before.before.before.header_in_order.result _ (and_left _ c.before.records_in_order.result (shaped c))
+root c = sym c.before.before.root-in-order.ensures ∙ and_right c.before.before.before.header-in-order.result _ (and_left _ c.before.records-in-order.result (shaped c))
 
 records : (c : tie.Else2) → records_in_order (table c.before) ≡ true
-records c = sym c.before.records_in_order.ensures ∙ and_right (c.before.before.before.header_in_order.result && c.before.before.root_in_order.result) _ (shaped c)
+records c = sym c.before.records-in-order.ensures ∙ and_right (c.before.before.before.header-in-order.result && c.before.before.root-in-order.result) _ (shaped c)
 
 -- From the sums back to the records, and from past the test of the classes to the sums.
 abbrev shaped_at : tie.After-totals → tie.Else2
@@ -52,12 +52,12 @@ abbrev past : tie.Else3 → tie.Else2
 past c = shaped_at (summed c.before.before)
 
 covered : (c : tie.Else3) → let t = table (past c).before in each_class (tree_of t) (class_covers t) ≡ true
-covered c = sym c.before.classes_cover.ensures ∙ not_false _ c.if3.false
+covered c = sym c.before.classes-cover.ensures ∙ not-false _ c.if3.false
 
 returns : tie.Need-returns
 returns c =
     let t = c.before.args.table.now in
-    out_of_order_law t (eqb (length t) table_length) (λ s. eq_eqb (length t) table_length s.long) (ne_eqb (length t) table_length c.if1.true)
+    out_of_order_law t (eqb (length t) table_length) (λ s. eq-eqb (length t) table_length s.long) (ne_eqb (length t) table_length c.if1.true)
 
 header_in_order_requires : tie.Need-header-in-order-requires
 header_in_order_requires c κs = search rules
@@ -70,12 +70,12 @@ records_in_order_requires c κs = search rules
 
 returns_2 : tie.Need-returns-2
 returns_2 c =
-    let header = c.before.before.before.header_in_order in
-    let root = c.before.before.root_in_order in
-    let each = c.before.records_in_order in
+    let header = c.before.before.before.header-in-order in
+    let root = c.before.before.root-in-order in
+    let each = c.before.records-in-order in
     out_of_order_law _ (header.result && root.result && each.result)
     (λ s. and_true (header.result && root.result) each.result (and_true header.result root.result (header.ensures ∙ s.header) (root.ensures ∙ s.root)) (each.ensures ∙ s.records))
-    (not_true _ c.if2.true)
+    (not-true _ c.if2.true)
 
 totals_requires : tie.Need-totals-requires
 totals_requires c κs = let shaped = c.before.before.before.before in (long shaped, records shaped, totals_start _)
@@ -86,7 +86,7 @@ classes_cover_requires c κs =
     (long (shaped_at sums), records (shaped_at sums), sums.totals.ensures)
 
 returns_3 : tie.Need-returns-3
-returns_3 c = out_of_order_law _ c.before.classes_cover.result (λ s. c.before.classes_cover.ensures ∙ s.classes) (not_true _ c.if3.true)
+returns_3 c = out_of_order_law _ c.before.classes-cover.result (λ s. c.before.classes-cover.ensures ∙ s.classes) (not-true _ c.if3.true)
 
 rates_in_order_requires : tie.Need-rates-in-order-requires
 rates_in_order_requires c κs =
@@ -106,7 +106,7 @@ returns_4 c =
     let covers = c.before.before.before in
     let shaped = past covers in
     let rates = c.before.rates_in_order in
-    let queues = c.queues_in_order in
+    let queues = c.queues-in-order in
     same_truth _ (in_order (table shaped.before))
     (λ h.
     let are_rates : rates.result ≡ true = search (and_left, and_right, h) in

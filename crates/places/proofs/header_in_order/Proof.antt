@@ -2,7 +2,7 @@
 use mathlib.Core.Path.{ap, ◌∙◌}
 use borrow.Author.Rules.{sfits_of}
 use mir.Syntax.{w64}
-use mir.ValLaws.{to_z_of_z}
+use mir.ValLaws.{to_z-of_z}
 use Rattle.numbers.specs.Whole.{within_ℤ}
 use Rattle.numbers.proofs.Every.{joined_as, same_tests, last_test}
 use Rattle.definitions.specs.Limits.{greatest_count}
@@ -27,7 +27,7 @@ zeros_requires c κs = search rules
 returns : tie.Need-returns
 unfolding header_in_order
 returns c =
-    let count = to_z_of_z w64 _ (sfits_of c.before.before.heading.type_inv) ∙ c.before.before.heading.ensures in
+    let count = to_z-of_z w64 _ (sfits_of c.before.before.heading.type-inv) ∙ c.before.before.heading.ensures in
     joined_as
     (same_tests (c.before.within.ensures ∙ ap (within_ℤ 0 greatest_count) count)
     (last_test (c.zeros.ensures ∙ header_zeros _)))

@@ -63,29 +63,29 @@ limited : (limit : ℕ → ℕ) (low : ℕ) (z : ℤ) {b : Bool} {n m most : ℕ
 limited limit low z e l same = e ∙ ap (λ (most : ℕ). within_ℤ low most z) (l ∙ ap limit same)
 
 -- The share's limit is that of the kind.
-share : (c : tie.After-place-within7) → let s = start c in c.before.before.place_within5.result ≡ within_ℤ 1 (share_limit (plus (place s.args.table.now s.args.k kind_at))) (place s.args.table.now s.args.k share_at)
+share : (c : tie.After-place-within7) → let s = start c in c.before.before.place-within5.result ≡ within_ℤ 1 (share_limit (plus (place s.args.table.now s.args.k kind_at))) (place s.args.table.now s.args.k share_at)
 share c =
     let limit = c.before.before.before in
-    limited share_limit 1 _ c.before.before.place_within5.ensures limit.share_limit.ensures limit.before.natural.ensures
+    limited share_limit 1 _ c.before.before.place-within5.ensures limit.share-limit.ensures limit.before.natural.ensures
 
 -- The port's limit is that of the sort.
-port : (c : tie.After-place-within8) → let s = start (seventh c) in c.place_within8.result ≡ within_ℤ 0 (port_limit (plus (place s.args.table.now s.args.k sort_at))) (place s.args.table.now s.args.k port_at)
+port : (c : tie.After-place-within8) → let s = start (seventh c) in c.place-within8.result ≡ within_ℤ 0 (port_limit (plus (place s.args.table.now s.args.k sort_at))) (place s.args.table.now s.args.k port_at)
 port c =
     let limit = c.before in
-    limited port_limit 0 _ c.place_within8.ensures limit.port_limit.ensures limit.before.natural2.ensures
+    limited port_limit 0 _ c.place-within8.ensures limit.port-limit.ensures limit.before.natural2.ensures
 
 returns : tie.Need-returns
 unfolding limits_kept
 returns c =
     let seven = seventh c in
     joined_as
-    (same_tests (kind seven).before.before.before.place_within.ensures
-    (same_tests (kind seven).before.before.place_within2.ensures
-    (same_tests (kind seven).before.place_within3.ensures
-    (same_tests (kind seven).place_within4.ensures
+    (same_tests (kind seven).before.before.before.place-within.ensures
+    (same_tests (kind seven).before.before.place-within2.ensures
+    (same_tests (kind seven).before.place-within3.ensures
+    (same_tests (kind seven).place-within4.ensures
     (same_tests (share seven)
-    (same_tests seven.before.place_within6.ensures
-    (same_tests seven.place_within7.ensures
+    (same_tests seven.before.place-within6.ensures
+    (same_tests seven.place-within7.ensures
     (last_test (port c)))))))))
 
 pub limits_kept_spec : {M : Type 1} → statement M

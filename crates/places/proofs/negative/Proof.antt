@@ -2,7 +2,7 @@
 use mathlib.Core.Path.{ap, ◌∙◌}
 use borrow.Author.Rules.{sfits_of}
 use mir.Syntax.{w64}
-use mir.ValLaws.{to_z_of_z}
+use mir.ValLaws.{to_z-of_z}
 use Rattle.numbers.specs.Whole.{minus}
 use borrow.Author.Rules.{rules}
 use Rattle.places.proofs.negative.Statement.{statement}
@@ -16,7 +16,7 @@ negative_requires c κs = search rules
 
 returns : tie.Need-returns
 returns c =
-    c.negative.ensures ∙ ap minus (to_z_of_z w64 _ (sfits_of c.before.get.type_inv) ∙ c.before.get.ensures)
+    c.negative.ensures ∙ ap minus (to_z-of_z w64 _ (sfits_of c.before.get.type-inv) ∙ c.before.get.ensures)
 
 pub negative_spec : {M : Type 1} → statement M
 negative_spec = tie.close (tie.spec get_requires negative_requires returns)

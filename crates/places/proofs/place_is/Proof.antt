@@ -2,7 +2,7 @@
 use mathlib.Core.Path.{ap₂, ◌∙◌}
 use borrow.Author.Rules.{rules, sfits_of}
 use mir.Syntax.{w64}
-use mir.ValLaws.{to_z_of_z}
+use mir.ValLaws.{to_z-of_z}
 use Rattle.numbers.specs.Whole.{same_ℤ}
 use Rattle.places.proofs.place_is.Statement.{statement}
 use Rattle.places.proofs.place_is.Tie as tie
@@ -18,8 +18,8 @@ equal_requires c κs = search rules
 
 returns : tie.Need-returns
 returns c =
-    let here = to_z_of_z w64 _ (sfits_of c.before.before.get.type_inv) ∙ c.before.before.get.ensures in
-    let there = to_z_of_z w64 _ (sfits_of c.before.whole.type_inv) ∙ c.before.whole.ensures in
+    let here = to_z-of_z w64 _ (sfits_of c.before.before.get.type-inv) ∙ c.before.before.get.ensures in
+    let there = to_z-of_z w64 _ (sfits_of c.before.whole.type-inv) ∙ c.before.whole.ensures in
     c.equal.ensures ∙ ap₂ same_ℤ here there
 
 pub place_is_spec : {M : Type 1} → statement M

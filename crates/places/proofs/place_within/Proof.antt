@@ -2,7 +2,7 @@
 use mathlib.Core.Path.{ap, ◌∙◌}
 use borrow.Author.Rules.{rules, sfits_of}
 use mir.Syntax.{w64}
-use mir.ValLaws.{to_z_of_z}
+use mir.ValLaws.{to_z-of_z}
 use Rattle.numbers.specs.Whole.{within_ℤ}
 use Rattle.places.proofs.place_within.Statement.{statement}
 use Rattle.places.proofs.place_within.Tie as tie
@@ -17,7 +17,7 @@ returns : tie.Need-returns
 returns c =
     let args = c.before.before.args in
     c.within.ensures
-    ∙ ap (within_ℤ args.low args.high) (to_z_of_z w64 _ (sfits_of c.before.get.type_inv) ∙ c.before.get.ensures)
+    ∙ ap (within_ℤ args.low args.high) (to_z-of_z w64 _ (sfits_of c.before.get.type-inv) ∙ c.before.get.ensures)
 
 pub place_within_spec : {M : Type 1} → statement M
 place_within_spec = tie.close (tie.spec get_requires within_requires returns)

@@ -32,11 +32,11 @@ unfolding root_in_order
 returns c =
     joined_as
     (same_tests (level c).before.before.place_is.ensures
-    (same_tests (level c).before.place_is2.ensures
-    (same_tests (level c).place_is3.ensures
-    (same_tests c.before.before.place_is4.ensures
-    (same_tests c.before.place_is5.ensures
-    (last_test c.place_within.ensures))))))
+    (same_tests (level c).before.place-is2.ensures
+    (same_tests (level c).place-is3.ensures
+    (same_tests c.before.before.place-is4.ensures
+    (same_tests c.before.place-is5.ensures
+    (last_test c.place-within.ensures))))))
 
 pub root_in_order_spec : {M : Type 1} → statement M
 root_in_order_spec =

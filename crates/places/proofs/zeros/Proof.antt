@@ -7,7 +7,7 @@ use lib.IntN.{pos}
 use borrow.Author.Rules.{sfits_of}
 use mir.Syntax.{w64}
 use mir.Val.{to_z}
-use mir.Facts.{to_z_of_z}
+use mir.Facts.{to_z-of_z}
 use Rattle.numbers.specs.Whole.{same_ℤ}
 use Rattle.numbers.specs.Below.{all_below}
 use Rattle.numbers.proofs.All.{all_grows}
@@ -16,11 +16,11 @@ use Rattle.places.specs.Zeros.{zeros}
 use Rattle.places.proofs.zeros.Statement.{statement}
 use Rattle.places.proofs.zeros.Tie as tie
 
-abbrev invariant_loop : tie.invariant_loop
+abbrev invariant_loop : tie.invariant-loop
 invariant_loop table first n bits₀ p₀ bits p =
     (p ≤ n) × (is_zero (to_z w64 bits) ≡ zeros table first p)
 
-abbrev decreases_loop : tie.decreases_loop
+abbrev decreases_loop : tie.decreases-loop
 decreases_loop table first n bits₀ p₀ bits p = n - p
 
 loop_holds : tie.Need-loop-init invariant_loop decreases_loop
@@ -53,9 +53,9 @@ loop_again c =
     let first = at.before.args.first in
     let p = at.loop.p in (
       omega arith,
-      ap is_zero (to_z_of_z (sfits_of c.either.type_inv))
+      ap is_zero (to_z-of_z (sfits_of c.either.type-inv))
           ∙ c.either.ensures
-          ∙ all_grows p (λ p. is_zero (get_or t (first + p) (pos 0))) _ _ at.loop.invariant.1 (ap is_zero (to_z_of_z (sfits_of c.before.either_arg.given))),
+          ∙ all_grows p (λ p. is_zero (get_or t (first + p) (pos 0))) _ _ at.loop.invariant.1 (ap is_zero (to_z-of_z (sfits_of c.before.either-arg.given))),
     )
 
 equal_requires : tie.Need-equal-requires invariant_loop decreases_loop

@@ -14,11 +14,11 @@ use borrow.Author.Rules.{rules}
 use Rattle.planparts.proofs.put_bodies.Statement.{statement}
 use Rattle.planparts.proofs.put_bodies.Tie as tie
 
-abbrev invariant_loop : tie.invariant_loop
+abbrev invariant_loop : tie.invariant-loop
 invariant_loop table edition listed n buffer₀ i₀ buffer i =
     (i ≤ n) × (buffer ≡ written buffer₀ (entry_at edition n) (bytes_below i (body_bytes edition (plan_of table)))) × (length buffer ≡ length buffer₀)
 
-abbrev decreases_loop : tie.decreases_loop
+abbrev decreases_loop : tie.decreases-loop
 decreases_loop table edition listed n buffer₀ i₀ buffer i = n - i
 
 loop_holds : tie.Need-loop-init invariant_loop decreases_loop
@@ -43,7 +43,7 @@ loop_again c =
     let start = at.before.before in
     let p = plan_of start.args.table.now in
     let e = start.args.edition in
-    (omega arith, pieces_next (body_length e) (body_bytes e p) (length_body e p) _ (entry_at e start.args.n) at.loop.i _ _ _ (omega (arith, start.requires.1, body_within e start.args.n at.loop.i (omega arith))) (omega arith) at.loop.invariant.1 call.put_body.ensures, search rules)
+    (omega arith, pieces_next (body_length e) (body_bytes e p) (length_body e p) _ (entry_at e start.args.n) at.loop.i _ _ _ (omega (arith, start.requires.1, body_within e start.args.n at.loop.i (omega arith))) (omega arith) at.loop.invariant.1 call.put-body.ensures, search rules)
 
 same_length : tie.Need-same-length invariant_loop decreases_loop
 same_length c = search rules

@@ -40,7 +40,7 @@ put_body_requires : tie.Need-put-body-requires
 put_body_requires c κs =
     let made = c.before.before in
     let start = start (node made) in
-    (omega (arith, c.before.body_at.ensures, start.pre.2, body_within start.args.edition start.args.n start.args.i start.pre.1), omega (arith, made.before.before.kind_in.ensures.1))
+    (omega (arith, c.before.body_at.ensures, start.pre.2, body_within start.args.edition start.args.n start.args.i start.pre.1), omega (arith, made.before.before.kind-in.ensures.1))
 
 same_length : tie.Need-same-length
 same_length c = search rules
@@ -50,7 +50,7 @@ returns c =
     let placed = c.before.before.before.before in
     let made = placed.before in
     let pre = (start (node made)).requires in
-    body_written _ _ _ pre.0 _ _ _ _ _ _ _ _ pre.1 (node made).node_of.ensures.0 made.before.before.kind_in.ensures.0 (made.share_in.ensures ∙ ap share_in made.before.held_by.ensures) placed.body_at.ensures c.before.before.put_body.ensures
+    body_written _ _ _ pre.0 _ _ _ _ _ _ _ _ pre.1 (node made).node_of.ensures.0 made.before.before.kind-in.ensures.0 (made.share_in.ensures ∙ ap share_in made.before.held_by.ensures) placed.body_at.ensures c.before.before.put-body.ensures
 
 pub put_body_spec : {M : Type 1} → statement M
 put_body_spec =

@@ -13,11 +13,11 @@ use borrow.Author.Rules.{rules}
 use Rattle.planparts.proofs.put_entries.Statement.{statement}
 use Rattle.planparts.proofs.put_entries.Tie as tie
 
-abbrev invariant_loop : tie.invariant_loop
+abbrev invariant_loop : tie.invariant-loop
 invariant_loop table edition listed n buffer₀ i₀ buffer i =
     (i ≤ n) × (buffer ≡ written buffer₀ (entry_at edition 0) (bytes_below i (entry_bytes edition (plan_of table)))) × (length buffer ≡ length buffer₀)
 
-abbrev decreases_loop : tie.decreases_loop
+abbrev decreases_loop : tie.decreases-loop
 decreases_loop table edition listed n buffer₀ i₀ buffer i = n - i
 
 loop_holds : tie.Need-loop-init invariant_loop decreases_loop
@@ -42,7 +42,7 @@ loop_again c =
     let start = at.before.before in
     let p = plan_of start.args.table.now in
     let e = start.args.edition in
-    (omega arith, pieces_next entry_length (entry_bytes e p) (length_entry e p) _ (entry_at e 0) at.loop.i _ _ _ (omega arith) (omega arith) at.loop.invariant.1 call.put_entry.ensures, search rules)
+    (omega arith, pieces_next entry_length (entry_bytes e p) (length_entry e p) _ (entry_at e 0) at.loop.i _ _ _ (omega arith) (omega arith) at.loop.invariant.1 call.put-entry.ensures, search rules)
 
 same_length : tie.Need-same-length invariant_loop decreases_loop
 same_length c = search rules

@@ -38,7 +38,7 @@ returns c =
     let made = placed.before in
     let node = made.before in
     let start = node.before.before.before in
-    entry_written _ _ _ start.requires.0 _ _ _ _ _ _ _ start.requires.1 node.node_of.ensures.0 (omega (arith, made.body_at.ensures)) placed.entry_at.ensures c.before.before.put_entry.ensures
+    entry_written _ _ _ start.requires.0 _ _ _ _ _ _ _ start.requires.1 node.node_of.ensures.0 (omega (arith, made.body_at.ensures)) placed.entry_at.ensures c.before.before.put-entry.ensures
 
 pub put_entry_spec : {M : Type 1} → statement M
 put_entry_spec =

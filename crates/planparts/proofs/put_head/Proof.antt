@@ -40,7 +40,7 @@ returns c =
     let put = c.before.before in
     let read = put.before.before in
     let start = read.before.before.before in
-    put.put_head.ensures ∙ head_as start.args.buffer.now (mark_bytes start.args.edition) read.before.natural.ensures read.natural2.ensures start.requires.1
+    put.put-head.ensures ∙ head_as start.args.buffer.now (mark_bytes start.args.edition) read.before.natural.ensures read.natural2.ensures start.requires.1
 
 pub put_head_spec : {M : Type 1} → statement M
 put_head_spec =

@@ -33,7 +33,7 @@ returns c =
     let middle = entries last in
     let front = head middle in
     let start = front.before.before.before in
-    plan_written start.args.edition (plan_of start.args.table.now) _ _ _ _ _ (listed_count _ _ _ start.pre.0) (omega (arith, start.pre.1)) front.put_head.ensures middle.put_entries.ensures last.put_bodies.ensures
+    plan_written start.args.edition (plan_of start.args.table.now) _ _ _ _ _ (listed_count _ _ _ start.pre.0) (omega (arith, start.pre.1)) front.put-head.ensures middle.put_entries.ensures last.put-bodies.ensures
 
 pub put_plan_spec : {M : Type 1} → statement M
 put_plan_spec =

@@ -41,12 +41,12 @@ returns c =
     let start = front.before.before.before in
     let x = start.args in
     let b = x.buffer.now in
-    written_after b x.a (x.a + body_share_at + width.share_length.result) (x.kind ∷ share_bytes x.edition x.share) (bytes4 x.depth)
+    written_after b x.a (x.a + body_share_at + width.share-length.result) (x.kind ∷ share_bytes x.edition x.share) (bytes4 x.depth)
     (omega (arith, start.requires.0, length_share x.edition x.share))
-    (omega (arith, width.share_length.ensures.0, length_share x.edition x.share))
+    (omega (arith, width.share-length.ensures.0, length_share x.edition x.share))
     last.put_four.ensures
     (written_after b x.a (x.a + body_share_at) (x.kind ∷ []) (share_bytes x.edition x.share) (omega (arith, start.requires.0)) refl
-    middle.put_share.ensures
+    middle.put-share.ensures
     front.put_byte.ensures)
 
 pub put_body_spec : {M : Type 1} → statement M

@@ -45,9 +45,9 @@ returns c =
     let x = start.args in
     let b = x.buffer.now in
     written_after b x.a (x.a + entry_offset_at) (x.node ∷ x.parent ∷ []) (bytes2 x.offset) (omega (arith, start.pre.0)) refl
-    last.put_pair.ensures
+    last.put-pair.ensures
     (written_after b x.a (x.a + entry_parent_at) (x.node ∷ []) (x.parent ∷ []) (omega (arith, start.pre.0)) refl
-    middle.put_byte2.ensures
+    middle.put-byte2.ensures
     front.put_byte.ensures)
 
 pub put_entry_spec : {M : Type 1} → statement M

@@ -32,8 +32,8 @@ returns c =
     let start = front.before.before.before in
     let x = start.args in
     written_after x.buffer.now x.a (x.a + 2) (bytes2 x.n) (bytes2 (x.n / pair_values)) (omega (arith, start.pre)) refl
-    last.put_pair2.ensures
-    front.put_pair.ensures
+    last.put-pair2.ensures
+    front.put-pair.ensures
 
 pub put_four_spec : {M : Type 1} → statement M
 put_four_spec =

@@ -31,8 +31,8 @@ returns c =
     written_after x.buffer.now 0 placed.start_of_lem.result (mark_bytes x.edition) (bytes4 x.rate ++ bytes4 x.depth ++ (x.count ∷ []))
     (omega (arith, length_mark x.edition, start.requires.0))
     (omega (arith, length_mark x.edition, placed.start_of_lem.ensures.0))
-    last.put_numbers.ensures
-    front.put_mark.ensures
+    last.put-numbers.ensures
+    front.put-mark.ensures
 
 pub put_head_spec : {M : Type 1} → statement M
 put_head_spec =

@@ -31,7 +31,7 @@ enum_told_2 c = search rules
 
 put_four_requires : tie.Need-put-four-requires
 unfolding start_of
-put_four_requires c κs = omega (arith, ap start_of c.before.enum_told2.given.1, c.before.before.before.before.requires)
+put_four_requires c κs = omega (arith, ap start_of c.before.enum-told2.given.1, c.before.before.before.before.requires)
 
 returns : tie.Need-returns
 unfolding mark_bytes
@@ -43,7 +43,7 @@ same_length c = search rules
 returns_2 : tie.Need-returns-2
 returns_2 c =
     let put = c.before.before in
-    put.put_four.ensures ∙ ap (written _ 0) mark_bytes_law ∙ mark_told _ put.before.before.enum_told2.given.1
+    put.put_four.ensures ∙ ap (written _ 0) mark_bytes_law ∙ mark_told _ put.before.before.enum-told2.given.1
 
 pub put_mark_spec : {M : Type 1} → statement M
 put_mark_spec = tie.close (tie.spec enum_told enum_told_2 put_four_requires returns same_length returns_2)

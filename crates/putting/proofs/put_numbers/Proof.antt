@@ -1,7 +1,7 @@
 -- `putting::put_numbers` meets its contract: rate, depth and count.
 use Prim.Native.Nat.{ℕ, ◌+◌}
 use mathlib.Core.Path.{refl, ap, ◌∙◌}
-use native.Mathlib.Nat.{add_zero}
+use native.Mathlib.Nat.{add-zero}
 use mathlib.Core.List.{[], ◌∷◌, ◌++◌}
 use native.Mathlib.Omega.{arith}
 use Rattle.planformat.specs.Bytes.{bytes2, bytes4}
@@ -52,8 +52,8 @@ returns c =
     written_after b x.a (x.a + count_at) (bytes4 x.rate ++ bytes4 x.depth) (x.count ∷ []) (omega (arith, start.pre.0)) refl
     last.put_byte.ensures
     (written_after b x.a (x.a + root_depth_at) (bytes4 x.rate) (bytes4 x.depth) (omega (arith, start.pre.0)) refl
-    middle.put_four2.ensures
-    (front.put_four.ensures ∙ ap (λ (n : ℕ). written b n (bytes4 x.rate)) (add_zero x.a)))
+    middle.put-four2.ensures
+    (front.put_four.ensures ∙ ap (λ (n : ℕ). written b n (bytes4 x.rate)) (add-zero x.a)))
 
 pub put_numbers_spec : {M : Type 1} → statement M
 put_numbers_spec =

@@ -33,7 +33,7 @@ returns c =
     let start = front.before.before.before in
     let x = start.args in
     written_after x.buffer.now x.a (x.a + 1) (x.n % byte_values ∷ []) (x.n / byte_values % byte_values ∷ []) (omega (arith, start.pre)) refl
-    last.put_byte2.ensures
+    last.put-byte2.ensures
     front.put_byte.ensures
 
 pub put_pair_spec : {M : Type 1} → statement M

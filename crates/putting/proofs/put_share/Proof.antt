@@ -26,21 +26,21 @@ enum_told_2 c = search rules
 
 put_four_requires : tie.Need-put-four-requires
 unfolding share_length
-put_four_requires c κs = omega (arith, ap share_length c.before.enum_told2.given.1, c.before.before.before.before.requires)
+put_four_requires c κs = omega (arith, ap share_length c.before.enum-told2.given.1, c.before.before.before.before.requires)
 
 same_length : tie.Need-same-length
 same_length c = search rules
 
 returns : tie.Need-returns
 unfolding share_bytes
-returns c = let put = c.before.before in put.put_pair.ensures ∙ share_told _ _ _ put.before.before.enum_told.given.1
+returns c = let put = c.before.before in put.put-pair.ensures ∙ share_told _ _ _ put.before.before.enum_told.given.1
 
 same_length_2 : tie.Need-same-length-2
 same_length_2 c = search rules
 
 returns_2 : tie.Need-returns-2
 unfolding share_bytes
-returns_2 c = let put = c.before.before in put.put_four.ensures ∙ share_told _ _ _ put.before.before.enum_told2.given.1
+returns_2 c = let put = c.before.before in put.put_four.ensures ∙ share_told _ _ _ put.before.before.enum-told2.given.1
 
 pub put_share_spec : {M : Type 1} → statement M
 put_share_spec =

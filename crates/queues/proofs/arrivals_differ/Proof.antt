@@ -12,10 +12,10 @@ use Rattle.queues.proofs.Marks.{Marking, marking_start, marking_next, marking_en
 use Rattle.queues.proofs.arrivals_differ.Statement.{statement}
 use Rattle.queues.proofs.arrivals_differ.Tie as tie
 
-abbrev invariant_loop : tie.invariant_loop
+abbrev invariant_loop : tie.invariant-loop
 invariant_loop table marked₀ k n ok₀ i₀ marked ok i = (i ≤ n) × (ok ≡ all_below i (λ i. all_below k (differs_at table (arrival table k i)))) × Marking table marked k i
 
-abbrev decreases_loop : tie.decreases_loop
+abbrev decreases_loop : tie.decreases-loop
 decreases_loop table marked₀ k n ok₀ i₀ marked ok i = n - i
 
 -- From the number read back to the loop.
@@ -58,7 +58,7 @@ loop_again c =
     let number = read.arrival.ensures in
     let same = ap (λ (a : ℕ). all_below args.k (differs_at args.table.now a)) number in (
       omega arith,
-      all_grows _ _ _ _ at.inv.1 (c.before.differs_marked.ensures ∙ same),
+      all_grows _ _ _ _ at.inv.1 (c.before.differs-marked.ensures ∙ same),
       marking_next _ _ _ _ _ c.mark_of.ensures.1 (c.mark_of.ensures.0 ∙ ap mark_of number) at.inv.2,
     )
 

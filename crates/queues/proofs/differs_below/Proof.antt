@@ -8,10 +8,10 @@ use Rattle.definitions.specs.Order.{differs_at}
 use Rattle.queues.proofs.differs_below.Statement.{statement}
 use Rattle.queues.proofs.differs_below.Tie as tie
 
-abbrev invariant_loop : tie.invariant_loop
+abbrev invariant_loop : tie.invariant-loop
 invariant_loop table a k ok₀ j₀ ok j = (j ≤ k) × (ok ≡ all_below j (differs_at table a))
 
-abbrev decreases_loop : tie.decreases_loop
+abbrev decreases_loop : tie.decreases-loop
 decreases_loop table a k ok₀ j₀ ok j = k - j
 
 loop_holds : tie.Need-loop-init invariant_loop decreases_loop

@@ -3,7 +3,7 @@ use Prim.Native.Nat.{ℕ}
 use mathlib.Core.Path.{ap, sym, ◌∙◌}
 use mathlib.Core.Bool.{false}
 use borrow.Author.Rules.{rules}
-use borrow.Author.Tests.{not_true}
+use borrow.Author.Tests.{not-true}
 use lib.ListN.{get_or}
 use Rattle.queues.proofs.Marks.{differs_unmarked}
 use Rattle.queues.proofs.differs_marked.Statement.{statement}
@@ -19,7 +19,7 @@ returns : tie.Need-returns
 returns c =
     let start = c.before.before.before in
     let read = ap (λ (m : ℕ). get_or start.args.marked.now m false) c.before.before.mark_of.ensures.0 in
-    sym (differs_unmarked _ _ _ _ start.requires.3 (sym read ∙ not_true _ c.if1.true))
+    sym (differs_unmarked _ _ _ _ start.requires.3 (sym read ∙ not-true _ c.if1.true))
 
 differs_below_requires : tie.Need-differs-below-requires
 differs_below_requires c κs = search rules

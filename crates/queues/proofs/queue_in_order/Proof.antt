@@ -8,10 +8,10 @@ use Rattle.definitions.specs.Order.{request_in_order, queue_in_order}
 use Rattle.queues.proofs.queue_in_order.Statement.{statement}
 use Rattle.queues.proofs.queue_in_order.Tie as tie
 
-abbrev invariant_loop : tie.invariant_loop
+abbrev invariant_loop : tie.invariant-loop
 invariant_loop table k n ok₀ i₀ ok i = (i ≤ n) × (ok ≡ all_below i (request_in_order table k))
 
-abbrev decreases_loop : tie.decreases_loop
+abbrev decreases_loop : tie.decreases-loop
 decreases_loop table k n ok₀ i₀ ok i = n - i
 
 waiting_requires : tie.Need-waiting-requires invariant_loop decreases_loop
@@ -31,7 +31,7 @@ loop_less : tie.Need-loop-smaller invariant_loop decreases_loop
 loop_less c = omega arith
 
 loop_again : tie.Need-loop-preserved invariant_loop decreases_loop
-loop_again c = (omega arith, all_grows _ _ _ _ c.before.before.loop.invariant.1 c.request_in_order.ensures)
+loop_again c = (omega arith, all_grows _ _ _ _ c.before.before.loop.invariant.1 c.request-in-order.ensures)
 
 returns : tie.Need-returns invariant_loop decreases_loop
 unfolding queue_in_order

@@ -13,10 +13,10 @@ use Rattle.queues.proofs.Marks.{none_below}
 use Rattle.queues.proofs.queues_in_order.Statement.{statement}
 use Rattle.queues.proofs.queues_in_order.Tie as tie
 
-abbrev invariant_loop : tie.invariant_loop
+abbrev invariant_loop : tie.invariant-loop
 invariant_loop table marked₀ ok₀ k₀ marked ok k = (k ≤ nodes) × (ok ≡ all_below k (waiting_in_order table)) × MarkedBelow table marked k
 
-abbrev decreases_loop : tie.decreases_loop
+abbrev decreases_loop : tie.decreases-loop
 decreases_loop table marked₀ ok₀ k₀ marked ok k = nodes - k
 
 loop_holds : tie.Need-loop-init invariant_loop decreases_loop
@@ -45,9 +45,9 @@ unfolding every waiting_in_order
 loop_again c =
     let queue = c.before.before in (
       omega arith,
-      joined_as (same_tests queue.before.before.loop.invariant.1 (same_tests queue.queue_in_order.ensures (last_test c.arrivals_differ.ensures.0)))
+      joined_as (same_tests queue.before.before.loop.invariant.1 (same_tests queue.queue-in-order.ensures (last_test c.arrivals-differ.ensures.0)))
           ∙ sym (all_next _ _),
-      c.arrivals_differ.ensures.1,
+      c.arrivals-differ.ensures.1,
     )
 
 returns : tie.Need-returns invariant_loop decreases_loop

@@ -4,7 +4,7 @@ use mathlib.Core.Path.{◌≡◌, ap, ap₂, ◌∙◌}
 use native.Mathlib.Omega.{arith}
 use lib.IntN.{ℤ}
 use mir.Syntax.{w64}
-use mir.ValLaws.{to_z_of_z}
+use mir.ValLaws.{to_z-of_z}
 use Rattle.numbers.specs.Whole.{within_ℤ}
 use Rattle.numbers.proofs.Every.{joined_as, same_tests, last_test}
 use Rattle.definitions.specs.Tree.{tree_of}
@@ -58,8 +58,8 @@ returns c =
     let size = (sized c).before.before.get in
     let depth = (sized c).before.natural in
     joined_as
-    (same_tests ((sized c).within.ensures ∙ ap₂ size_within depth.ensures (to_z_of_z w64 _ (sfits_of size.ok) ∙ size.ensures))
-    (same_tests (c.before.place_within.ensures ∙ same_high _ c.before.before.count.ensures)
+    (same_tests ((sized c).within.ensures ∙ ap₂ size_within depth.ensures (to_z-of_z w64 _ (sfits_of size.ok) ∙ size.ensures))
+    (same_tests (c.before.place-within.ensures ∙ same_high _ c.before.before.count.ensures)
     (last_test c.rising.ensures)))
 
 pub request_in_order_spec : {M : Type 1} → statement M

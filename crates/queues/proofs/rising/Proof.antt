@@ -2,7 +2,7 @@
 use Prim.Native.Nat.{◌-◌}
 use mathlib.Core.Path.{◌≡◌, sym, ap, ap₂, ◌∙◌}
 use mathlib.Core.Bool.{Bool, false, ◌||◌}
-use borrow.Author.Tests.{eq_eqb, ne_eqb}
+use borrow.Author.Tests.{eq-eqb, ne_eqb}
 use lib.Dec.{eqb, ltb}
 use Rattle.numbers.proofs.Tests.{or_true_left}
 use Rattle.definitions.specs.Places.{arrival}
@@ -15,7 +15,7 @@ or_past : (a b : Bool) → a ≡ false → (a || b) ≡ b
 or_past a b h = ap (λ (x : Bool). x || b) h
 
 returns : tie.Need-returns
-returns c = sym (or_true_left (eqb c.before.args.i 0) _ (eq_eqb c.before.args.i 0 c.if1.true))
+returns c = sym (or_true_left (eqb c.before.args.i 0) _ (eq-eqb c.before.args.i 0 c.if1.true))
 
 sub_arrival : tie.Need-overflow-sub-arrival
 sub_arrival c = search rules

@@ -1,7 +1,7 @@
 -- `ratetest::is_part` meets its contract: the products fit 64 bits, and they tell the quotient.
 use Prim.Native.Nat.{◌*◌, ◌≤◌}
 use native.Mathlib.Omega.{arith}
-use native.Mathlib.Nat.{mul_le_mul}
+use native.Mathlib.Nat.{mul-le-mul}
 use Rattle.definitions.specs.Limits.{nodes, whole_share, greatest_rate}
 use Rattle.sums.proofs.Rated.{product_small}
 use Rattle.ratetest.proofs.Following.{quotient_by_product}
@@ -9,7 +9,7 @@ use Rattle.ratetest.proofs.is_part.Statement.{statement}
 use Rattle.ratetest.proofs.is_part.Tie as tie
 
 small : (c : tie.Start) → c.args.rate * c.args.by.parts ≤ greatest_rate * (nodes * whole_share)
-small c = mul_le_mul c.requires.0 c.requires.4
+small c = mul-le-mul c.requires.0 c.requires.4
 
 mul_product : tie.Need-overflow-mul-product
 mul_product c = let s = c.before in omega (arith, product_small s.args.by.whole s.args.share s.requires.2 s.requires.1)

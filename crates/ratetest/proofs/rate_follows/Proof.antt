@@ -5,7 +5,7 @@ use mathlib.Core.Path.{◌≡◌, sym, ap, ap₂, ◌∙◌}
 use mathlib.Core.Bool.{true}
 use native.Mathlib.Omega.{arith}
 use borrow.Author.Rules.{rules}
-use borrow.Author.Tests.{not_true, not_false}
+use borrow.Author.Tests.{not-true, not-false}
 use lib.Dec.{eqb}
 use Rattle.numbers.proofs.Parts.{within_parts}
 use lib.ListN.{get_or}
@@ -32,7 +32,7 @@ abbrev start : tie.Else1 → tie.Start
 start c = c.before.before
 
 here : (c : tie.Else1) → there (tree_of (start c).args.table.now) (start c).args.k ≡ true
-here c = sym c.before.there.ensures ∙ not_false _ c.if1.false
+here c = sym c.before.there.ensures ∙ not-false _ c.if1.false
 
 placed : (c : tie.Else1) → Placed (tree_of (start c).args.table.now) (start c).args.k
 placed c = let pre = (start c).requires in pre.0.rated.node _ pre.3 (here c) (λ e. omega arith)
@@ -74,7 +74,7 @@ there_requires : tie.Need-there-requires
 there_requires c κs = search rules
 
 returns : tie.Need-returns
-returns c = sym (test_past _ _ _ (sym c.before.there.ensures ∙ not_true _ c.if1.true))
+returns c = sym (test_past _ _ _ (sym c.before.there.ensures ∙ not-true _ c.if1.true))
 
 unsigned_requires : tie.Need-unsigned-requires
 unsigned_requires c κs = let pre = (start c).requires in (pre.0.rated.long, pre.3, omega arith, (within_parts _ _ _ (pre.0.within _ pre.3 (here c))).0)
@@ -91,7 +91,7 @@ returns_2 c =
     let s = start known.before.before in
     let t = s.args.table.now in
     let k = s.args.k in
-    ap₂ eqb (rate_read known.before) (share_read known ∙ sym (stated_child (tree_of t) (rate t ((tree_of t).parent k)) k (sym c.before.is_stated.ensures ∙ c.if2.true)))
+    ap₂ eqb (rate_read known.before) (share_read known ∙ sym (stated_child (tree_of t) (rate t ((tree_of t).parent k)) k (sym c.before.is-stated.ensures ∙ c.if2.true)))
     ∙ sym (child_follows t k s.pre.2)
     ∙ sym (test_here _ (rate_follows t) k (here known.before.before))
 
@@ -131,7 +131,7 @@ division_of_requires c κs =
         stated = sums.2 ∙ summed stated (omega arith);
         few = omega (arith, sums.1, summed weighted (omega arith), weights_small _ _ f.0.rated (tree.parent s.args.k));
       },
-      sym known.before.before.is_stated.ensures ∙ known.before.if2.false,
+      sym known.before.before.is-stated.ensures ∙ known.before.if2.false,
     )
 
 is_part_requires : tie.Need-is-part-requires
@@ -149,9 +149,9 @@ is_part_requires c κs =
         class_rate_law c.before.before,
         rate_le _ s.pre.0 _ p.parent (class_there _ _ p.class),
       ),
-      c.division_of.ensures.small,
-      c.division_of.ensures.some,
-      c.division_of.ensures.few,
+      c.division-of.ensures.small,
+      c.division-of.ensures.some,
+      c.division-of.ensures.few,
     )
 
 returns_3 : tie.Need-returns-3
@@ -161,10 +161,10 @@ returns_3 c =
     let s = start (first known) in
     let t = s.args.table.now in
     let k = s.args.k in
-    c.is_part.ensures
+    c.is-part.ensures
     ∙ ap₂ eqb (rate_read (shared known).before)
-    (ap (λ (s : ℕ). by.division_of.result.whole * s / by.division_of.result.parts) (share_read (shared known))
-    ∙ sym by.division_of.ensures.rate
+    (ap (λ (s : ℕ). by.division-of.result.whole * s / by.division-of.result.parts) (share_read (shared known))
+    ∙ sym by.division-of.ensures.rate
     ∙ ap (λ (r : ℕ). child_rate (tree_of t) r k) (class_rate_law by.before.before))
     ∙ sym (child_follows t k s.pre.2)
     ∙ sym (test_here _ (rate_follows t) k (here (first known)))

@@ -11,11 +11,11 @@ use Rattle.ratetest.proofs.Following.{root_follows, follow_right}
 use Rattle.ratetest.proofs.rates_in_order.Statement.{statement}
 use Rattle.ratetest.proofs.rates_in_order.Tie as tie
 
-abbrev invariant_loop : tie.invariant_loop
+abbrev invariant_loop : tie.invariant-loop
 invariant_loop table shares ok₀ k₀ ok k =
     (0 < k) × (k ≤ nodes) × (ok ≡ all_below k (λ j. test_if (there (tree_of table) j) (rate_follows table) j))
 
-abbrev decreases_loop : tie.decreases_loop
+abbrev decreases_loop : tie.decreases-loop
 decreases_loop table shares ok₀ k₀ ok k = nodes - k
 
 loop_holds : tie.Need-loop-init invariant_loop decreases_loop
@@ -34,7 +34,7 @@ loop_less : tie.Need-loop-smaller invariant_loop decreases_loop
 loop_less c = omega arith
 
 loop_again : tie.Need-loop-preserved invariant_loop decreases_loop
-loop_again c = (omega arith, omega arith, all_grows _ _ _ _ c.before.before.loop.invariant.2 c.rate_follows.ensures)
+loop_again c = (omega arith, omega arith, all_grows _ _ _ _ c.before.before.loop.invariant.2 c.rate-follows.ensures)
 
 returns : tie.Need-returns invariant_loop decreases_loop
 unfolding each_node

@@ -2,7 +2,7 @@
 use mathlib.Core.Path.{◌≡◌, sym, ap, ap₂, ◌∙◌}
 use mathlib.Core.Bool.{true}
 use native.Mathlib.Omega.{arith}
-use borrow.Author.Tests.{not_true, not_false}
+use borrow.Author.Tests.{not-true, not-false}
 use lib.IntN.{pos}
 use Rattle.definitions.specs.Calls.{open_refusal}
 use Rattle.planformat.specs.Format.{start_of, plan_length, plan_in, formed}
@@ -31,23 +31,23 @@ opened c = c.before.before.before.before.before
 
 -- The bytes are well formed.
 right : (c : tie.Else1) → formed (start c).args.s.now ≡ true
-right c = sym c.before.formed.ensures ∙ not_false _ c.if1.false
+right c = sym c.before.formed.ensures ∙ not-false _ c.if1.false
 
 -- Open is accepted.
 opening : (c : tie.Else2) → let s = start (judged c) in open_refusal s.args.table.now (pos (plan_in s.args.s.now).rate) (pos (plan_in s.args.s.now).depth) ≡ 0
-opening c = sym c.before.before.open_plan.ensures.0 ∙ c.if2.false
+opening c = sym c.before.before.open-plan.ensures.0 ∙ c.if2.false
 
 -- What the joins give.
-joining : (c : tie.After-join-entries) → let s = start (judged c.before.before.before) in c.join_entries.result ≡ entries_refusal (opened_for s.args.table.now (plan_in s.args.s.now)) (plan_in s.args.s.now) (plan_in s.args.s.now).count
+joining : (c : tie.After-join-entries) → let s = start (judged c.before.before.before) in c.join-entries.result ≡ entries_refusal (opened_for s.args.table.now (plan_in s.args.s.now)) (plan_in s.args.s.now) (plan_in s.args.s.now).count
 joining c = let s = start (judged c.before.before.before) in cc (plan_count s.args.s.now)
 
 -- The bytes in the edition that was met, with the count that was read.
-framed : (c : tie.After-count-in) → let past = c.before in Framed (start (judged past)).args.s.now (met past).edition_in.result c.count_in.result
+framed : (c : tie.After-count-in) → let past = c.before in Framed (start (judged past)).args.s.now (met past).edition-in.result c.count-in.result
 framed c =
     let past = c.before in
     let form = formed_facts _ (right (judged past)) in
-    let edition = (met past).edition_in.ensures in
-    let counted = c.count_in.ensures in
+    let edition = (met past).edition-in.ensures in
+    let counted = c.count-in.ensures in
     record { edition = edition; counted = counted; few = omega (arith, form.count); long = form.long ∙ sym (ap₂ plan_length edition counted) }
 
 formed_requires : tie.Need-formed-requires
@@ -56,7 +56,7 @@ formed_requires c κs = search rules
 returns : tie.Need-returns
 returns c =
     let start = c.before.before.before in (
-      sym (wrong_form _ _ start.requires (sym c.before.formed.ensures ∙ not_true _ c.if1.true)),
+      sym (wrong_form _ _ start.requires (sym c.before.formed.ensures ∙ not-true _ c.if1.true)),
       (omega arith, λ z. absurd (omega arith)),
     )
 
@@ -66,7 +66,7 @@ edition_in_requires c κs = search rules
 open_plan_requires : tie.Need-open-plan-requires
 open_plan_requires c κs =
     let past = c.before in
-    (past.edition_in.ensures, omega (arith, (formed_facts _ (right past.before)).long, ap start_of past.edition_in.ensures))
+    (past.edition-in.ensures, omega (arith, (formed_facts _ (right past.before)).long, ap start_of past.edition-in.ensures))
 
 same_length : tie.Need-same-length
 same_length c = search rules
@@ -75,14 +75,14 @@ returns_2 : tie.Need-returns-2
 returns_2 c =
     let call = c.before.before in
     let past = call.before.before.before in
-    let number = call.open_plan.ensures.0 in (
+    let number = call.open-plan.ensures.0 in (
       number ∙ sym (wrong_open _ _ (start past).requires (right past) (λ z. c.if2.true (number ∙ z))),
       (omega arith, λ z. absurd (c.if2.true z)),
     )
 
 count_in_requires : tie.Need-count-in-requires
 count_in_requires c κs =
-    let edition = (met c).edition_in.ensures in
+    let edition = (met c).edition-in.ensures in
     (edition, omega (arith, (formed_facts _ (right (judged c))).long, ap start_of edition))
 
 join_entries_requires : tie.Need-join-entries-requires
@@ -109,7 +109,7 @@ rising_requires c κs =
     let past = opened all in (
       omega (arith, (start (judged past)).requires, judged past, met past, past.before.before, past.before, join.before, join),
       framed join.before.before,
-      joined_entries _ _ _ _ _ (opening past) past.before.before.open_plan.ensures.1.1 (join.join_entries.ensures.1.1 all.if3.false) (sym join.join_entries.ensures.0 ∙ all.if3.false),
+      joined_entries _ _ _ _ _ (opening past) past.before.before.open-plan.ensures.1.1 (join.join-entries.ensures.1.1 all.if3.false) (sym join.join-entries.ensures.0 ∙ all.if3.false),
     )
 
 same_length_3 : tie.Need-same-length-3
@@ -120,7 +120,7 @@ returns_4 c =
     let all = c.before.before.before in
     let join = all.before.before in
     let past = opened all in
-    let table = joined_for_law _ _ _ _ _ past.before.before.open_plan.ensures.1.1 (join.join_entries.ensures.1.1 all.if3.false) join.before.before.count_in.ensures in (
+    let table = joined_for_law _ _ _ _ _ past.before.before.open-plan.ensures.1.1 (join.join-entries.ensures.1.1 all.if3.false) join.before.before.count-in.ensures in (
       sym
           (accepted_plan _ _
           record {
@@ -141,7 +141,7 @@ returns_5 c =
     let all = c.before.before.before in
     let join = all.before.before in
     let past = opened all in
-    let table = joined_for_law _ _ _ _ _ past.before.before.open_plan.ensures.1.1 (join.join_entries.ensures.1.1 all.if3.false) join.before.before.count_in.ensures in (
+    let table = joined_for_law _ _ _ _ _ past.before.before.open-plan.ensures.1.1 (join.join-entries.ensures.1.1 all.if3.false) join.before.before.count-in.ensures in (
       sym (wrong_order _ _ (start (judged past)).requires (right (judged past)) (opening past) (sym (joining join) ∙ all.if3.false) (rw table at (sym c.before.rising.ensures ∙ c.if4.false))),
       (omega arith, λ z. absurd (omega arith)),
     )

@@ -2,28 +2,28 @@
 use Prim.Native.Nat.{ℕ, ◌+◌, ◌≤◌, ◌<◌, ◌-◌}
 use mathlib.Core.Path.{◌≡◌, refl, sym, ap, ◌∙◌}
 use mathlib.Core.List.{List}
-use native.Mathlib.Numerals.{add_one}
+use native.Mathlib.Numerals.{add-one}
 use native.Mathlib.Omega.{arith}
-use lib.ListN.{length, length_set, take, set, get_or}
-use lib.Seq.{take_suc, take_suc_set, take_length}
+use lib.ListN.{length, length-set, take, set, get_or}
+use lib.Seq.{take-suc, take-suc-set, take-length}
 use lib.IntN.{ℤ, pos}
 use mir.Syntax.{w64}
-use mir.ValLaws.{to_z_of_z}
+use mir.ValLaws.{to_z-of_z}
 use borrow.Author.Rules.{rules, sfits_of}
 use Rattle.reading.proofs.copy.Statement.{statement}
 use Rattle.reading.proofs.copy.Tie as tie
 
 copied_next : (t s : List ℤ) (i : ℕ) (v : ℤ) → length t ≡ length s → i < length s → v ≡ get_or s i (pos 0) → take i t ≡ take i s → take (i + 1) (set t i v) ≡ take (i + 1) s
 copied_next t s i v long room e h =
-    ap (λ (n : ℕ). take n (set t i v)) (add_one i)
-    ∙ take_suc_set t i v (omega arith)
-    ∙ rw (h, e) (sym (take_suc s i (pos 0) room))
-    ∙ ap (λ (n : ℕ). take n s) (sym (add_one i))
+    ap (λ (n : ℕ). take n (set t i v)) (add-one i)
+    ∙ take-suc-set t i v (omega arith)
+    ∙ rw (h, e) (sym (take-suc s i (pos 0) room))
+    ∙ ap (λ (n : ℕ). take n s) (sym (add-one i))
 
-abbrev invariant_loop : tie.invariant_loop
+abbrev invariant_loop : tie.invariant-loop
 invariant_loop table₀ from i₀ table i = (i ≤ length from) × (length table ≡ length from) × (take i table ≡ take i from)
 
-abbrev decreases_loop : tie.decreases_loop
+abbrev decreases_loop : tie.decreases-loop
 decreases_loop table₀ from i₀ table i = length from - i
 
 loop_holds : tie.Need-loop-init invariant_loop decreases_loop
@@ -49,8 +49,8 @@ loop_again c =
     let loop = c.before.before.loop in
     let from = c.before.before.before.args.from.now in (
       omega arith,
-      length_set loop.table loop.i _ ∙ loop.invariant.1,
-      copied_next loop.table from loop.i _ loop.invariant.1 (omega arith) (to_z_of_z w64 _ (sfits_of c.number_at.type_inv) ∙ c.number_at.ensures) loop.invariant.2,
+      length-set loop.table loop.i _ ∙ loop.invariant.1,
+      copied_next loop.table from loop.i _ loop.invariant.1 (omega arith) (to_z-of_z w64 _ (sfits_of c.number_at.type-inv) ∙ c.number_at.ensures) loop.invariant.2,
     )
 
 same_length : tie.Need-same-length invariant_loop decreases_loop
@@ -61,11 +61,11 @@ returns c =
     let t = c.before.loop.table in
     let f = c.before.before.args.from.now in
     let end : c.before.loop.i ≡ length f = omega (arith, c.before.loop.invariant.1) in
-    sym (take_length t)
+    sym (take-length t)
     ∙ ap (λ (n : ℕ). take n t) (c.before.loop.invariant.1 ∙ sym end)
     ∙ c.before.loop.invariant.2
     ∙ ap (λ (n : ℕ). take n f) end
-    ∙ take_length f
+    ∙ take-length f
 
 pub copy_spec : {M : Type 1} → statement M
 copy_spec =

@@ -4,7 +4,7 @@ use mathlib.Core.Path.{◌≡◌, ap, ◌∙◌}
 use native.Mathlib.Omega.{arith}
 use lib.IntN.{pos}
 use mir.Syntax.{w64}
-use mir.ValLaws.{to_z_of_z}
+use mir.ValLaws.{to_z-of_z}
 use Rattle.definitions.specs.Calls.{done, open_answer}
 use Rattle.planformat.specs.Format.{start_of, disk_rate_at, root_depth_at, edition_in, plan_in}
 use Rattle.planformat.specs.Bytes.{le4}
@@ -56,10 +56,10 @@ returns c =
     let w = call.before.before in
     let placed = w.before.before.before.before in
     let s = placed.before.before.args.s.now in
-    let rate = to_z_of_z w64 _ (sfits_of w.before.before.whole.type_inv) ∙ w.before.before.whole.ensures ∙ ap pos (w.before.before.before.four.ensures.0 ∙ ap (λ (a : ℕ). le4 s (a + disk_rate_at)) (head placed)) in
-    let depth = to_z_of_z w64 _ (sfits_of w.whole2.type_inv) ∙ w.whole2.ensures ∙ ap pos (w.before.four2.ensures.0 ∙ ap (λ (a : ℕ). le4 s (a + root_depth_at)) (head placed)) in
+    let rate = to_z-of_z w64 _ (sfits_of w.before.before.whole.type-inv) ∙ w.before.before.whole.ensures ∙ ap pos (w.before.before.before.four.ensures.0 ∙ ap (λ (a : ℕ). le4 s (a + disk_rate_at)) (head placed)) in
+    let depth = to_z-of_z w64 _ (sfits_of w.whole2.type-inv) ∙ w.whole2.ensures ∙ ap pos (w.before.four2.ensures.0 ∙ ap (λ (a : ℕ). le4 s (a + root_depth_at)) (head placed)) in
     let opened = rw (rate, depth) at call.open.ensures in
-    (c.number_told.ensures.0 ∙ ap number_told opened.0 ∙ number_outcome _ done, (c.number_told.ensures.1, opened.1))
+    (c.number-told.ensures.0 ∙ ap number_told opened.0 ∙ number_outcome _ done, (c.number-told.ensures.1, opened.1))
 
 pub open_plan_spec : {M : Type 1} → statement M
 open_plan_spec =

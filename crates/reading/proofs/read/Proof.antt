@@ -3,10 +3,10 @@ use Prim.Native.Nat.{ℕ}
 use mathlib.Core.Path.{◌≡◌, sym, ap, ◌∙◌}
 use mathlib.Core.List.{List, [], ◌∷◌}
 use native.Mathlib.Omega.{arith}
-use lib.ListN.{length_replicate}
+use lib.ListN.{length-replicate}
 use lib.IntN.{ℤ, pos}
 use mir.Syntax.{w64}
-use mir.ValLaws.{to_z_of_z}
+use mir.ValLaws.{to_z-of_z}
 use borrow.Author.Rules.{rules, sfits_of}
 use Rattle.definitions.specs.Limits.{table_length}
 use Rattle.answers.specs.Answers.{told}
@@ -78,7 +78,7 @@ edition_number_requires : tie.Need-edition-number-requires
 edition_number_requires c κs = search rules
 
 whole_requires : tie.Need-whole-requires
-whole_requires c κs = omega (arith, c.edition_number.ensures.1)
+whole_requires c κs = omega (arith, c.edition-number.ensures.1)
 
 same_length : tie.Need-same-length
 same_length c = search rules
@@ -92,11 +92,11 @@ returns_3 c =
     let built = past.before.before in
     let args = (start built).args in
     let zero = sym (number built) ∙ past.if2.left in (
-      ap (λ (z : ℤ). accepted_with (z ∷ [])) (to_z_of_z w64 c.whole.result (sfits_of c.whole.type_inv) ∙ c.whole.ensures ∙ ap pos (c.before.edition_number.ensures.0 ∙ ap edition_number named.edition_in.ensures)) ∙ sym (outcome_accepted _ _ zero),
+      ap (λ (z : ℤ). accepted_with (z ∷ [])) (to_z-of_z w64 c.whole.result (sfits_of c.whole.type-inv) ∙ c.whole.ensures ∙ ap pos (c.before.edition-number.ensures.0 ∙ ap edition_number named.edition-in.ensures)) ∙ sym (outcome_accepted _ _ zero),
       copied.copy.ensures
           ∙ built.build.ensures.1.1 past.if2.left
           ∙ sym (plan_table_law blank args.s.now (sym built.build.ensures.0 ∙ past.if2.left))
-          ∙ sym (plan_table_any args.table.now blank args.s.now (built.before.before.if1.left ∙ sym (length_replicate table_length (pos 0))) zero),
+          ∙ sym (plan_table_any args.table.now blank args.s.now (built.before.before.if1.left ∙ sym (length-replicate table_length (pos 0))) zero),
     )
 
 pub read_spec : {M : Type 1} → statement M

@@ -33,12 +33,12 @@ mul_low c = omega arith
 returns : tie.Need-returns
 unfolding balance_within balance
 returns c =
-    let grains = c.before.before.before.depth_grains.ensures in
+    let grains = c.before.before.before.depth-grains.ensures in
     let below = c.before.negative.ensures in
     joined_as
     (same_tests (ap₂ leb c.natural.ensures grains)
     (same_tests (ap₂ (λ (n m : ℕ). leb n (last_level * m)) below grains)
-    (last_test (ap₂ (λ (b : Bool) (n : ℕ). b || eqb n 0) c.before.before.is_class.ensures below))))
+    (last_test (ap₂ (λ (b : Bool) (n : ℕ). b || eqb n 0) c.before.before.is-class.ensures below))))
 
 pub balance_within_spec : {M : Type 1} → statement M
 balance_within_spec =

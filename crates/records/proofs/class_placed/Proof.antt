@@ -29,7 +29,7 @@ returns c =
     let k = c.before.before.before.args.k in
     let level = ap (λ (n : ℕ). leb n last_class_level) c.before.natural.ensures in
     let idle = ap (λ (n : ℕ). eqb n 0) c.natural2.ensures in
-    ap₂ (λ (b d : Bool). not b || d) c.before.before.is_class.ensures (joined_as (same_tests level (last_test idle)))
+    ap₂ (λ (b d : Bool). not b || d) c.before.before.is-class.ensures (joined_as (same_tests level (last_test idle)))
     ∙ sym (test_or (is_class (tree_of t) k) (class_placed t) k)
 
 pub class_placed_spec : {M : Type 1} → statement M

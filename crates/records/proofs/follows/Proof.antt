@@ -2,7 +2,7 @@
 use Prim.Native.Nat.{suc, ◌-◌}
 use mathlib.Core.Path.{sym}
 use native.Mathlib.Omega.{arith}
-use borrow.Author.Tests.{eqb_true, eq_eqb, ne_eqb}
+use borrow.Author.Tests.{eqb-true, eq-eqb, ne_eqb}
 use lib.Dec.{eqb}
 use Rattle.numbers.proofs.Tests.{same_truth}
 use borrow.Author.Rules.{rules}
@@ -20,8 +20,8 @@ returns_2 c =
     let n = c.before.args.n in
     let m = c.before.args.m in
     same_truth (eqb (n - 1) m) (eqb n (suc m))
-    (λ h. eq_eqb n (suc m) (omega (arith, eqb_true (n - 1) m h)))
-    (λ h. eq_eqb (n - 1) m (omega (arith, eqb_true n (suc m) h)))
+    (λ h. eq-eqb n (suc m) (omega (arith, eqb-true (n - 1) m h)))
+    (λ h. eq-eqb (n - 1) m (omega (arith, eqb-true n (suc m) h)))
 
 pub follows_spec : {M : Type 1} → statement M
 follows_spec = tie.close (tie.spec returns sub_result returns_2)

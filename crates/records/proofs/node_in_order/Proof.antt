@@ -2,7 +2,7 @@
 use mathlib.Core.Path.{◌≡◌, sym, ◌∙◌}
 use mathlib.Core.Bool.{true}
 use native.Mathlib.Omega.{arith}
-use borrow.Author.Tests.{not_true, not_false}
+use borrow.Author.Tests.{not-true, not-false}
 use Rattle.numbers.proofs.Every.{head_fails, joined_as, same_tests, last_test}
 use Rattle.definitions.specs.Order.{limits_kept}
 use Rattle.records.specs.Record.{node_in_order}
@@ -14,7 +14,7 @@ use Rattle.records.proofs.node_in_order.Tie as tie
 
 -- The limits are kept where the code goes on.
 kept : (c : tie.Else1) → limits_kept c.before.before.args.table.now c.before.before.args.k ≡ true
-kept c = sym c.before.limits_kept.ensures ∙ not_false _ c.if1.false
+kept c = sym c.before.limits_kept.ensures ∙ not-false _ c.if1.false
 
 -- Back to where the limits are known.
 abbrev past : tie.After-class-placed → tie.Else1
@@ -25,7 +25,7 @@ limits_kept_requires c κs = search rules
 
 returns : tie.Need-returns
 unfolding node_in_order
-returns c = sym (head_fails _ _ (sym c.before.limits_kept.ensures ∙ not_true _ c.if1.true))
+returns c = sym (head_fails _ _ (sym c.before.limits_kept.ensures ∙ not-true _ c.if1.true))
 
 spare_in_order_requires : tie.Need-spare-in-order-requires
 spare_in_order_requires c κs = omega (arith, bounds _ _ (kept c))
@@ -47,11 +47,11 @@ unfolding node_in_order
 returns_2 c =
     let tested = c.before in
     joined_as
-    (same_tests tested.before.before.before.spare_in_order.ensures
-    (same_tests tested.before.before.parent_in_order.ensures
-    (same_tests tested.before.class_placed.ensures
-    (same_tests tested.balance_within.ensures
-    (last_test c.place_within.ensures)))))
+    (same_tests tested.before.before.before.spare-in-order.ensures
+    (same_tests tested.before.before.parent-in-order.ensures
+    (same_tests tested.before.class-placed.ensures
+    (same_tests tested.balance-within.ensures
+    (last_test c.place-within.ensures)))))
     ∙ sym (every_past _ _ (kept (past tested.before)))
 
 pub node_in_order_spec : {M : Type 1} → statement M

@@ -42,7 +42,7 @@ returns c =
     let t = known.before.args.table.now in
     let parent = known.natural.ensures in
     let above = c.before.natural3.ensures ∙ ap (λ (p : ℕ). plus (place t p level_at)) parent in
-    let class = c.before.before.before.is_class.ensures ∙ ap (is_class (tree_of t)) parent in
+    let class = c.before.before.before.is-class.ensures ∙ ap (is_class (tree_of t)) parent in
     let level = c.follows.ensures ∙ ap₂ (λ (n m : ℕ). eqb n (suc m)) c.before.before.natural2.ensures above in
     ap (λ (b : Bool). eqb known.before.args.k 0 || b) (joined_as (same_tests class (last_test level)))
 

@@ -1,6 +1,6 @@
 -- `records::record_in_order` meets its contract: a record is unused or a node's.
 use mathlib.Core.Path.{sym, ◌∙◌}
-use borrow.Author.Tests.{not_true, not_false}
+use borrow.Author.Tests.{not-true, not-false}
 use Rattle.numbers.proofs.Tests.{cond_true, cond_false}
 use Rattle.definitions.specs.Tree.{tree_of, there}
 use Rattle.records.specs.Record.{record_in_order}
@@ -28,7 +28,7 @@ returns c =
     let k = c.before.before.before.args.k in
     c.zeros.ensures
     ∙ record_zeros t k
-    ∙ sym (cond_false (there (tree_of t) k) _ _ (sym c.before.before.there.ensures ∙ not_true _ c.before.if1.true))
+    ∙ sym (cond_false (there (tree_of t) k) _ _ (sym c.before.before.there.ensures ∙ not-true _ c.before.if1.true))
 
 node_in_order_requires : tie.Need-node-in-order-requires
 node_in_order_requires c κs = search rules
@@ -38,8 +38,8 @@ unfolding record_in_order
 returns_2 c =
     let t = c.before.before.before.args.table.now in
     let k = c.before.before.before.args.k in
-    c.node_in_order.ensures
-    ∙ sym (cond_true (there (tree_of t) k) _ _ (sym c.before.before.there.ensures ∙ not_false _ c.before.if1.false))
+    c.node-in-order.ensures
+    ∙ sym (cond_true (there (tree_of t) k) _ _ (sym c.before.before.there.ensures ∙ not-false _ c.before.if1.false))
 
 pub record_in_order_spec : {M : Type 1} → statement M
 record_in_order_spec =

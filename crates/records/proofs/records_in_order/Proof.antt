@@ -9,10 +9,10 @@ use Rattle.records.specs.Record.{record_in_order, records_in_order}
 use Rattle.records.proofs.records_in_order.Statement.{statement}
 use Rattle.records.proofs.records_in_order.Tie as tie
 
-abbrev invariant_loop : tie.invariant_loop
+abbrev invariant_loop : tie.invariant-loop
 invariant_loop table ok₀ k₀ ok k = (k ≤ nodes) × (ok ≡ all_below k (record_in_order table))
 
-abbrev decreases_loop : tie.decreases_loop
+abbrev decreases_loop : tie.decreases-loop
 decreases_loop table ok₀ k₀ ok k = nodes - k
 
 loop_holds : tie.Need-loop-init invariant_loop decreases_loop
@@ -29,7 +29,7 @@ loop_less : tie.Need-loop-smaller invariant_loop decreases_loop
 loop_less c = omega arith
 
 loop_again : tie.Need-loop-preserved invariant_loop decreases_loop
-loop_again c = (omega arith, all_grows _ _ _ _ c.before.before.loop.invariant.1 c.record_in_order.ensures)
+loop_again c = (omega arith, all_grows _ _ _ _ c.before.before.loop.invariant.1 c.record-in-order.ensures)
 
 returns : tie.Need-returns invariant_loop decreases_loop
 unfolding records_in_order

@@ -12,10 +12,10 @@ use Rattle.renewing.proofs.Descent.{descent_start, descent_end, onward_start, on
 use Rattle.renewing.proofs.renew_below.Statement.{statement}
 use Rattle.renewing.proofs.renew_below.Tie as tie
 
-abbrev invariant_loop : tie.invariant_loop
+abbrev invariant_loop : tie.invariant-loop
 invariant_loop table₀ c shares below₀ level₀ table below level = (0 < level) × Onward table₀ table c (level * nodes) below
 
-abbrev decreases_loop : tie.decreases_loop
+abbrev decreases_loop : tie.decreases-loop
 decreases_loop table₀ c shares below₀ level₀ table below level = suc last_level - level
 
 -- From the loop back to the start, and from the call to the loop.
@@ -60,7 +60,7 @@ loop_less c = omega arith
 loop_again : tie.Need-loop-preserved invariant_loop decreases_loop
 loop_again c =
     let here = at c.before.before in
-    (omega arith, onward_at _ _ _ _ _ _ (omega arith) (onward_then _ _ _ _ _ _ _ _ here.loop.inv.1 c.before.renew_level.ensures))
+    (omega arith, onward_at _ _ _ _ _ _ (omega arith) (onward_then _ _ _ _ _ _ _ _ here.loop.inv.1 c.before.renew-level.ensures))
 
 same_length : tie.Need-same-length invariant_loop decreases_loop
 same_length c = c.before.loop.invariant.1.descent.rated.long ∙ sym (start c.before).pre.long

@@ -8,10 +8,10 @@ use Rattle.renewing.proofs.Descent.{onward_start, onward_then, onward_at, same_s
 use Rattle.renewing.proofs.renew_level.Statement.{statement}
 use Rattle.renewing.proofs.renew_level.Tie as tie
 
-abbrev invariant_loop : tie.invariant_loop
+abbrev invariant_loop : tie.invariant-loop
 invariant_loop table₀ shares below₀ c level k₀ table below k = (k ≤ nodes) × Onward table₀ table c (level * nodes + k) below
 
-abbrev decreases_loop : tie.decreases_loop
+abbrev decreases_loop : tie.decreases-loop
 decreases_loop table₀ shares below₀ c level k₀ table below k = nodes - k
 
 loop_holds : tie.Need-loop-init invariant_loop decreases_loop
@@ -33,7 +33,7 @@ loop_less c = omega arith
 loop_again : tie.Need-loop-preserved invariant_loop decreases_loop
 loop_again c =
     let at = c.before.before.before.before.before in
-    (omega arith, onward_at _ _ _ _ _ _ (omega arith) (onward_then _ _ _ _ _ _ _ _ at.loop.invariant.1 c.before.renew_node.ensures))
+    (omega arith, onward_at _ _ _ _ _ _ (omega arith) (onward_then _ _ _ _ _ _ _ _ at.loop.invariant.1 c.before.renew-node.ensures))
 
 same_length : tie.Need-same-length invariant_loop decreases_loop
 same_length c = c.before.loop.invariant.1.descent.rated.long ∙ sym c.before.before.requires.0.rated.long

@@ -5,7 +5,7 @@ use Prim.Native.Nat.{ℕ, ◌<◌}
 use mathlib.Core.Bool.{true, false, ◌||◌}
 use native.Mathlib.Omega.{arith}
 use borrow.Author.Rules.{rules}
-use borrow.Author.Tests.{not_true, not_false}
+use borrow.Author.Tests.{not-true, not-false}
 use lib.ListN.{get_or}
 use lib.Dec.{eqb}
 use Rattle.definitions.specs.Limits.{nodes, fixed, weighted, stated, kinds}
@@ -23,7 +23,7 @@ use Rattle.renewing.proofs.renew_node.Tie as tie
 
 -- The node stands at this level where the code goes on.
 at : (c : tie.Else1) → let start = c.before.before.before in at_level (tree_of start.args.table.now) start.args.level start.args.k ≡ true
-at c = sym c.before.at_level.ensures ∙ not_false _ c.if1.false
+at c = sym c.before.at_level.ensures ∙ not-false _ c.if1.false
 
 -- Its parent, which is below 64.
 parent : (c : tie.After-natural) → let start = c.before.before.before.before.before in c.natural.result ≡ (tree_of start.args.table.now).parent start.args.k
@@ -46,19 +46,19 @@ abbrev entered : tie.Else2 → tie.Start
 entered c = c.before.before.before.before.before.before.before
 
 stands : (c : tie.Else2) → below (tree_of (entered c).args.table.now) (entered c).args.c (entered c).args.k ≡ true
-stands c = tells c.before.before ∙ not_false _ c.if2.false
+stands c = tells c.before.before ∙ not-false _ c.if2.false
 
 -- The parent's rate as it stands, and the node's.
 from_parent : (c : tie.After-natural2) → let t = (entered c.before.before).args.table.now in c.natural2.result ≡ rate t ((tree_of t).parent (entered c.before.before).args.k)
 unfolding rate
 from_parent c = rw (parent c.before.before.before.before) at c.natural2.ensures
 
-worked_out : (c : tie.After-child-rate) → let s = entered c.before.before.before.before.before in c.child_rate.result ≡ rate_below (tree_of s.args.table.now) s.args.c (rate s.args.table.now s.args.c) s.args.k
+worked_out : (c : tie.After-child-rate) → let s = entered c.before.before.before.before.before in c.child-rate.result ≡ rate_below (tree_of s.args.table.now) s.args.c (rate s.args.table.now s.args.c) s.args.k
 worked_out c =
     let read = c.before.before.before in
     let inside = read.before.before in
     let s = entered inside in
-    c.child_rate.ensures
+    c.child-rate.ensures
     ∙ ap (λ (r : ℕ). child_rate (tree_of s.args.table.now) r s.args.k) (from_parent read)
     ∙ child_renewed _ _ _ _ _ s.pre.0 s.pre.2 s.pre.3 (at inside.before.before.before.before) (stands inside)
 
@@ -71,7 +71,7 @@ same_length c = search rules
 returns : tie.Need-returns
 returns c =
     let pre = c.before.before.before.requires in
-    passed_level _ _ _ _ _ pre.3 pre.0 (sym c.before.at_level.ensures ∙ not_true _ c.if1.true)
+    passed_level _ _ _ _ _ pre.3 pre.0 (sym c.before.at_level.ensures ∙ not-true _ c.if1.true)
 
 natural_requires : tie.Need-natural-requires
 natural_requires c κs = search rules
@@ -85,7 +85,7 @@ same_length_2 c = search rules
 returns_2 : tie.Need-returns-2
 returns_2 c =
     let pre = c.before.before.before.before.before.before.before.requires in
-    passed_class _ _ _ _ _ pre.3 pre.0 (tells c.before.before ∙ not_true _ c.if2.true)
+    passed_class _ _ _ _ _ pre.3 pre.0 (tells c.before.before ∙ not-true _ c.if2.true)
 
 natural_requires_2 : tie.Need-natural-requires-2
 natural_requires_2 c κs =
@@ -141,7 +141,7 @@ returns_3 c =
     let worked = written.before.before in
     let inside = worked.before.before.before.before.before in
     let s = entered inside in
-    rw written.put_natural.ensures
+    rw written.put-natural.ensures
     (renewed_next _ _ _ _ _ s.pre.3 s.pre.0 _ (stands inside) (level_at_law _ _ _ s.pre.3 (at inside.before.before.before.before)).level (worked_out worked))
 
 pub renew_node_spec : {M : Type 1} → statement M

@@ -1,6 +1,6 @@
 -- `report::put_line` meets its contract: the node's line, or nothing.
 use mathlib.Core.Path.{sym, ◌∙◌}
-use borrow.Author.Tests.{not_true, not_false}
+use borrow.Author.Tests.{not-true, not-false}
 use Rattle.definitions.specs.Places.{rate}
 use Rattle.text.proofs.Appending.{append_as, append_none}
 use Rattle.report.proofs.Lines.{line_of, line_none}
@@ -13,7 +13,7 @@ there_requires c κs = search rules
 
 returns : tie.Need-returns
 returns c =
-    append_as _ _ _ _ _ _ (sym (line_none _ _ (sym c.before.there.ensures ∙ not_true _ c.if1.true))) (append_none _ _)
+    append_as _ _ _ _ _ _ (sym (line_none _ _ (sym c.before.there.ensures ∙ not-true _ c.if1.true))) (append_none _ _)
 
 is_class_requires : tie.Need-is-class-requires
 is_class_requires c κs = search rules
@@ -34,7 +34,7 @@ returns_2 c =
     let natural = put.before.before in
     let class = natural.before in
     let here = class.before in
-    append_as _ _ _ _ _ _ (line_of _ _ _ _ (sym here.before.there.ensures ∙ not_false _ here.if1.false) class.is_class.ensures natural.natural.ensures) put.put_node.ensures
+    append_as _ _ _ _ _ _ (line_of _ _ _ _ (sym here.before.there.ensures ∙ not-false _ here.if1.false) class.is-class.ensures natural.natural.ensures) put.put-node.ensures
 
 pub put_line_spec : {M : Type 1} → statement M
 put_line_spec =

@@ -14,11 +14,11 @@ use Rattle.report.proofs.Lines.{lines_short}
 use Rattle.report.proofs.put_lines.Statement.{statement}
 use Rattle.report.proofs.put_lines.Tie as tie
 
-abbrev invariant_loop : tie.invariant_loop
+abbrev invariant_loop : tie.invariant-loop
 invariant_loop text₀ table a₀ k₀ text a k =
     (k ≤ nodes) × (Appended text₀ 0 (bytes_below k (line table)) text a) × (length text ≡ length text₀)
 
-abbrev decreases_loop : tie.decreases_loop
+abbrev decreases_loop : tie.decreases-loop
 decreases_loop text₀ table a₀ k₀ text a k = nodes - k
 
 loop_holds : tie.Need-loop-init invariant_loop decreases_loop
@@ -43,7 +43,7 @@ loop_again c =
     let t = at.before.before.args.table.now in
     let k = at.loop.k in (
       omega arith,
-      append_next _ _ _ _ _ _ k (line t) (omega (arith, lines_short t k)) at.loop.invariant.1 call.put_line.ensures,
+      append_next _ _ _ _ _ _ k (line t) (omega (arith, lines_short t k)) at.loop.invariant.1 call.put-line.ensures,
       search rules,
     )
 

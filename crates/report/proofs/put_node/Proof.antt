@@ -51,7 +51,7 @@ returns c =
     let third = rating end.before in
     let second = sort third in
     let first = number second in
-    node_appended _ _ _ _ _ _ _ _ _ _ _ _ _ (start first).pre first.put_decimal.ensures second.put_sort.ensures third.put_decimal2.ensures end.put_text.ensures
+    node_appended _ _ _ _ _ _ _ _ _ _ _ _ _ (start first).pre first.put-decimal.ensures second.put-sort.ensures third.put-decimal2.ensures end.put-text.ensures
 
 pub put_node_spec : {M : Type 1} → statement M
 put_node_spec =

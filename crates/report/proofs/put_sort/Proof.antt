@@ -27,7 +27,7 @@ returns : tie.Need-returns
 unfolding sort_text ascii
 returns c =
     let put = c.before.before in
-    append_as _ _ _ _ _ _ (sym (cond_true _ _ _ put.before.before.before.if1.true)) put.put_text.ensures
+    append_as _ _ _ _ _ _ (sym (cond_true _ _ _ put.before.before.before.if1.true)) put.put-text.ensures
 
 same_length_2 : tie.Need-same-length-2
 same_length_2 c = search rules
@@ -36,7 +36,7 @@ returns_2 : tie.Need-returns-2
 unfolding sort_text ascii
 returns_2 c =
     let put = c.before.before in
-    append_as _ _ _ _ _ _ (sym (cond_false _ _ _ put.before.before.before.if1.false)) put.put_text2.ensures
+    append_as _ _ _ _ _ _ (sym (cond_false _ _ _ put.before.before.before.if1.false)) put.put-text2.ensures
 
 pub put_sort_spec : {M : Type 1} → statement M
 put_sort_spec =

@@ -1,6 +1,6 @@
 -- `report::report` meets its contract: the lines of the table that the plan makes, or the line of the refusal.
 use mathlib.Core.Path.{◌≡◌, sym, ap, ◌∙◌}
-use native.Mathlib.Nat.{zero_add}
+use native.Mathlib.Nat.{zero-add}
 use borrow.Author.Rules.{rules}
 use Rattle.definitions.specs.Refusals.{number_told}
 use Rattle.definitions.specs.Calls.{blank}
@@ -13,9 +13,9 @@ use Rattle.report.proofs.report.Statement.{statement}
 use Rattle.report.proofs.report.Tie as tie
 
 -- The number of the refusal, or 0.
-number : (c : tie.After-number-told) → let read = c.before.before in c.number_told.result ≡ check_answer read.before.before.before.args.contents.now
+number : (c : tie.After-number-told) → let read = c.before.before in c.number-told.result ≡ check_answer read.before.before.before.args.contents.now
 unfolding blank
-number c = c.number_told.ensures.0 ∙ ap number_told c.before.before.read.ensures.0 ∙ told_check _
+number c = c.number-told.ensures.0 ∙ ap number_told c.before.before.read.ensures.0 ∙ told_check _
 
 slice_aggregate_read : tie.Need-slice-aggregate-read
 slice_aggregate_read c = search rules
@@ -40,14 +40,14 @@ unfolding blank
 returns c =
     let test = c.before.before.before in
     let told = test.before in
-    let put = append_as _ _ _ _ _ _ (ap lines_of told.before.before.read.ensures.1 ∙ accepted_report _ (sym (number told) ∙ test.if1.true)) c.put_lines.ensures in
-    (appended_counts _ _ _ _ put, (put.behind ∙ zero_add _, put.bytes))
+    let put = append_as _ _ _ _ _ _ (ap lines_of told.before.before.read.ensures.1 ∙ accepted_report _ (sym (number told) ∙ test.if1.true)) c.put-lines.ensures in
+    (appended_counts _ _ _ _ put, (put.behind ∙ zero-add _, put.bytes))
 
 returns_2 : tie.Need-returns-2
 returns_2 c =
     let told = c.before.before.before in
     let put = append_as _ _ _ _ _ _ (ap refused_line (number told) ∙ refused_report _ (λ z. c.before.before.if1.false (number told ∙ z))) c.Put-refused.ensures in
-    (appended_counts _ _ _ _ put, (put.behind ∙ zero_add _, put.bytes))
+    (appended_counts _ _ _ _ put, (put.behind ∙ zero-add _, put.bytes))
 
 pub report_spec : {M : Type 1} → statement M
 report_spec =

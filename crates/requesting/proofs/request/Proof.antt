@@ -4,11 +4,11 @@ use Prim.Native.Nat.{suc, ◌+◌}
 use mathlib.Core.Path.{◌≡◌, sym, ap, ◌∙◌}
 use mathlib.Core.List.{[], ◌∷◌}
 use native.Mathlib.Omega.{arith}
-use native.Mathlib.Numerals.{add_one}
+use native.Mathlib.Numerals.{add-one}
 use borrow.Author.Rules.{rules, sfits_of}
 use lib.IntN.{ℤ, pos}
 use mir.Syntax.{w64}
-use mir.ValLaws.{to_z_of_z}
+use mir.ValLaws.{to_z-of_z}
 use Rattle.numbers.specs.Whole.{plus}
 use Rattle.definitions.specs.Places.{count}
 use Rattle.answers.specs.Answers.{told}
@@ -20,10 +20,10 @@ use Rattle.requesting.proofs.request.Statement.{statement}
 use Rattle.requesting.proofs.request.Tie as tie
 
 -- The number is that of the definition.
-number : (c : tie.After-request-refusal) → let s = c.before.before in c.request_refusal.result ≡ request_refusal s.args.table.now s.args.client s.args.tag s.args.size
+number : (c : tie.After-request-refusal) → let s = c.before.before in c.request-refusal.result ≡ request_refusal s.args.table.now s.args.client s.args.tag s.args.size
 number c =
     let s = c.before.before in
-    rw (to_z_of_z w64 s.args.client s.ranges.client, to_z_of_z w64 s.args.tag s.ranges.tag, to_z_of_z w64 s.args.size s.ranges.size) at c.request_refusal.ensures.0
+    rw (to_z-of_z w64 s.args.client s.ranges.client, to_z-of_z w64 s.args.tag s.ranges.tag, to_z-of_z w64 s.args.size s.ranges.size) at c.request-refusal.ensures.0
 
 none : (c : tie.Else1) → let s = c.before.before.before in request_refusal s.args.table.now s.args.client s.args.tag s.args.size ≡ 0
 none c = sym (number c.before) ∙ c.if1.false
@@ -42,7 +42,7 @@ client : (c : tie.After-natural) → c.natural.result ≡ plus (start (accepts c
 client c = natural_of c.natural.ensures (start (accepts c)).ranges.client
 
 arrival : (c : tie.After-count) → let s = start c.before.before in c.count.result + 1 ≡ suc (count s.args.table.now)
-arrival c = add_one c.count.result ∙ ap suc c.count.ensures
+arrival c = add-one c.count.result ∙ ap suc c.count.ensures
 
 returns : tie.Need-returns
 unfolding request_answer request_table
@@ -72,9 +72,9 @@ returns_2 c =
     let natural = written.before in
     let s = start (accepts natural) in
     let zero = none (accepts natural) in (
-      ap (λ (z : ℤ). accepted (z ∷ [])) (to_z_of_z w64 c.whole.result (sfits_of c.whole.type_inv) ∙ c.whole.ensures ∙ ap pos (arrival natural.before.before))
+      ap (λ (z : ℤ). accepted (z ∷ [])) (to_z-of_z w64 c.whole.result (sfits_of c.whole.type-inv) ∙ c.whole.ensures ∙ ap pos (arrival natural.before.before))
           ∙ sym (outcome_accepted _ _ zero),
-      rw (client natural, to_z_of_z w64 s.args.tag s.fits.tag, to_z_of_z w64 s.args.size s.fits.size) at written.write_request.ensures
+      rw (client natural, to_z-of_z w64 s.args.tag s.fits.tag, to_z-of_z w64 s.args.size s.fits.size) at written.write-request.ensures
           ∙ sym (kept_new _ _ _ zero),
     )
 

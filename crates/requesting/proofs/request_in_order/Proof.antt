@@ -3,7 +3,7 @@ use mathlib.Core.Path.{◌≡◌, sym, ◌∙◌}
 use borrow.Author.Rules.{rules, sfits_of}
 use lib.IntN.{pos}
 use mir.Syntax.{w64}
-use mir.ValLaws.{to_z_of_z}
+use mir.ValLaws.{to_z-of_z}
 use Rattle.numbers.specs.Whole.{plus}
 use Rattle.definitions.specs.Calls.{request_refusal, request_table}
 use Rattle.definitions.proofs.Refusals.{kept_new, kept_old}
@@ -12,9 +12,9 @@ use Rattle.requesting.proofs.request_in_order.Statement.{statement}
 use Rattle.requesting.proofs.request_in_order.Tie as tie
 
 -- The number is that of the definition, which judges no tag.
-number : (c : tie.After-tree-refusal) → let s = c.before.before in c.tree_refusal.result ≡ request_refusal s.args.table.now (pos s.args.k) s.args.tag (pos s.args.size)
+number : (c : tie.After-tree-refusal) → let s = c.before.before in c.tree-refusal.result ≡ request_refusal s.args.table.now (pos s.args.k) s.args.tag (pos s.args.size)
 unfolding request_refusal
-number c = c.tree_refusal.ensures.0
+number c = c.tree-refusal.ensures.0
 
 -- Where it is 0, there is room.
 room : (c : tie.Then1) → let s = c.before.before.before in Room s.args.table.now s.args.k
@@ -40,7 +40,7 @@ returns c =
     let test = written.before.before.before in
     let s = test.before.before.before in
     let size = written.before.whole in
-    rw (to_z_of_z w64 s.args.tag s.ranges.tag, to_z_of_z w64 size.result (sfits_of size.type_inv), size.ensures) at written.write_request.ensures
+    rw (to_z-of_z w64 s.args.tag s.ranges.tag, to_z-of_z w64 size.result (sfits_of size.type-inv), size.ensures) at written.write-request.ensures
     ∙ sym (kept_new _ _ _ (sym (number test.before) ∙ test.if1.true))
 
 same_length_2 : tie.Need-same-length-2

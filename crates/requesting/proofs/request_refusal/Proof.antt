@@ -5,7 +5,7 @@ use mathlib.Core.Bool.{true}
 use native.Mathlib.Omega.{arith}
 use lib.IntN.{ℤ, pos}
 use mir.Syntax.{w64}
-use mir.ValLaws.{to_z_of_z}
+use mir.ValLaws.{to_z-of_z}
 use Rattle.numbers.proofs.Every.{head_holds, rest_hold}
 use Rattle.definitions.specs.Limits.{last_node}
 use Rattle.definitions.specs.Calls.{request_limits, request_refusal}
@@ -16,10 +16,10 @@ use Rattle.requesting.proofs.request_refusal.Tie as tie
 abbrev start : tie.Else2 → tie.Start
 start c = c.before.before.before.before
 
-fits : (c : tie.After-request-limits) → let a = c.before.before.before.args in c.request_limits.result ≡ request_limits a.client a.size
+fits : (c : tie.After-request-limits) → let a = c.before.before.before.args in c.request-limits.result ≡ request_limits a.client a.size
 fits c =
     let s = c.before.before.before.ranges in
-    rw (to_z_of_z w64 _ s.client, to_z_of_z w64 _ s.size) at c.request_limits.ensures
+    rw (to_z-of_z w64 _ s.client, to_z-of_z w64 _ s.size) at c.request-limits.ensures
 
 within : (c : tie.Else2) → let a = (start c).args in request_limits a.client a.size ≡ true
 within c = holds (fits c.before) c.if2.false
@@ -44,7 +44,7 @@ tree_refusal_requires c κs =
 returns_3 : tie.Need-returns-3
 unfolding request_refusal
 returns_3 c =
-    let e = c.tree_refusal.ensures in
+    let e = c.tree-refusal.ensures in
     let p = same c.before in
     let t = (start c.before.before.before).args.table.now in
     (e.0 ∙ ap₂ (λ (z w : ℤ). request_refusal t z (pos 0) w) p.0 p.1, e.1)

@@ -2,7 +2,7 @@
 use Prim.Native.Nat.{◌+◌}
 use mathlib.Core.Path.{refl}
 use borrow.Author.Rules.{rules}
-use mir.Facts.{to_z_of_z}
+use mir.Facts.{to_z-of_z}
 use Rattle.definitions.specs.Limits.{tag_at, size_at, arrival_at}
 use Rattle.definitions.specs.Places.{queue_place}
 use Rattle.definitions.proofs.Places.{put_then}
@@ -17,9 +17,9 @@ returns c =
     let start = tag.before.before in
     let k = start.args.k in
     let place = queue_place start.args.i in
-    put_then k (place + arrival_at) arrival.put_natural.ensures refl
-    (put_then k (place + size_at) size.put2.ensures (to_z_of_z start.ranges.size)
-    (put_then k (place + tag_at) tag.put.ensures (to_z_of_z start.ranges.tag) refl))
+    put_then k (place + arrival_at) arrival.put-natural.ensures refl
+    (put_then k (place + size_at) size.put2.ensures (to_z-of_z start.ranges.size)
+    (put_then k (place + tag_at) tag.put.ensures (to_z-of_z start.ranges.tag) refl))
 
 pub write_place_spec : {M : Type 1} → statement M
 write_place_spec =

@@ -3,11 +3,11 @@ use Prim.Native.Nat.{ℕ, ◌+◌}
 use mathlib.Core.Path.{◌≡◌}
 use mathlib.Core.List.{List}
 use native.Mathlib.Omega.{arith}
-use native.Mathlib.Numerals.{add_one}
+use native.Mathlib.Numerals.{add-one}
 use borrow.Author.Rules.{rules}
 use lib.IntN.{ℤ, pos}
 use mir.Syntax.{w64}
-use mir.ValLaws.{to_z_of_z}
+use mir.ValLaws.{to_z-of_z}
 use Rattle.numbers.specs.Whole.{plus}
 use Rattle.definitions.specs.Limits.{waiting_at, tag_at, size_at, arrival_at}
 use Rattle.definitions.specs.Places.{place, put, put_header, queue_place, count, waiting}
@@ -25,7 +25,7 @@ together :
     → t₃ ≡ put_header t₂ 0 (pos (n + 1))
     → t₃ ≡ requested t k tag size
 unfolding requested waiting
-together t t₁ t₂ t₃ k w n tag size hw hn h₁ h₂ h₃ = cc (add_one w, add_one n)
+together t t₁ t₂ t₃ k w n tag size hw hn h₁ h₂ h₃ = cc (add-one w, add-one n)
 
 returns : tie.Need-returns
 returns c =
@@ -38,8 +38,8 @@ returns c =
     together s.args.table.now _ _ _ s.args.k _ _ s.args.tag s.args.size
     old.natural.ensures
     number.count.ensures
-    (rw (to_z_of_z w64 _ s.ranges.tag, to_z_of_z w64 _ s.ranges.size) at place.write_place.ensures)
-    waits.put_natural.ensures
+    (rw (to_z-of_z w64 _ s.ranges.tag, to_z-of_z w64 _ s.ranges.size) at place.write-place.ensures)
+    waits.put-natural.ensures
     header.put_count.ensures
 
 pub write_request_spec : {M : Type 1} → statement M

@@ -1,6 +1,6 @@
 use mathlib.Core.Path.{◌≡◌, ap, ◌∙◌}
 use native.Mathlib.Omega.{arith}
-use mir.Facts.{to_z_of_z}
+use mir.Facts.{to_z-of_z}
 use Rattle.numbers.specs.Whole.{within_ℤ}
 use Rattle.definitions.proofs.Refusals.{causes, found}
 use Rattle.hourlaws.specs.Windows.{last_minute}
@@ -9,7 +9,7 @@ use Rattle.setting.proofs.early_refusal.Statement.{statement}
 use Rattle.setting.proofs.early_refusal.Tie as tie
 
 fits : (c : tie.After-within) → c.within.result ≡ within_ℤ 0 last_minute c.before.before.before.args.minute
-fits c = c.within.ensures ∙ ap (within_ℤ 0 last_minute) (to_z_of_z c.before.before.before.ranges.minute)
+fits c = c.within.ensures ∙ ap (within_ℤ 0 last_minute) (to_z-of_z c.before.before.before.ranges.minute)
 
 in_order_requires : tie.Need-in-order-requires
 in_order_requires c κs = search rules

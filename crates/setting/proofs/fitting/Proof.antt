@@ -14,7 +14,7 @@ windows_formed_requires c κs = search rules
 
 returns : tie.Need-returns
 unfolding fitting whole_windows
-returns c = joined_as (same_tests c.before.same_shape.ensures (same_tests refl (last_test c.windows_formed.ensures)))
+returns c = joined_as (same_tests c.before.same_shape.ensures (same_tests refl (last_test c.windows-formed.ensures)))
 
 pub fitting_spec : {M : Type 1} → statement M
 fitting_spec = tie.close (tie.spec same_shape_requires windows_formed_requires returns)

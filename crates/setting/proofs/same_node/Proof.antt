@@ -15,7 +15,7 @@ same_place_requires_3 c κs = search rules
 
 returns : tie.Need-returns
 unfolding same_node
-returns c = joined_as (same_tests c.before.before.same_place.ensures (same_tests c.before.same_place2.ensures (last_test c.same_place3.ensures)))
+returns c = joined_as (same_tests c.before.before.same_place.ensures (same_tests c.before.same-place2.ensures (last_test c.same-place3.ensures)))
 
 pub same_node_spec : {M : Type 1} → statement M
 same_node_spec =

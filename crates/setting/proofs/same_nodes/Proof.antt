@@ -8,10 +8,10 @@ use Rattle.hourlaws.specs.SetMinute.{same_node}
 use Rattle.setting.proofs.same_nodes.Statement.{statement}
 use Rattle.setting.proofs.same_nodes.Tie as tie
 
-abbrev invariant_loop : tie.invariant_loop
+abbrev invariant_loop : tie.invariant-loop
 invariant_loop table plan same₀ k₀ same k = (k ≤ nodes) × (same ≡ all_below k (same_node table plan))
 
-abbrev decreases_loop : tie.decreases_loop
+abbrev decreases_loop : tie.decreases-loop
 decreases_loop table plan same₀ k₀ same k = nodes - k
 
 loop_holds : tie.Need-loop-init invariant_loop decreases_loop

@@ -26,7 +26,7 @@ abbrev start : tie.Else1 → tie.Start
 start c = c.before.before.before
 
 accepted : (c : tie.Else1) → let s = start c in timetable_refusal s.args.table.now s.args.plan.now s.args.windows.now ≡ 0
-accepted c = sym c.before.timetable_refusal.ensures.0 ∙ c.if1.false
+accepted c = sym c.before.timetable-refusal.ensures.0 ∙ c.if1.false
 
 -- What the timetable has passed.
 passed : (c : tie.Else1) → let s = start c in Timetabled s.args.table.now s.args.plan.now s.args.windows.now
@@ -46,7 +46,7 @@ same_length c = search rules
 
 returns : tie.Need-returns
 returns c =
-    let call = c.before.timetable_refusal in
+    let call = c.before.timetable-refusal in
     (call.ensures.0, (call.ensures.1, sym (kept_old _ _ _ (λ e. c.if1.true (call.ensures.0 ∙ e)))))
 
 set_nodes_requires : tie.Need-set-nodes-requires
@@ -59,7 +59,7 @@ renew_below_requires c κs =
     let wrote = c.before.before in
     let test = wrote.before.before in
     let r = renews test in
-    rw wrote.set_nodes.ensures (rated_before _ _ (in_order_law test) r.low r.there r.small)
+    rw wrote.set-nodes.ensures (rated_before _ _ (in_order_law test) r.low r.there r.small)
 
 same_length_2 : tie.Need-same-length-2
 same_length_2 c = search rules
@@ -71,7 +71,7 @@ returns_2 c =
     let wrote = renewal.before.before.before in
     let test = wrote.before.before in (
       sym (accepted test),
-      (omega arith, renewal.renew_below.ensures ∙ ap (λ (u : List ℤ). renewed_below u root) wrote.set_nodes.ensures ∙ (renews test).all ∙ sym (kept_new _ _ _ (accepted test))),
+      (omega arith, renewal.renew-below.ensures ∙ ap (λ (u : List ℤ). renewed_below u root) wrote.set-nodes.ensures ∙ (renews test).all ∙ sym (kept_new _ _ _ (accepted test))),
     )
 
 pub set_by_spec : {M : Type 1} → statement M

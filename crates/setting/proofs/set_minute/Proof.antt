@@ -2,7 +2,7 @@
 use Prim.Native.Nat.{ℕ}
 use mathlib.Core.Path.{ap, ◌∙◌}
 use mir.Syntax.{w64}
-use mir.ValLaws.{to_z_of_z}
+use mir.ValLaws.{to_z-of_z}
 use borrow.Author.Rules.{rules}
 use Rattle.definitions.specs.Refusals.{outcome}
 use Rattle.definitions.specs.Calls.{done}
@@ -22,10 +22,10 @@ same_length c = search rules
 returns : tie.Need-returns
 unfolding set_minute_answer
 returns c =
-    let call = c.before.before.set_minute_number in
+    let call = c.before.before.set-minute-number in
     let s = c.before.before.before.before.before in
-    let number = rw (to_z_of_z w64 s.args.minute s.ranges.minute) at call.ensures.0 in
-    let table = rw (to_z_of_z w64 s.args.minute s.ranges.minute) at call.ensures.1.1 in
+    let number = rw (to_z-of_z w64 s.args.minute s.ranges.minute) at call.ensures.0 in
+    let table = rw (to_z-of_z w64 s.args.minute s.ranges.minute) at call.ensures.1.1 in
     (c.answered.ensures ∙ ap (λ (n : ℕ). outcome n done) number, table)
 
 pub set_minute_spec : {M : Type 1} → statement M

@@ -7,7 +7,7 @@ use mathlib.Core.List.{List, [], ◌∷◌}
 use native.Mathlib.Omega.{arith}
 use lib.IntN.{ℤ}
 use mir.Syntax.{w64}
-use mir.ValLaws.{to_z_of_z}
+use mir.ValLaws.{to_z-of_z}
 use Rattle.numbers.specs.Whole.{within_ℤ}
 use Rattle.definitions.specs.Order.{in_order}
 use Rattle.definitions.specs.Refusals.{cause, first, kept}
@@ -24,10 +24,10 @@ use Rattle.setting.proofs.set_minute_number.Statement.{statement}
 use Rattle.setting.proofs.set_minute_number.Tie as tie
 
 -- The early causes, of the minute as a whole number.
-early : (c : tie.After-early-refusal) → let s = c.before.before.before in c.early_refusal.result ≡ first (cause 1 (not (in_order s.args.table.now)) ∷ cause 2 (not (within_ℤ 0 last_minute s.args.minute)) ∷ [])
+early : (c : tie.After-early-refusal) → let s = c.before.before.before in c.early-refusal.result ≡ first (cause 1 (not (in_order s.args.table.now)) ∷ cause 2 (not (within_ℤ 0 last_minute s.args.minute)) ∷ [])
 early c =
     let s = c.before.before.before in
-    rw (to_z_of_z w64 s.args.minute s.ranges.minute) at c.early_refusal.ensures.0
+    rw (to_z-of_z w64 s.args.minute s.ranges.minute) at c.early-refusal.ensures.0
 
 -- From the plan's table built back to the first test and to the start.
 abbrev begun : tie.After-build → tie.Else1
@@ -67,7 +67,7 @@ unfolding set_minute_table
 returns c =
     let number = early c.before in
     let refused = early_refused _ _ _ _ (λ e. c.if1.true (number ∙ e)) in
-    (number ∙ sym refused, (c.before.early_refusal.ensures.1, sym (kept_old _ _ _ (λ e. c.if1.true (number ∙ sym refused ∙ e)))))
+    (number ∙ sym refused, (c.before.early-refusal.ensures.1, sym (kept_old _ _ _ (λ e. c.if1.true (number ∙ sym refused ∙ e)))))
 
 slice_aggregate_build : tie.Need-slice-aggregate-build
 slice_aggregate_build c = search rules
@@ -109,10 +109,10 @@ returns_3 c =
     let args = (start (built tested)).args in
     let number = ap (λ (p : List ℤ). timetable_refusal args.table.now p args.windows.now) (plan_is tested) in
     let whole = plan_passed _ _ _ _ (passed (built tested)) (sound tested) in (
-      call.set_by.ensures.0 ∙ number ∙ sym whole,
+      call.set-by.ensures.0 ∙ number ∙ sym whole,
       (
-        call.set_by.ensures.1.0,
-        call.set_by.ensures.1.1
+        call.set-by.ensures.1.0,
+        call.set-by.ensures.1.1
             ∙ ap (λ (p : List ℤ). kept (timetable_refusal args.table.now p args.windows.now) (minute_table args.table.now p args.windows.now at.natural.result) args.table.now) (plan_is tested)
             ∙ ap (λ (n : ℕ). kept (timetable_refusal args.table.now (planned args.plan.now) args.windows.now) (minute_table args.table.now (planned args.plan.now) args.windows.now n) args.table.now) (minute_is at)
             ∙ ap (λ (n : ℕ). kept n (minute_table args.table.now (planned args.plan.now) args.windows.now (plus args.minute)) args.table.now) (sym whole),

@@ -46,8 +46,8 @@ returns c =
     let known = first.before.before.before in
     let args = known.before.args in
     let share : ℤ = pos (get_or args.shares.now args.k 0) in
-    second.put_natural2.ensures
-    ∙ ap (λ (u : List ℤ). put u args.k share_at share) first.put_natural.ensures
+    second.put-natural2.ensures
+    ∙ ap (λ (u : List ℤ). put u args.k share_at share) first.put-natural.ensures
     ∙ ap (λ (n : ℕ). put (put args.table.now args.k kind_at (pos n)) args.k share_at share) (kind known)
 
 pub set_node_spec : {M : Type 1} → statement M

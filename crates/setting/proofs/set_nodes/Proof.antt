@@ -14,12 +14,12 @@ use Rattle.setting.proofs.Written.{length_reshared}
 use Rattle.setting.proofs.set_nodes.Statement.{statement}
 use Rattle.setting.proofs.set_nodes.Tie as tie
 
-abbrev invariant_loop : tie.invariant_loop
+abbrev invariant_loop : tie.invariant-loop
 invariant_loop table₀ plan windows m shares k₀ table k =
     (k ≤ nodes) × (length table ≡ length table₀) × ((j : ℕ) → j < nodes → get_or shares j 0 ≡ share_in (tree_of plan) windows m j)
     × (table ≡ for_below k (λ j u. reshared u j (pos ((tree_of plan).kind j)) (pos (share_in (tree_of plan) windows m j))) table₀)
 
-abbrev decreases_loop : tie.decreases_loop
+abbrev decreases_loop : tie.decreases-loop
 decreases_loop table₀ plan windows m shares k₀ table k = nodes - k
 
 shares_at_requires : tie.Need-shares-at-requires invariant_loop decreases_loop
@@ -46,7 +46,7 @@ loop_again : tie.Need-loop-preserved invariant_loop decreases_loop
 loop_again c =
     let at = c.before.before.before.before.before in
     let args = at.before.before.before.args in
-    let table = c.before.set_node.ensures in
+    let table = c.before.set-node.ensures in
     let share = at.loop.invariant.2 at.loop.k (omega arith) in (
       omega arith,
       ap length table ∙ length_reshared _ _ _ _ ∙ at.loop.invariant.1,

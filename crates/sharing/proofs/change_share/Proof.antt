@@ -8,7 +8,7 @@ use native.Mathlib.Omega.{arith}
 use borrow.Author.Rules.{rules}
 use lib.IntN.{ℤ}
 use mir.Syntax.{w64}
-use mir.ValLaws.{to_z_of_z}
+use mir.ValLaws.{to_z-of_z}
 use Rattle.numbers.specs.Whole.{plus}
 use Rattle.answers.specs.Answers.{told}
 use Rattle.definitions.specs.Refusals.{outcome}
@@ -34,8 +34,8 @@ use Rattle.sharing.proofs.change_share.Statement.{statement}
 use Rattle.sharing.proofs.change_share.Tie as tie
 
 -- The number is that of the definition.
-number : (c : tie.After-change-share-refusal) → let s = c.before.before in c.change_share_refusal.result ≡ change_share_refusal s.args.table.now s.args.node s.args.kind s.args.share
-number c = let s = c.before.before in rw (to_z_of_z w64 s.args.node s.ranges.node, to_z_of_z w64 s.args.kind s.ranges.kind, to_z_of_z w64 s.args.share s.ranges.share) at c.change_share_refusal.ensures.0
+number : (c : tie.After-change-share-refusal) → let s = c.before.before in c.change-share-refusal.result ≡ change_share_refusal s.args.table.now s.args.node s.args.kind s.args.share
+number c = let s = c.before.before in rw (to_z-of_z w64 s.args.node s.ranges.node, to_z-of_z w64 s.args.kind s.ranges.kind, to_z-of_z w64 s.args.share s.ranges.share) at c.change-share-refusal.ensures.0
 
 accepted : (c : tie.Else1) → let s = c.before.before.before in change_share_refusal s.args.table.now s.args.node s.args.kind s.args.share ≡ 0
 accepted c = sym (number c.before) ∙ c.if1.false
@@ -58,11 +58,11 @@ unfolding tree_of
 parent c = rw (node (node_of c)) at c.natural2.ensures
 
 -- What is written.
-written : (c : tie.After-write-share) → let s = start (accepts (node_of c.before.before)) in c.write_share.new.0 ≡ reshared s.args.table.now (plus s.args.node) s.args.kind s.args.share
+written : (c : tie.After-write-share) → let s = start (accepts (node_of c.before.before)) in c.write-share.new.0 ≡ reshared s.args.table.now (plus s.args.node) s.args.kind s.args.share
 written c =
     let known = node_of c.before.before in
     let s = start (accepts known) in
-    rw (node known, to_z_of_z w64 s.args.kind s.fits.kind, to_z_of_z w64 s.args.share s.fits.share) at c.write_share.ensures
+    rw (node known, to_z-of_z w64 s.args.kind s.fits.kind, to_z-of_z w64 s.args.share s.fits.share) at c.write-share.ensures
 
 in_order_law : (c : tie.Else1) → let s = start c in in_order (renewed (reshared s.args.table.now (plus s.args.node) s.args.kind s.args.share)) ≡ true
 unfolding change_share_table
@@ -86,7 +86,7 @@ write_share_requires : tie.Need-write-share-requires
 write_share_requires c κs = let p = change_share_passed _ _ _ _ (accepted (accepts (node_of c.before))) in (long _ p.order, omega (arith, node (node_of c.before), p.node))
 
 -- Any node that is there can be renewed below, the parent and the node itself.
-rated_at : (c : tie.After-write-share) (x : ℕ) → x < nodes → there (tree_of (start (accepts (node_of c.before.before))).args.table.now) x ≡ true → Rated c.write_share.new.0 x
+rated_at : (c : tie.After-write-share) (x : ℕ) → x < nodes → there (tree_of (start (accepts (node_of c.before.before))).args.table.now) x ≡ true → Rated c.write-share.new.0 x
 unfolding rate
 rated_at c x low here =
     let acceptance = accepts (node_of c.before.before) in
@@ -121,7 +121,7 @@ returns_2 c =
     let w = renewal.before.before.before in
     let acceptance = accepts (node_of w.before.before) in
     let zero = accepted acceptance in
-    (sym (outcome_accepted _ _ zero), renewal.renew_below.ensures ∙ ap₂ renewed_below (written w) (parent w.before.before) ∙ (renews acceptance).all ∙ sym (kept_new _ _ _ zero))
+    (sym (outcome_accepted _ _ zero), renewal.renew-below.ensures ∙ ap₂ renewed_below (written w) (parent w.before.before) ∙ (renews acceptance).all ∙ sym (kept_new _ _ _ zero))
 
 pub change_share_spec : {M : Type 1} → statement M
 change_share_spec =

@@ -5,7 +5,7 @@ use mathlib.Core.Bool.{true}
 use native.Mathlib.Omega.{arith}
 use lib.IntN.{pos}
 use mir.Syntax.{w64}
-use mir.ValLaws.{to_z_of_z}
+use mir.ValLaws.{to_z-of_z}
 use Rattle.numbers.specs.Whole.{plus}
 use Rattle.numbers.proofs.Every.{head_holds, rest_hold}
 use Rattle.definitions.specs.Limits.{last_node, fixed, stated, share_limit}
@@ -17,10 +17,10 @@ use Rattle.sharing.proofs.change_share_refusal.Tie as tie
 abbrev start : tie.Else2 → tie.Start
 start c = c.before.before.before.before
 
-fits : (c : tie.After-change-share-limits) → let a = c.before.before.before.args in c.change_share_limits.result ≡ change_share_limits a.node a.kind a.share
+fits : (c : tie.After-change-share-limits) → let a = c.before.before.before.args in c.change-share-limits.result ≡ change_share_limits a.node a.kind a.share
 fits c =
     let s = c.before.before.before.ranges in
-    rw (to_z_of_z w64 _ s.node, to_z_of_z w64 _ s.kind, to_z_of_z w64 _ s.share) at c.change_share_limits.ensures
+    rw (to_z-of_z w64 _ s.node, to_z-of_z w64 _ s.kind, to_z-of_z w64 _ s.share) at c.change-share-limits.ensures
 
 within : (c : tie.Else2) → let a = (start c).args in change_share_limits a.node a.kind a.share ≡ true
 within c = holds (fits c.before) c.if2.false
@@ -46,7 +46,7 @@ tree_refusal_requires c κs =
 
 returns_3 : tie.Need-returns-3
 returns_3 c =
-    let e = c.tree_refusal.ensures in
+    let e = c.tree-refusal.ensures in
     let p = same c.before in
     (rw (p.0, p.1, p.2) at e.0, e.1)
 

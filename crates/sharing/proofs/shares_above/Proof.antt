@@ -33,7 +33,7 @@ shares_above_requires c κs =
 returns : tie.Need-returns
 returns c =
     let s = c.before.before.before in
-    (rw (above c.before.before, c.before.kind_share.ensures) at c.shares_above.ensures)
+    (rw (above c.before.before, c.before.kind_share.ensures) at c.shares-above.ensures)
     ∙ sym (shares_with _ _ (facts _ s.requires.0) s.requires.1 s.requires.2 s.requires.3 s.args.kind s.args.share)
 
 pub shares_above_spec : {M : Type 1} → statement M

@@ -34,7 +34,7 @@ returns : tie.Need-returns
 returns c =
     let s = c.before.before.before in
     let x = s.args in
-    c.stated_wrong.ensures
+    c.stated-wrong.ensures
     ∙ ap₂ (λ (p old : ℕ). stated_wrong_with x.table.now p old x.kind x.share) (above c.before.before) c.before.kind_share.ensures
     ∙ sym (stated_with _ _ (facts _ s.requires.0) s.requires.1 s.requires.2 s.requires.3 s.args.kind s.args.share)
 

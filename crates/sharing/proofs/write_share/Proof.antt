@@ -1,7 +1,7 @@
 -- `sharing::write_share` meets its contract: two writes.
 use mathlib.Core.Path.{refl}
 use borrow.Author.Rules.{rules}
-use mir.Facts.{to_z_of_z}
+use mir.Facts.{to_z-of_z}
 use Rattle.definitions.specs.Limits.{kind_at, share_at}
 use Rattle.definitions.specs.Calls.{reshared}
 use Rattle.definitions.proofs.Places.{put_then}
@@ -14,8 +14,8 @@ returns c =
     let share = c.before in
     let kind = share.before.before.before in
     let s = kind.before.before in
-    put_then s.args.k share_at share.put2.ensures (to_z_of_z s.ranges.share)
-    (put_then s.args.k kind_at kind.put.ensures (to_z_of_z s.ranges.kind) refl)
+    put_then s.args.k share_at share.put2.ensures (to_z-of_z s.ranges.share)
+    (put_then s.args.k kind_at kind.put.ensures (to_z-of_z s.ranges.kind) refl)
 
 pub write_share_spec : {M : Type 1} → statement M
 write_share_spec =

@@ -13,14 +13,14 @@ use Rattle.steps.proofs.Lending.{found, lending_within, lending_turn, lending_do
 use Rattle.steps.proofs.lend.Statement.{statement}
 use Rattle.steps.proofs.lend.Tie as tie
 
-abbrev invariant_loop : tie.invariant_loop
+abbrev invariant_loop : tie.invariant-loop
 invariant_loop table₀ first₀ second₀ n table first second written =
     (length table ≡ length table₀)
     × (length first ≡ length first₀)
     × (length second ≡ length second₀)
     × Going Lending lending table₀ first₀ second₀ n table first second written
 
-abbrev decreases_loop : tie.decreases_loop
+abbrev decreases_loop : tie.decreases-loop
 decreases_loop table₀ first₀ second₀ n table first second written = all_waiting table
 
 -- From the choice of a client back to the loop, from the client and its supplier to that choice, and from the end of a turn to its
@@ -51,7 +51,7 @@ enum_told c = search rules
 
 -- The client and the supplier of a turn.
 goes : (c : tie.After-known-told invariant_loop decreases_loop) → let told = c.before.client.given.0 in Goes (at (chosen c)).loop.table told.0 told.1.0
-goes c = client_answer _ _ _ (sym c.before.client.given.1 ∙ (chosen c).next_client.ensures)
+goes c = client_answer _ _ _ (sym c.before.client.given.1 ∙ (chosen c).next-client.ensures)
 
 turn : (c : tie.After-known-told invariant_loop decreases_loop) → let told = c.before.client.given.0 in Turn Lending lending (at (chosen c)).loop.table told.0 told.1.0
 turn c = lending_turn _ (at (chosen c)).loop.inv.3.on _ _ (goes c)
@@ -96,7 +96,7 @@ returns c =
     let chosen = c.before.before in
     let at = (at chosen).loop in
     going_done Lending _ _ _ _ _ _ _ _ _ at.inv.3
-    (lending_done at.table (nothing_answer _ (sym c.enum_told.given.1 ∙ chosen.next_client.ensures)))
+    (lending_done at.table (nothing_answer _ (sym c.enum_told.given.1 ∙ chosen.next-client.ensures)))
 
 pub lend_spec : {M : Type 1} → statement M
 lend_spec =

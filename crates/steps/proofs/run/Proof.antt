@@ -26,10 +26,10 @@ start c = (first c).before.before
 after_one : (c : tie.After-grow) → One c.before.before.args.table.now c.grow.new.0
 after_one c = one _ _ c.before.before.requires.0 c.grow.ensures
 
-after_two : (c : tie.After-serve-all) → let s = (start c).args in let made = c.serve_all in Two s.table.now s.first.now s.second.now made.new.0 made.new.1.0 made.new.1.1.0 made.result
-after_two c = two _ _ _ _ _ _ _ _ (after_one (first c)) (first c).grow.ensures c.serve_all.ensures
+after_two : (c : tie.After-serve-all) → let s = (start c).args in let made = c.serve-all in Two s.table.now s.first.now s.second.now made.new.0 made.new.1.0 made.new.1.1.0 made.result
+after_two c = two _ _ _ _ _ _ _ _ (after_one (first c)) (first c).grow.ensures c.serve-all.ensures
 
-after_three : (c : tie.After-cut) → let s = (start (second c)).args in let made = (second c).serve_all in Three s.table.now s.first.now s.second.now c.cut.new.0 made.last.1.0 made.last.1.1.0 made.result
+after_three : (c : tie.After-cut) → let s = (start (second c)).args in let made = (second c).serve-all in Three s.table.now s.first.now s.second.now c.cut.new.0 made.last.1.0 made.last.1.1.0 made.result
 after_three c = three _ _ _ _ _ _ _ _ (after_two (second c)) c.cut.ensures
 
 grow_requires : tie.Need-grow-requires

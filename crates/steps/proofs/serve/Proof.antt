@@ -16,14 +16,14 @@ use Rattle.steps.proofs.Serving.{serving_within, served_own, serving_turn, servi
 use Rattle.steps.proofs.serve.Statement.{statement}
 use Rattle.steps.proofs.serve.Tie as tie
 
-abbrev invariant_loop : tie.invariant_loop
+abbrev invariant_loop : tie.invariant-loop
 invariant_loop table₀ first₀ second₀ k n table first second written =
     (length table ≡ length table₀)
     × (length first ≡ length first₀)
     × (length second ≡ length second₀)
     × Going Serving (serving k) table₀ first₀ second₀ n table first second written
 
-abbrev decreases_loop : tie.decreases_loop
+abbrev decreases_loop : tie.decreases-loop
 decreases_loop table₀ first₀ second₀ k n table first second written = waiting table k
 
 loop_holds : tie.Need-loop-init invariant_loop decreases_loop

@@ -16,7 +16,7 @@ use Rattle.steps.proofs.Serving.{passed}
 use Rattle.steps.proofs.serve_all.Statement.{statement}
 use Rattle.steps.proofs.serve_all.Tie as tie
 
-abbrev invariant_loop : tie.invariant_loop
+abbrev invariant_loop : tie.invariant-loop
 invariant_loop table₀ first₀ second₀ written₀ k₀ table first second written k =
     (k ≤ nodes)
     × (length table ≡ length table₀)
@@ -24,7 +24,7 @@ invariant_loop table₀ first₀ second₀ written₀ k₀ table first second wr
     × (length second ≡ length second₀)
     × Shows (port table₀) first₀ second₀ (for_below k serving (record { table = table₀; entries = [] })) table first second written
 
-abbrev decreases_loop : tie.decreases_loop
+abbrev decreases_loop : tie.decreases-loop
 decreases_loop table₀ first₀ second₀ written₀ k₀ table first second written k = nodes - k
 
 -- From the call back to the loop.

@@ -4,7 +4,7 @@ use mathlib.Core.Path.{◌≡◌, sym, ◌∙◌}
 use mathlib.Core.Bool.{true}
 use native.Mathlib.Omega.{arith}
 use borrow.Author.Rules.{rules}
-use borrow.Author.Tests.{not_true, not_false}
+use borrow.Author.Tests.{not-true, not-false}
 use Rattle.numbers.proofs.Tests.{true_false}
 use Rattle.definitions.specs.Limits.{nodes}
 use Rattle.definitions.specs.Tree.{tree_of, there}
@@ -17,7 +17,7 @@ start c = c.before.before
 
 -- The node is there, and its parent is a node's number.
 here : (c : tie.Else1) → there (tree_of (start c).args.table.now) (start c).args.k ≡ true
-here c = sym c.before.there.ensures ∙ not_false _ c.if1.false
+here c = sym c.before.there.ensures ∙ not-false _ c.if1.false
 
 parent : (c : tie.After-natural) → c.natural.result < nodes
 unfolding tree_of
@@ -27,7 +27,7 @@ there_requires : tie.Need-there-requires
 there_requires c κs = search rules
 
 returns : tie.Need-returns
-returns c = sums_same _ _ _ _ (λ e. absurd (true_false e (sym c.before.there.ensures ∙ not_true _ c.if1.true))) c.before.before.requires.4
+returns c = sums_same _ _ _ _ (λ e. absurd (true_false e (sym c.before.there.ensures ∙ not-true _ c.if1.true))) c.before.before.requires.4
 
 natural_requires : tie.Need-natural-requires
 natural_requires c κs = search rules
@@ -52,7 +52,7 @@ unfolding tree_of
 returns_2 c =
     let known = c.before.before.before in
     let pre = (start known.before).requires in
-    rw c.add_to.ensures (sums_next _ _ _ _ known.natural.result _ (here known.before) (λ e. omega arith) (sym known.natural.ensures) (parent known) c.before.term.ensures pre.4)
+    rw c.add-to.ensures (sums_next _ _ _ _ known.natural.result _ (here known.before) (λ e. omega arith) (sym known.natural.ensures) (parent known) c.before.term.ensures pre.4)
 
 pub add_node_spec : {M : Type 1} → statement M
 add_node_spec =

@@ -7,7 +7,7 @@ use mathlib.Core.List.{List}
 use native.Mathlib.Omega.{arith}
 use lib.ListN.{get_or, set}
 use borrow.Author.Rules.{rules}
-use borrow.Author.Tests.{not_true, not_false}
+use borrow.Author.Tests.{not-true, not-false}
 use Rattle.numbers.proofs.Tests.{true_false}
 use Rattle.definitions.specs.Limits.{nodes}
 use Rattle.definitions.specs.Tree.{tree_of, there}
@@ -22,7 +22,7 @@ start c = c.before.before
 
 -- The node is there, and its parent is a node's number.
 here : (c : tie.Else1) → there (tree_of (start c).args.table.now) (start c).args.k ≡ true
-here c = sym c.before.there.ensures ∙ not_false _ c.if1.false
+here c = sym c.before.there.ensures ∙ not-false _ c.if1.false
 
 parent : (c : tie.After-natural) → c.natural.result < nodes
 unfolding tree_of
@@ -68,7 +68,7 @@ there_requires c κs = search rules
 returns : tie.Need-returns
 returns c =
     let pre = c.before.before.requires in
-    let gone = sym c.before.there.ensures ∙ not_true _ c.if1.true in
+    let gone = sym c.before.there.ensures ∙ not-true _ c.if1.true in
     (sums_same _ _ _ _ (λ e. absurd (true_false e gone)) pre.6, sums_same _ _ _ _ (λ e. absurd (true_false e gone)) pre.7)
 
 natural_requires : tie.Need-natural-requires
@@ -93,13 +93,13 @@ returns_2 : tie.Need-returns-2
 returns_2 c =
     let known = c.before.before.before in
     let pre = (at known).requires in
-    (rw c.add_to.ensures (added known _ _ (omega (arith, pre.5, known.before.term.ensures, known.term2.ensures)) pre.6), sums_same _ _ _ _ (λ e. omega (arith, pre.5, known.before.term.ensures, known.term2.ensures)) pre.7)
+    (rw c.add-to.ensures (added known _ _ (omega (arith, pre.5, known.before.term.ensures, known.term2.ensures)) pre.6), sums_same _ _ _ _ (λ e. omega (arith, pre.5, known.before.term.ensures, known.term2.ensures)) pre.7)
 
 returns_3 : tie.Need-returns-3
 returns_3 c =
     let known = c.before.before.before in
     let pre = (at known).requires in
-    (sums_same _ _ _ _ (λ e. omega (arith, pre.5, known.before.term.ensures, known.term2.ensures)) pre.6, rw c.add_to2.ensures (added known _ _ (omega (arith, pre.5, known.before.term.ensures, known.term2.ensures)) pre.7))
+    (sums_same _ _ _ _ (λ e. omega (arith, pre.5, known.before.term.ensures, known.term2.ensures)) pre.6, rw c.add-to2.ensures (added known _ _ (omega (arith, pre.5, known.before.term.ensures, known.term2.ensures)) pre.7))
 
 pub add_one_of_spec : {M : Type 1} → statement M
 add_one_of_spec =

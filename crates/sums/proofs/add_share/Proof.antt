@@ -4,7 +4,7 @@ use mathlib.Core.Path.{◌≡◌, sym, ◌∙◌}
 use mathlib.Core.Bool.{true}
 use native.Mathlib.Omega.{arith}
 use borrow.Author.Rules.{rules}
-use borrow.Author.Tests.{not_true, not_false}
+use borrow.Author.Tests.{not-true, not-false}
 use Rattle.definitions.specs.Limits.{nodes, kinds}
 use Rattle.definitions.specs.Tree.{tree_of, there}
 use Rattle.sums.proofs.NodeByNode.{share_sums_small, share_sums_same, share_sums_next}
@@ -16,7 +16,7 @@ start c = c.before.before
 
 -- The node is there, its parent is a node's number, and its kind one of the three.
 here : (c : tie.Else1) → there (tree_of (start c).args.table.now) (start c).args.k ≡ true
-here c = sym c.before.there.ensures ∙ not_false _ c.if1.false
+here c = sym c.before.there.ensures ∙ not-false _ c.if1.false
 
 parent : (c : tie.After-natural) → c.natural.result < nodes
 unfolding tree_of
@@ -30,7 +30,7 @@ there_requires : tie.Need-there-requires
 there_requires c κs = search rules
 
 returns : tie.Need-returns
-returns c = share_sums_same _ _ _ (sym c.before.there.ensures ∙ not_true _ c.if1.true) c.before.before.requires.4
+returns c = share_sums_same _ _ _ (sym c.before.there.ensures ∙ not-true _ c.if1.true) c.before.before.requires.4
 
 natural_requires : tie.Need-natural-requires
 natural_requires c κs = search rules
@@ -45,7 +45,7 @@ mul_shares : tie.Need-overflow-mul-shares
 mul_shares c = search rules
 
 element_copy_out_shares : tie.Need-element-copy-out-shares
-element_copy_out_shares c = c.sum_at.ensures.1
+element_copy_out_shares c = c.sum-at.ensures.1
 
 natural_requires_3 : tie.Need-natural-requires-3
 natural_requires_3 c κs = search rules
@@ -63,21 +63,21 @@ add_shares c =
       arith,
       c.natural3.ensures,
       s.pre.1.small _ s.pre.3 (here d.before.before) (λ e. omega arith),
-      share_sums_small _ s.pre.1 s.args.k (omega arith) _ s.pre.4 _ _ _ (parent d.before) (kind d) c.before.before.sum_at.ensures.0,
+      share_sums_small _ s.pre.1 s.args.k (omega arith) _ s.pre.4 _ _ _ (parent d.before) (kind d) c.before.before.sum-at.ensures.0,
     )
 
 mul_shares_2 : tie.Need-overflow-mul-shares-2
 mul_shares_2 c = search rules
 
 element_write_shares : tie.Need-element-write-shares
-element_write_shares c = c.before.before.sum_at.ensures.1
+element_write_shares c = c.before.before.sum-at.ensures.1
 
 returns_2 : tie.Need-returns-2
 unfolding tree_of
 returns_2 c =
     let d = known c in
     let s = start d.before.before in
-    share_sums_next _ _ _ _ _ _ _ (here d.before.before) (λ e. omega arith) (sym d.before.natural.ensures) (parent d.before) (sym d.natural2.ensures) (kind d) c.before.before.sum_at.ensures.0 c.natural3.ensures s.pre.4
+    share_sums_next _ _ _ _ _ _ _ (here d.before.before) (λ e. omega arith) (sym d.before.natural.ensures) (parent d.before) (sym d.natural2.ensures) (kind d) c.before.before.sum-at.ensures.0 c.natural3.ensures s.pre.4
 
 pub add_share_spec : {M : Type 1} → statement M
 add_share_spec =

@@ -10,7 +10,7 @@ sum_with_requires : tie.Need-sum-with-requires
 sum_with_requires c κs = search rules
 
 returns : tie.Need-returns
-returns c = ap (ltb whole_share) c.sum_with.ensures
+returns c = ap (ltb whole_share) c.sum-with.ensures
 
 pub shares_above_spec : {M : Type 1} → statement M
 shares_above_spec = tie.close (tie.spec sum_with_requires returns)

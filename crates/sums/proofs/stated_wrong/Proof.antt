@@ -2,7 +2,7 @@
 use Prim.Native.Nat.{ℕ, ◌+◌, ◌-◌}
 use mathlib.Core.Path.{◌≡◌, sym, ap, ap₂, ◌∙◌}
 use mathlib.Core.Bool.{Bool, false, not, ◌&&◌, ◌||◌}
-use borrow.Author.Tests.{eq_eqb, ne_eqb}
+use borrow.Author.Tests.{eq-eqb, ne_eqb}
 use lib.Dec.{eqb, ltb}
 use Rattle.numbers.proofs.Tests.{cond_true}
 use Rattle.definitions.specs.Limits.{root, stated}
@@ -31,10 +31,10 @@ returns_2 : tie.Need-returns-2
 unfolding stated_wrong_with rate
 returns_2 c =
     let start = c.before.before.before in
-    let here = eq_eqb start.args.kind stated c.before.before.if1.false in
+    let here = eq-eqb start.args.kind stated c.before.before.if1.false in
     ap₂ (λ (r sum : ℕ). not (eqb start.args.c root) || ltb r sum)
     c.natural.ensures
-    (c.before.sum_with.ensures ∙ ap (λ (n : ℕ). stated_sum (tree_of start.args.table.now) root + n - start.args.old) (cond_true _ start.args.share 0 here))
+    (c.before.sum-with.ensures ∙ ap (λ (n : ℕ). stated_sum (tree_of start.args.table.now) root + n - start.args.old) (cond_true _ start.args.share 0 here))
     ∙ sym (ap (λ (b : Bool). b && (not (eqb start.args.c root) || ltb (rate start.args.table.now root) (stated_sum (tree_of start.args.table.now) root + start.args.share - start.args.old))) here)
 
 pub stated_wrong_spec : {M : Type 1} → statement M

@@ -10,10 +10,10 @@ use Rattle.sums.proofs.NodeByNode.{under_start, under_next, under_end, under_sma
 use Rattle.sums.proofs.sum_under.Statement.{statement}
 use Rattle.sums.proofs.sum_under.Tie as tie
 
-abbrev invariant_loop : tie.invariant_loop
+abbrev invariant_loop : tie.invariant-loop
 invariant_loop table which c sum₀ k₀ sum k = (k ≤ nodes) × (sum ≡ under_below k (tree_of table) c (term which table))
 
-abbrev decreases_loop : tie.decreases_loop
+abbrev decreases_loop : tie.decreases-loop
 decreases_loop table which c sum₀ k₀ sum k = nodes - k
 
 loop_holds : tie.Need-loop-init invariant_loop decreases_loop

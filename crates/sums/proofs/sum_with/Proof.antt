@@ -2,8 +2,8 @@
 use mathlib.Core.Path.{◌≡◌, sym, ap, ap₂, ◌∙◌}
 use Prim.Native.Nat.{ℕ, ◌+◌, ◌-◌, ◌^◌, ◌≤◌}
 use native.Mathlib.Omega.{arith}
-use native.Mathlib.Nat.{add_zero}
-use borrow.Author.Tests.{eq_eqb, ne_eqb}
+use native.Mathlib.Nat.{add-zero}
+use borrow.Author.Tests.{eq-eqb, ne_eqb}
 use Rattle.numbers.proofs.Tests.{cond_true, cond_false}
 use Rattle.definitions.specs.Limits.{nodes}
 use Rattle.definitions.specs.Tree.{tree_of}
@@ -19,16 +19,16 @@ sum_under_requires : tie.Need-sum-under-requires
 sum_under_requires c κs = search rules
 
 -- The sum is that of the shares of the kind, and leaves room for one more.
-sum : (c : tie.After-sum-under) → c.sum_under.result ≡ kind_sum (tree_of c.before.args.table.now) c.before.args.summed c.before.args.c
+sum : (c : tie.After-sum-under) → c.sum-under.result ≡ kind_sum (tree_of c.before.args.table.now) c.before.args.summed c.before.args.c
 unfolding term kind_sum
-sum c = c.sum_under.ensures
+sum c = c.sum-under.ensures
 
-small : (c : tie.After-sum-under) → c.sum_under.result ≤ 2 ^ 63
+small : (c : tie.After-sum-under) → c.sum-under.result ≤ 2 ^ 63
 small c =
     let s = c.before in
     let which = Shares s.args.summed in
     let t = s.args.table.now in
-    omega (arith, c.sum_under.ensures, under_small which t s.requires.1 nodes s.args.c (omega arith), under_end (tree_of t) s.args.c (term which t))
+    omega (arith, c.sum-under.ensures, under_small which t s.requires.1 nodes s.args.c (omega arith), under_end (tree_of t) s.args.c (term which t))
 
 add_result : tie.Need-overflow-add-result
 add_result c = omega (arith, small c.before, c.before.before.requires.3)
@@ -41,7 +41,7 @@ returns c =
     let start = c.before.before in
     ap₂ (λ (n share : ℕ). n + share - start.args.old)
     (sum c.before)
-    (sym (cond_true _ start.args.share 0 (eq_eqb start.args.kind start.args.summed c.if1.true)))
+    (sym (cond_true _ start.args.share 0 (eq-eqb start.args.kind start.args.summed c.if1.true)))
 
 sub_result_2 : tie.Need-overflow-sub-result-2
 sub_result_2 c = omega (arith, sum c.before, c.before.before.requires.2)
@@ -49,7 +49,7 @@ sub_result_2 c = omega (arith, sum c.before, c.before.before.requires.2)
 returns_2 : tie.Need-returns-2
 returns_2 c =
     let start = c.before.before in
-    ap (λ (n : ℕ). n - start.args.old) (sym (add_zero c.before.sum_under.result))
+    ap (λ (n : ℕ). n - start.args.old) (sym (add-zero c.before.sum-under.result))
     ∙ ap₂ (λ (n share : ℕ). n + share - start.args.old)
     (sum c.before)
     (sym (cond_false _ start.args.share 0 (ne_eqb start.args.kind start.args.summed c.if1.false)))

@@ -1,6 +1,6 @@
 -- `sums::term` meets its contract, case by case.
 use mathlib.Core.Path.{ap, ◌∙◌}
-use mir.Facts.{to_z_of_z}
+use mir.Facts.{to_z-of_z}
 use borrow.Author.Rules.{sfits_of}
 use Rattle.numbers.specs.Whole.{minus}
 use Rattle.definitions.specs.Places.{rate, balance}
@@ -53,17 +53,17 @@ returns_2 c = rw c.before.enum_told.given.1 c.natural.ensures
 
 returns_3 : tie.Need-returns-3
 unfolding term rate
-returns_3 c = rw c.before.enum_told2.given.1 c.natural2.ensures
+returns_3 c = rw c.before.enum-told2.given.1 c.natural2.ensures
 
 returns_4 : tie.Need-returns-4
 unfolding term balance
-returns_4 c = rw c.before.enum_told3.given.1 c.natural3.ensures
+returns_4 c = rw c.before.enum-told3.given.1 c.natural3.ensures
 
 returns_5 : tie.Need-returns-5
 unfolding term balance
 returns_5 c =
     let got = c.before.get in
-    rw c.before.before.enum_told4.given.1 (c.negative.ensures ∙ ap minus (to_z_of_z (sfits_of got.type_inv) ∙ got.ensures))
+    rw c.before.before.enum-told4.given.1 (c.negative.ensures ∙ ap minus (to_z-of_z (sfits_of got.type-inv) ∙ got.ensures))
 
 pub term_spec : {M : Type 1} → statement M
 term_spec =

@@ -16,7 +16,7 @@ returns c =
     let second = third.before.before in
     let first = second.before.before in
     let shares = first.before.args.shares.now in
-    (ap (sum_in shares) first.sum_at.ensures.0, ap (sum_in shares) second.sum_at2.ensures.0, ap (sum_in shares) third.sum_at3.ensures.0)
+    (ap (sum_in shares) first.sum-at.ensures.0, ap (sum_in shares) second.sum-at2.ensures.0, ap (sum_in shares) third.sum-at3.ensures.0)
 
 pub under_spec : {M : Type 1} → statement M
 under_spec =

@@ -2,7 +2,7 @@
 use mathlib.Core.Path.{◌∙◌, ap₂}
 use lib.Signed.{le_z}
 use mir.Syntax.{w64}
-use mir.ValLaws.{to_z_of_z}
+use mir.ValLaws.{to_z-of_z}
 use borrow.Author.Rules.{rules, sfits_of}
 use Rattle.definitions.specs.Places.{balance}
 use Rattle.definitions.specs.Tick.{enough}
@@ -23,8 +23,8 @@ unfolding enough balance
 returns c =
     c.at_most.ensures
     ∙ ap₂ le_z
-    (to_z_of_z w64 _ (sfits_of c.before.before.whole.type_inv) ∙ c.before.before.whole.ensures)
-    (to_z_of_z w64 _ (sfits_of c.before.get.type_inv) ∙ c.before.get.ensures)
+    (to_z-of_z w64 _ (sfits_of c.before.before.whole.type-inv) ∙ c.before.before.whole.ensures)
+    (to_z-of_z w64 _ (sfits_of c.before.get.type-inv) ∙ c.before.get.ensures)
 
 pub enough_spec : {M : Type 1} → statement M
 enough_spec = tie.close (tie.spec whole_requires get_requires at_most_requires returns)

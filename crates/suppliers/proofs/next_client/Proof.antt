@@ -3,7 +3,7 @@
 use Prim.Native.Nat.{◌-◌, ◌≤◌}
 use mathlib.Core.Path.{◌≡◌, refl, sym, ◌∙◌}
 use native.Mathlib.Omega.{arith}
-use borrow.Author.Tests.{not_true, not_false}
+use borrow.Author.Tests.{not-true, not-false}
 use borrow.Author.Rules.{rules}
 use Rattle.numbers.specs.Below.{for_below}
 use Rattle.numbers.proofs.Steps.{turned}
@@ -15,11 +15,11 @@ use Rattle.suppliers.proofs.Answer.{answer_nothing, answer_client}
 use Rattle.suppliers.proofs.next_client.Statement.{statement}
 use Rattle.suppliers.proofs.next_client.Tie as tie
 
-abbrev invariant_clients : tie.invariant_clients
+abbrev invariant_clients : tie.invariant-clients
 invariant_clients table best₀ supplier₀ least₀ lowest₀ k₀ best supplier least lowest k =
     (k ≤ nodes) × (best ≤ nobody) × (best ≡ for_below k (choice table) nobody) × Held table best supplier least lowest
 
-abbrev decreases_clients : tie.decreases_clients
+abbrev decreases_clients : tie.decreases-clients
 decreases_clients table best₀ supplier₀ least₀ lowest₀ k₀ best supplier least lowest k = nodes - k
 
 -- From the waiting count back to the loop, from the search for a supplier to that count, and from the test to that search.
@@ -73,7 +73,7 @@ clients_again_2 c =
     let here = at (counted found) in
     let at = here.clients in
     let t = here.before.args.table.now in
-    (omega arith, at.inv.1, turned at.k (choice t) nobody at.best at.best at.inv.2 (sym (unsupplied t at.k at.best (sym c.enum_told.given.1 ∙ found.supplier_of.ensures))), at.inv.3)
+    (omega arith, at.inv.1, turned at.k (choice t) nobody at.best at.best at.inv.2 (sym (unsupplied t at.k at.best (sym c.enum_told.given.1 ∙ found.supplier-of.ensures))), at.inv.3)
 
 add_natural : tie.Need-overflow-add-natural invariant_clients decreases_clients
 add_natural c = omega arith
@@ -98,7 +98,7 @@ unfolding arrival
 met c =
     record {
       held = (at (counted (searched c))).clients.inv.3;
-      supply = sym c.before.before.before.node.given.1 ∙ (searched c).supplier_of.ensures;
+      supply = sym c.before.before.before.node.given.1 ∙ (searched c).supplier-of.ensures;
       number = c.before.natural2.ensures;
     }
 
@@ -107,7 +107,7 @@ clients_again_3 c =
     let here = at (counted (searched c.before)) in
     let at = here.clients in
     let t = here.before.args.table.now in
-    let stays = later _ _ _ _ _ _ _ _ _ (met c.before) _ c.before.goes_first.ensures (not_true _ c.if2.true) in
+    let stays = later _ _ _ _ _ _ _ _ _ (met c.before) _ c.before.goes_first.ensures (not-true _ c.if2.true) in
     (omega arith, at.inv.1, turned at.k (choice t) nobody at.best at.best at.inv.2 (sym stays), at.inv.3)
 
 add_k_4 : tie.Need-overflow-add-k-4 invariant_clients decreases_clients
@@ -124,7 +124,7 @@ clients_again_4 c =
     let at = here.clients in
     let t = here.before.args.table.now in
     let goes =
-    taken _ _ _ _ _ _ _ _ _ (met c.before) _ c.before.goes_first.ensures (not_false _ c.if2.false)
+    taken _ _ _ _ _ _ _ _ _ (met c.before) _ c.before.goes_first.ensures (not-false _ c.if2.false)
     (λ e. (searched c.before).before.if1.left (count.natural.ensures ∙ e))
     in
     (omega arith, omega arith, turned at.k (choice t) nobody at.best at.k at.inv.2 (sym goes), held_next _ _ _ _ _ _ _ _ _ (met c.before))

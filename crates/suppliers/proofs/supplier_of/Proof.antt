@@ -12,14 +12,14 @@ use Rattle.suppliers.proofs.Way.{supplier_here, supplier_none, supplier_above}
 use Rattle.suppliers.proofs.supplier_of.Statement.{statement}
 use Rattle.suppliers.proofs.supplier_of.Tie as tie
 
-abbrev invariant_loop : tie.invariant_loop
+abbrev invariant_loop : tie.invariant-loop
 invariant_loop table k amount level₀ node₀ steps₀ level node steps =
     (node < nodes)
     × (steps + level ≤ last_level)
     × (amount ≡ grains (size table k 0))
     × (supplier_from table amount steps level node ≡ supply table k)
 
-abbrev decreases_loop : tie.decreases_loop
+abbrev decreases_loop : tie.decreases-loop
 decreases_loop table k amount level₀ node₀ steps₀ level node steps = level
 
 -- From the loop back to the start, and from a node without enough to the loop.

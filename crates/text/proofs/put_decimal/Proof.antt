@@ -33,7 +33,7 @@ returns c =
     let put = c.before.before in
     let digits = put.before.before.before in
     let start = digits.before.before.before.args in
-    append_as _ _ _ _ _ _ (digits.decimal.ensures.1.1 ∙ fewest_decimal start.n digits.decimal.result (small digits) digits.decimal.ensures.1.0) put.put_text.ensures
+    append_as _ _ _ _ _ _ (digits.decimal.ensures.1.1 ∙ fewest_decimal start.n digits.decimal.result (small digits) digits.decimal.ensures.1.0) put.put-text.ensures
 
 pub put_decimal_spec : {M : Type 1} → statement M
 put_decimal_spec =

@@ -43,7 +43,7 @@ returns c =
     let second = number end.before in
     let first = word second in
     let n = (start first).args.number in
-    append_more _ _ _ _ _ _ _ _ (omega arith) first.put_text.ensures (append_more _ _ _ _ _ _ _ _ (omega (arith, decimal_short n)) second.put_decimal.ensures end.put_text2.ensures)
+    append_more _ _ _ _ _ _ _ _ (omega arith) first.put-text.ensures (append_more _ _ _ _ _ _ _ _ (omega (arith, decimal_short n)) second.put-decimal.ensures end.put-text2.ensures)
 
 pub put_refused_spec : {M : Type 1} → statement M
 put_refused_spec =

@@ -2,7 +2,7 @@
 use Prim.Native.Nat.{◌-◌, ◌≤◌}
 use mathlib.Core.Path.{◌≡◌, refl, sym, ap, ◌∙◌}
 use native.Mathlib.Omega.{arith}
-use lib.ListN.{length, take, length_set}
+use lib.ListN.{length, take, length-set}
 use lib.Seq.{take_all}
 use Rattle.planformat.specs.Written.{written}
 use Rattle.planformat.proofs.Written.{written_none}
@@ -10,11 +10,11 @@ use Rattle.text.proofs.Appending.{copied_next}
 use Rattle.text.proofs.put_text.Statement.{statement}
 use Rattle.text.proofs.put_text.Tie as tie
 
-abbrev invariant_loop : tie.invariant_loop
+abbrev invariant_loop : tie.invariant-loop
 invariant_loop text₀ a piece i₀ text i =
     (i ≤ length piece) × (text ≡ written text₀ a (take i piece)) × (length text ≡ length text₀)
 
-abbrev decreases_loop : tie.decreases_loop
+abbrev decreases_loop : tie.decreases-loop
 decreases_loop text₀ a piece i₀ text i = length piece - i
 
 loop_holds : tie.Need-loop-init invariant_loop decreases_loop
@@ -41,7 +41,7 @@ loop_again c =
     let start = at.before.args in (
       omega arith,
       copied_next start.text.now start.a start.piece.now at.loop.text at.loop.i (omega arith) (omega arith) at.loop.invariant.2 at.loop.invariant.1,
-      length_set at.loop.text _ _ ∙ at.loop.invariant.2,
+      length-set at.loop.text _ _ ∙ at.loop.invariant.2,
     )
 
 add_result : tie.Need-overflow-add-result invariant_loop decreases_loop

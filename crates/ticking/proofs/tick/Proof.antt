@@ -7,7 +7,7 @@ use borrow.Author.Rules.{rules, sfits_of}
 use lib.ListN.{length}
 use lib.IntN.{ℤ, pos}
 use mir.Syntax.{w64}
-use mir.ValLaws.{to_z_of_z}
+use mir.ValLaws.{to_z-of_z}
 use Rattle.definitions.specs.Limits.{nodes, most_waiting, entry_length, first_port, second_port}
 use Rattle.answers.specs.Answers.{told_ticked}
 use Rattle.definitions.specs.Refusals.{accepted, refused}
@@ -27,8 +27,8 @@ abbrev past : tie.After-run → tie.Else1
 past c = c.before.before.before.before
 
 -- The number is that of the definition.
-number : (c : tie.After-tick-refusal) → let s = (start c).args in c.tick_refusal.result ≡ tick_refusal s.table.now s.first.now s.second.now
-number c = c.tick_refusal.ensures.0
+number : (c : tie.After-tick-refusal) → let s = (start c).args in c.tick-refusal.result ≡ tick_refusal s.table.now s.first.now s.second.now
+number c = c.tick-refusal.ensures.0
 
 none : (c : tie.Else1) → let s = (start c.before).args in tick_refusal s.table.now s.first.now s.second.now ≡ 0
 none c = omega (arith, number c.before, c.if1.false)
@@ -71,8 +71,8 @@ returns : tie.Need-returns
 unfolding told_ticked tick_answer tick_table tick_first tick_second
 returns c =
     let same = number c.before.before in
-    let some : c.before.before.tick_refusal.result ≡ 0 → ⊥ = λ e. omega (arith, c.before.if1.true) in (
-      ap refused (c.refusal_of.ensures ∙ same) ∙ sym (outcome_refused _ _ (λ e. some (same ∙ e))),
+    let some : c.before.before.tick-refusal.result ≡ 0 → ⊥ = λ e. omega (arith, c.before.if1.true) in (
+      ap refused (c.refusal-of.ensures ∙ same) ∙ sym (outcome_refused _ _ (λ e. some (same ∙ e))),
       (
         sym (kept_old _ _ _ (λ e. some (same ∙ e))),
         (sym (kept_old _ _ _ (λ e. some (same ∙ e))), sym (kept_old _ _ _ (λ e. some (same ∙ e)))),
@@ -104,8 +104,8 @@ returns_2 c =
     let zero = none (past made) in
     let done = made.run.ensures in (
       values
-          (to_z_of_z w64 c.before.whole.result (sfits_of c.before.whole.type_inv) ∙ c.before.whole.ensures ∙ ap pos (counted _ first_port _ done.1.1.1.0))
-          (to_z_of_z w64 c.whole2.result (sfits_of c.whole2.type_inv) ∙ c.whole2.ensures ∙ ap pos (counted _ second_port _ done.1.1.1.1))
+          (to_z-of_z w64 c.before.whole.result (sfits_of c.before.whole.type-inv) ∙ c.before.whole.ensures ∙ ap pos (counted _ first_port _ done.1.1.1.0))
+          (to_z-of_z w64 c.whole2.result (sfits_of c.whole2.type-inv) ∙ c.whole2.ensures ∙ ap pos (counted _ second_port _ done.1.1.1.1))
           ∙ sym (outcome_accepted _ _ zero),
       (
         done.0 ∙ sym (kept_new _ _ _ zero),

@@ -4,7 +4,7 @@ use mathlib.Core.Path.{◌≡◌, sym, ap, ◌∙◌}
 use mathlib.Core.Bool.{true, not}
 use native.Mathlib.Omega.{arith}
 use borrow.Author.Rules.{rules}
-use borrow.Author.Tests.{not_false, lt_ltb, le_ltb}
+use borrow.Author.Tests.{not-false, lt-ltb, le-ltb}
 use lib.ListN.{length}
 use Rattle.definitions.specs.Limits.{nodes, most_waiting, entry_length, first_port, second_port}
 use Rattle.definitions.specs.Order.{in_order}
@@ -19,7 +19,7 @@ abbrev start : tie.After-waiting-by-port → tie.Start
 start c = c.before.before.before
 
 order : (c : tie.Else1) → let s = c.before.before in in_order s.args.table.now ≡ true
-order c = sym c.before.in_order.ensures ∙ not_false _ c.if1.false
+order c = sym c.before.in_order.ensures ∙ not-false _ c.if1.false
 
 in_order_requires : tie.Need-in-order-requires
 in_order_requires c κs = search rules
@@ -32,10 +32,10 @@ waiting_by_port_requires : tie.Need-waiting-by-port-requires
 waiting_by_port_requires c κs = order c
 
 -- Both counts are small.
-small : (c : tie.After-waiting-by-port) → let r = c.waiting_by_port.result in (r.first ≤ nodes * most_waiting) × (r.second ≤ nodes * most_waiting)
+small : (c : tie.After-waiting-by-port) → let r = c.waiting-by-port.result in (r.first ≤ nodes * most_waiting) × (r.second ≤ nodes * most_waiting)
 small c =
     let f = facts _ (order c.before) in
-    let counted = c.waiting_by_port.ensures in
+    let counted = c.waiting-by-port.ensures in
     (omega (arith, few _ f first_port, counted.0), omega (arith, few _ f second_port, counted.1))
 
 mul_if2 : tie.Need-overflow-mul-if2
@@ -46,7 +46,7 @@ unfolding tick_refusal list_short
 returns_2 c =
     let counted = c.before.before in
     let s = (start counted).args in
-    let short = lt_ltb (length s.first.now) (entry_length * port_waiting s.table.now first_port) (omega (arith, c.if2.true, counted.waiting_by_port.ensures.0)) in
+    let short = lt-ltb (length s.first.now) (entry_length * port_waiting s.table.now first_port) (omega (arith, c.if2.true, counted.waiting-by-port.ensures.0)) in
     (sym (first_past 1 _ _ (ap not (order counted.before)) ∙ first_here 13 _ _ (rw short)), omega arith)
 
 mul_if3 : tie.Need-overflow-mul-if3
@@ -57,8 +57,8 @@ unfolding tick_refusal list_short
 returns_3 c =
     let counted = c.before.before.before.before in
     let s = (start counted).args in
-    let long = le_ltb (length s.first.now) (entry_length * port_waiting s.table.now first_port) (omega (arith, c.before.before.if2.false, counted.waiting_by_port.ensures.0)) in
-    let short = lt_ltb (length s.second.now) (entry_length * port_waiting s.table.now second_port) (omega (arith, c.if3.true, counted.waiting_by_port.ensures.1)) in
+    let long = le-ltb (length s.first.now) (entry_length * port_waiting s.table.now first_port) (omega (arith, c.before.before.if2.false, counted.waiting-by-port.ensures.0)) in
+    let short = lt-ltb (length s.second.now) (entry_length * port_waiting s.table.now second_port) (omega (arith, c.if3.true, counted.waiting-by-port.ensures.1)) in
     (sym (first_past 1 _ _ (ap not (order counted.before)) ∙ first_here 13 _ _ (rw (long, short))), omega arith)
 
 returns_4 : tie.Need-returns-4
@@ -66,8 +66,8 @@ unfolding tick_refusal list_short
 returns_4 c =
     let counted = c.before.before.before.before in
     let s = (start counted).args in
-    let long₀ = le_ltb (length s.first.now) (entry_length * port_waiting s.table.now first_port) (omega (arith, c.before.before.if2.false, counted.waiting_by_port.ensures.0)) in
-    let long₁ = le_ltb (length s.second.now) (entry_length * port_waiting s.table.now second_port) (omega (arith, c.if3.false, counted.waiting_by_port.ensures.1)) in
+    let long₀ = le-ltb (length s.first.now) (entry_length * port_waiting s.table.now first_port) (omega (arith, c.before.before.if2.false, counted.waiting-by-port.ensures.0)) in
+    let long₁ = le-ltb (length s.second.now) (entry_length * port_waiting s.table.now second_port) (omega (arith, c.if3.false, counted.waiting-by-port.ensures.1)) in
     (sym (first_past 1 _ _ (ap not (order counted.before)) ∙ first_past 13 _ _ (rw (long₀, long₁)) ∙ first_end), omega arith)
 
 pub tick_refusal_spec : {M : Type 1} → statement M

@@ -4,7 +4,7 @@ use Prim.Native.Nat.{ℕ, ◌*◌, ◌-◌, ◌≤◌, ◌<◌}
 use mathlib.Core.Path.{◌≡◌, refl, ◌∙◌}
 use mathlib.Core.List.{List}
 use native.Mathlib.Omega.{arith}
-use borrow.Author.Tests.{eq_eqb, ne_eqb}
+use borrow.Author.Tests.{eq-eqb, ne_eqb}
 use lib.Dec.{eqb}
 use lib.IntN.{ℤ}
 use Rattle.numbers.specs.Whole.{minus}
@@ -33,7 +33,7 @@ unfolding adds
 times t f k w q hw hq =
     by_port (port t) (ports_small t f) k
     (λ here other. rw (hq ∙ here) (omega (arith, uncounted (eqb (port t k) second_port) (waiting t) k (ne_eqb (port t k) second_port other))))
-    (λ other here. rw (hq ∙ here) (omega (arith, hw, counted (eqb (port t k) second_port) (waiting t) k (eq_eqb (port t k) second_port here))))
+    (λ other here. rw (hq ∙ here) (omega (arith, hw, counted (eqb (port t k) second_port) (waiting t) k (eq-eqb (port t k) second_port here))))
 
 adds_most : (t : List ℤ) → InOrder t → (k : ℕ) → adds t k ≤ waiting t k
 unfolding adds
@@ -42,7 +42,7 @@ adds_most t f k = omega (arith, waits_both t f k)
 not_below : (t : List ℤ) → InOrder t → (k : ℕ) → k < nodes → minus (place t k waiting_at) ≡ 0
 not_below t f k hk = omega (arith, zarith, (queues_of t f).few k hk)
 
-abbrev invariant_loop : tie.invariant_loop
+abbrev invariant_loop : tie.invariant-loop
 invariant_loop table all₀ second₀ k₀ all second k =
     (k ≤ nodes)
     × (all ≤ most_waiting * k)
@@ -50,7 +50,7 @@ invariant_loop table all₀ second₀ k₀ all second k =
     × (second ≤ all)
     × (second ≡ sum_below k (adds table))
 
-abbrev decreases_loop : tie.decreases_loop
+abbrev decreases_loop : tie.decreases-loop
 decreases_loop table all₀ second₀ k₀ all second k = nodes - k
 
 loop_holds : tie.Need-loop-init invariant_loop decreases_loop

@@ -4,7 +4,7 @@ use mathlib.Core.Path.{◌≡◌, sym, ◌∙◌}
 use mathlib.Core.Bool.{true}
 use native.Mathlib.Omega.{arith}
 use borrow.Author.Rules.{rules}
-use borrow.Author.Tests.{not_true, not_false}
+use borrow.Author.Tests.{not-true, not-false}
 use Rattle.definitions.specs.Limits.{nodes, kinds}
 use Rattle.definitions.specs.Tree.{tree_of, there}
 use Rattle.sums.proofs.NodeByNode.{share_sums_small, share_sums_same, share_sums_next}
@@ -18,7 +18,7 @@ start c = c.before.before
 
 -- The node is there, its parent is a node's number, and its kind one of the three.
 here : (c : tie.Else1) → there (tree_of (start c).args.plan.now) (start c).args.k ≡ true
-here c = sym c.before.there.ensures ∙ not_false _ c.if1.false
+here c = sym c.before.there.ensures ∙ not-false _ c.if1.false
 
 parent : (c : tie.After-natural) → c.natural.result < nodes
 unfolding tree_of
@@ -33,7 +33,7 @@ there_requires c κs = search rules
 
 returns : tie.Need-returns
 unfolding cell_tree there
-returns c = share_sums_same _ _ _ (sym c.before.there.ensures ∙ not_true _ c.if1.true) c.before.before.requires.5
+returns c = share_sums_same _ _ _ (sym c.before.there.ensures ∙ not-true _ c.if1.true) c.before.before.requires.5
 
 natural_requires : tie.Need-natural-requires
 natural_requires c κs = search rules
@@ -48,7 +48,7 @@ mul_sums : tie.Need-overflow-mul-sums
 mul_sums c = search rules
 
 element_copy_out_sums : tie.Need-element-copy-out-sums
-element_copy_out_sums c = c.sum_at.ensures.1
+element_copy_out_sums c = c.sum-at.ensures.1
 
 share_at_requires : tie.Need-share-at-requires
 share_at_requires c κs =
@@ -68,23 +68,23 @@ add_sums c =
     let fit = cells_shareable s.args.plan.now s.args.part.now s.args.j s.pre.0 s.pre.1 s.pre.2 in
     omega (
       arith,
-      c.share_at.ensures,
+      c.share-at.ensures,
       fit.small _ s.pre.4 (here d.before.before) (λ e. omega arith),
-      share_sums_small tree fit s.args.k (omega arith) _ s.pre.5 _ _ _ (parent d.before) (kind d) c.before.before.sum_at.ensures.0,
+      share_sums_small tree fit s.args.k (omega arith) _ s.pre.5 _ _ _ (parent d.before) (kind d) c.before.before.sum-at.ensures.0,
     )
 
 mul_sums_2 : tie.Need-overflow-mul-sums-2
 mul_sums_2 c = search rules
 
 element_write_sums : tie.Need-element-write-sums
-element_write_sums c = c.before.before.sum_at.ensures.1
+element_write_sums c = c.before.before.sum-at.ensures.1
 
 returns_2 : tie.Need-returns-2
 unfolding cell_tree there tree_of
 returns_2 c =
     let d = known c in
     let s = start d.before.before in
-    share_sums_next (cell_tree (tree_of s.args.plan.now) s.args.part.now s.args.j) _ _ _ _ _ _ (here d.before.before) (λ e. omega arith) (sym d.before.natural.ensures) (parent d.before) (sym d.natural2.ensures) (kind d) c.before.before.sum_at.ensures.0 c.share_at.ensures s.pre.5
+    share_sums_next (cell_tree (tree_of s.args.plan.now) s.args.part.now s.args.j) _ _ _ _ _ _ (here d.before.before) (λ e. omega arith) (sym d.before.natural.ensures) (parent d.before) (sym d.natural2.ensures) (kind d) c.before.before.sum-at.ensures.0 c.share-at.ensures s.pre.5
 
 pub add_node_spec : {M : Type 1} → statement M
 add_node_spec =

@@ -8,10 +8,10 @@ use Rattle.sums.specs.Sums.{ShareSums}
 use Rattle.week.proofs.add_nodes.Statement.{statement}
 use Rattle.week.proofs.add_nodes.Tie as tie
 
-abbrev invariant_loop : tie.invariant_loop
+abbrev invariant_loop : tie.invariant-loop
 invariant_loop plan part j sums₀ k₀ sums k = (0 < k) × (k ≤ nodes) × ShareSums (cell_tree (tree_of plan) part j) k sums
 
-abbrev decreases_loop : tie.decreases_loop
+abbrev decreases_loop : tie.decreases-loop
 decreases_loop plan part j sums₀ k₀ sums k = nodes - k
 
 loop_holds : tie.Need-loop-init invariant_loop decreases_loop
@@ -30,7 +30,7 @@ loop_less : tie.Need-loop-smaller invariant_loop decreases_loop
 loop_less c = omega arith
 
 loop_again : tie.Need-loop-preserved invariant_loop decreases_loop
-loop_again c = (omega arith, omega arith, c.add_node.ensures)
+loop_again c = (omega arith, omega arith, c.add-node.ensures)
 
 returns : tie.Need-returns invariant_loop decreases_loop
 returns c = let end : c.before.loop.k ≡ nodes = omega arith in rw end at c.before.loop.invariant.2

@@ -14,14 +14,14 @@ use Rattle.week.proofs.Minutes.{parts_apart, week_decided}
 use Rattle.week.proofs.judge.Statement.{statement}
 use Rattle.week.proofs.judge.Tie as tie
 
-abbrev invariant_loop : tie.invariant_loop
+abbrev invariant_loop : tie.invariant-loop
 invariant_loop plan windows apart₀ fixed₀ stated₀ n₀ apart fixed stated n =
     (n ≤ week_parts)
     × (apart ≡ all_below n (λ b. all_below (window_count windows) (clear_in windows (b * part_minutes))))
     × (shares_fit (tree_of plan) windows ≡ true → fixed ≡ all_below (n * part_minutes) (within_at fixed_kind whole_share (tree_of plan) windows))
     × (shares_fit (tree_of plan) windows ≡ true → stated ≡ all_below (n * part_minutes) (within_at stated_kind (rate plan root) (tree_of plan) windows))
 
-abbrev decreases_loop : tie.decreases_loop
+abbrev decreases_loop : tie.decreases-loop
 decreases_loop plan windows apart₀ fixed₀ stated₀ n₀ apart fixed stated n = week_parts - n
 
 -- One part more of a test over the minutes.
@@ -51,7 +51,7 @@ loop_again c =
     let args = at.before.args in
     let ws = args.windows.now in
     let tree = tree_of args.plan.now in
-    let part = made.judge_part.ensures in (
+    let part = made.judge-part.ensures in (
       omega arith,
       all_grows at.loop.n (λ b. all_below (window_count ws) (clear_in ws (b * part_minutes))) _ _ at.loop.invariant.1 part.apart,
       (λ fit. next_part at.loop.n (within_at fixed_kind whole_share tree ws) _ _ (at.loop.invariant.2 fit) (part.fixed fit)),

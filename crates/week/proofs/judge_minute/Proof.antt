@@ -17,10 +17,10 @@ sums_within_requires_2 c κs = search rules
 
 returns : tie.Need-returns
 returns c =
-    let sums = c.before.before.before.before.add_nodes.ensures in
+    let sums = c.before.before.before.before.add-nodes.ensures in
     record {
-      fixed = c.before.before.sums_within.ensures ∙ sums_judge _ _ _ _ sums (omega arith);
-      stated = c.sums_within2.ensures ∙ sums_judge _ _ _ _ sums (omega arith);
+      fixed = c.before.before.sums-within.ensures ∙ sums_judge _ _ _ _ sums (omega arith);
+      stated = c.sums-within2.ensures ∙ sums_judge _ _ _ _ sums (omega arith);
     }
 
 pub judge_minute_spec : {M : Type 1} → statement M

@@ -21,10 +21,10 @@ add_windows_requires c κs =
     (refl, refl, start.requires.1, start.requires.2, (λ k j hj. all_alike cell_count (cell_at k j) 0), λ j hj. first_turn start.args.first j)
 
 -- What is asked of the plan and the cells.
-asked : (c : tie.After-add-windows) → let start = c.before.before.before in Shared start.args.plan.now × Small c.add_windows.new.0
+asked : (c : tie.After-add-windows) → let start = c.before.before.before in Shared start.args.plan.now × Small c.add-windows.new.0
 asked c =
     let start = c.before.before.before in
-    (start.requires.0, cells_small start.args.plan.now start.args.windows.now start.args.first c.add_windows.new.0 c.add_windows.ensures.1.0)
+    (start.requires.0, cells_small start.args.plan.now start.args.windows.now start.args.first c.add-windows.new.0 c.add-windows.ensures.1.0)
 
 natural_requires : tie.Need-natural-requires
 natural_requires c κs = search rules
@@ -39,8 +39,8 @@ returns c =
     let start = added.before.before.before in
     let plan = start.args.plan.now in
     let ws = start.args.windows.now in
-    let cells = added.add_windows in
-    let judged = c.judge_turns.ensures in
+    let cells = added.add-windows in
+    let judged = c.judge-turns.ensures in
     let within = cells_within plan ws start.args.first cells.new.0 cells.ensures.1.0 cells.new.1.0 cells.ensures.1.1 in
     record {
       apart = cells.ensures.0;

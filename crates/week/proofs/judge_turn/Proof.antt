@@ -1,5 +1,5 @@
 use mathlib.Core.Path.{sym, ◌∙◌}
-use borrow.Author.Tests.{not_true, not_false}
+use borrow.Author.Tests.{not-true, not-false}
 use borrow.Author.Rules.{rules}
 use Rattle.week.specs.Week.{within_marked}
 use Rattle.definitions.proofs.Facts.{test_off, test_on}
@@ -12,7 +12,7 @@ element_copy_out_if1 c = search rules
 returns : tie.Need-returns
 unfolding within_marked
 returns c =
-    let off = not_true _ c.if1.true in
+    let off = not-true _ c.if1.true in
     record { fixed = sym (test_off _ _ _ off); stated = sym (test_off _ _ _ off) }
 
 judge_minute_requires : tie.Need-judge-minute-requires
@@ -21,8 +21,8 @@ judge_minute_requires c κs = search rules
 returns_2 : tie.Need-returns-2
 unfolding within_marked
 returns_2 c =
-    let on = not_false _ c.before.if1.false in
-    let judged = c.judge_minute.ensures in
+    let on = not-false _ c.before.if1.false in
+    let judged = c.judge-minute.ensures in
     record { fixed = judged.fixed ∙ sym (test_on _ _ _ on); stated = judged.stated ∙ sym (test_on _ _ _ on) }
 
 pub judge_turn_spec : {M : Type 1} → statement M

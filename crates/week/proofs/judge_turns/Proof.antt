@@ -10,10 +10,10 @@ use Rattle.week.specs.Week.{within_marked, TurnsJudged}
 use Rattle.week.proofs.judge_turns.Statement.{statement}
 use Rattle.week.proofs.judge_turns.Tie as tie
 
-abbrev invariant_loop : tie.invariant_loop
+abbrev invariant_loop : tie.invariant-loop
 invariant_loop plan part turns disk fixed₀ stated₀ j₀ fixed stated j = (j ≤ part_minutes) × TurnsJudged (tree_of plan) part turns disk j fixed stated
 
-abbrev decreases_loop : tie.decreases_loop
+abbrev decreases_loop : tie.decreases-loop
 decreases_loop plan part turns disk fixed₀ stated₀ j₀ fixed stated j = part_minutes - j
 
 loop_holds : tie.Need-loop-init invariant_loop decreases_loop
@@ -34,7 +34,7 @@ loop_again c =
     let made = c.before.before in
     let at = made.before.before in
     let args = at.before.args in
-    let minute = made.judge_turn.ensures in
+    let minute = made.judge-turn.ensures in
     let tree = tree_of args.plan.now in (
       omega arith,
       record {

@@ -1,7 +1,7 @@
 use Prim.Native.Nat.{ℕ, ◌-◌}
 use mathlib.Core.Path.{sym, ap, ◌∙◌}
 use lib.ListN.{get_or}
-use borrow.Author.Tests.{eq_eqb, ne_eqb}
+use borrow.Author.Tests.{eq-eqb, ne_eqb}
 use Rattle.numbers.proofs.Tests.{cond_true, cond_false}
 use borrow.Author.Rules.{rules}
 use Rattle.definitions.specs.Tree.{tree_of}
@@ -25,7 +25,7 @@ returns : tie.Need-returns
 unfolding cell_share tree_of
 returns c =
     let read = c.before.before in
-    read.before.natural.ensures ∙ sym (cond_true _ _ _ (rw read.Cell-at.ensures at (eq_eqb _ 0 c.if1.true)))
+    read.before.natural.ensures ∙ sym (cond_true _ _ _ (rw read.Cell-at.ensures at (eq-eqb _ 0 c.if1.true)))
 
 sub_result : tie.Need-overflow-sub-result
 sub_result c = search rules

@@ -11,10 +11,10 @@ use Rattle.sums.specs.Sums.{sum_at}
 use Rattle.week.proofs.sums_within.Statement.{statement}
 use Rattle.week.proofs.sums_within.Tie as tie
 
-abbrev invariant_loop : tie.invariant_loop
+abbrev invariant_loop : tie.invariant-loop
 invariant_loop sums kind limit ok₀ c₀ ok c = (c ≤ nodes) × (ok ≡ all_below c (λ i. leb (get_or sums (sum_at i kind) 0) limit))
 
-abbrev decreases_loop : tie.decreases_loop
+abbrev decreases_loop : tie.decreases-loop
 decreases_loop sums kind limit ok₀ c₀ ok c = nodes - c
 
 loop_holds : tie.Need-loop-init invariant_loop decreases_loop
@@ -28,7 +28,7 @@ mul_ok : tie.Need-overflow-mul-ok invariant_loop decreases_loop
 mul_ok c = search rules
 
 element_copy_out_ok : tie.Need-element-copy-out-ok invariant_loop decreases_loop
-element_copy_out_ok c = c.sum_at.ensures.1
+element_copy_out_ok c = c.sum-at.ensures.1
 
 add_c : tie.Need-overflow-add-c invariant_loop decreases_loop
 add_c c = omega arith
@@ -42,7 +42,7 @@ loop_again c =
     let args = at.before.args in (
       omega arith,
       all_grows at.loop.c (λ i. leb (get_or args.sums.now (sum_at i args.kind) 0) args.limit) _ _ at.loop.invariant.1
-          (ap (λ (i : ℕ). leb (get_or args.sums.now i 0) args.limit) c.before.sum_at.ensures.0),
+          (ap (λ (i : ℕ). leb (get_or args.sums.now i 0) args.limit) c.before.sum-at.ensures.0),
     )
 
 returns : tie.Need-returns invariant_loop decreases_loop

@@ -1,7 +1,7 @@
 use Prim.Native.Nat.{ℕ}
 use mathlib.Core.Path.{refl, sym, ap}
 use mathlib.Core.Bool.{true}
-use borrow.Author.Tests.{eq_eqb}
+use borrow.Author.Tests.{eq-eqb}
 use lib.Dec.{leb, ltb}
 use Rattle.numbers.proofs.Every.{joined_as, same_tests, last_test}
 use Rattle.hourlaws.specs.Windows.{window_node, covers}
@@ -20,7 +20,7 @@ unfolding covers
 returns c =
     let args = c.before.before.args in
     joined_as
-    (same_tests {a = true} (sym (eq_eqb (window_node args.windows.now args.i) (window_node args.windows.now args.i) refl))
+    (same_tests {a = true} (sym (eq-eqb (window_node args.windows.now args.i) (window_node args.windows.now args.i) refl))
     (same_tests (ap (λ (n : ℕ). leb n args.m) c.before.number.ensures) (last_test (ap (λ (n : ℕ). ltb args.m n) c.number2.ensures))))
 
 pub covers_spec : {M : Type 1} → statement M

@@ -1,6 +1,6 @@
 use mathlib.Core.Path.{ap, ◌∙◌}
 use mir.Syntax.{w64}
-use mir.ValLaws.{to_z_of_z}
+use mir.ValLaws.{to_z-of_z}
 use borrow.Author.Rules.{sfits_of}
 use Rattle.numbers.specs.Whole.{plus}
 use borrow.Author.Rules.{rules}
@@ -15,7 +15,7 @@ natural_requires c κs = search rules
 
 returns : tie.Need-returns
 returns c =
-    c.natural.ensures ∙ ap plus (to_z_of_z w64 _ (sfits_of c.before.get.type_inv) ∙ c.before.get.ensures)
+    c.natural.ensures ∙ ap plus (to_z-of_z w64 _ (sfits_of c.before.get.type-inv) ∙ c.before.get.ensures)
 
 pub number_spec : {M : Type 1} → statement M
 number_spec = tie.close (tie.spec get_requires natural_requires returns)

@@ -1,6 +1,6 @@
 use mathlib.Core.Path.{ap, ◌∙◌}
 use mir.Syntax.{w64}
-use mir.ValLaws.{to_z_of_z}
+use mir.ValLaws.{to_z-of_z}
 use borrow.Author.Rules.{sfits_of}
 use Rattle.numbers.specs.Whole.{within_ℤ}
 use borrow.Author.Rules.{rules}
@@ -16,7 +16,7 @@ within_requires c κs = search rules
 returns : tie.Need-returns
 returns c =
     let args = c.before.before.args in
-    c.within.ensures ∙ ap (within_ℤ args.low args.high) (to_z_of_z w64 _ (sfits_of c.before.get.type_inv) ∙ c.before.get.ensures)
+    c.within.ensures ∙ ap (within_ℤ args.low args.high) (to_z-of_z w64 _ (sfits_of c.before.get.type-inv) ∙ c.before.get.ensures)
 
 pub number_within_spec : {M : Type 1} → statement M
 number_within_spec = tie.close (tie.spec get_requires within_requires returns)

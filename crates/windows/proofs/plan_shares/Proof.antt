@@ -2,17 +2,17 @@ use Prim.Native.Nat.{ℕ, ◌-◌, ◌≤◌, ◌<◌}
 use mathlib.Core.Path.{◌≡◌, ◌∙◌}
 use native.Mathlib.Omega.{arith}
 use borrow.Author.Rules.{rules}
-use lib.ListN.{length, get_or, length_set}
+use lib.ListN.{length, get_or, length-set}
 use Rattle.definitions.specs.Limits.{nodes}
 use Rattle.definitions.specs.Tree.{tree_of}
 use Rattle.windows.proofs.Written.{written_more}
 use Rattle.windows.proofs.plan_shares.Statement.{statement}
 use Rattle.windows.proofs.plan_shares.Tie as tie
 
-abbrev invariant_loop : tie.invariant_loop
+abbrev invariant_loop : tie.invariant-loop
 invariant_loop plan shares₀ k₀ shares k = (k ≤ nodes) × (length shares ≡ nodes) × ((j : ℕ) → j < k → get_or shares j 0 ≡ (tree_of plan).share j)
 
-abbrev decreases_loop : tie.decreases_loop
+abbrev decreases_loop : tie.decreases-loop
 decreases_loop plan shares₀ k₀ shares k = nodes - k
 
 loop_holds : tie.Need-loop-init invariant_loop decreases_loop
@@ -39,7 +39,7 @@ loop_again c =
     let at = c.before.before.loop in
     let args = c.before.before.before.args in (
       omega arith,
-      length_set at.shares at.k _ ∙ at.invariant.1,
+      length-set at.shares at.k _ ∙ at.invariant.1,
       written_more at.shares (tree_of args.plan.now).share at.k _ (omega arith) c.natural.ensures at.invariant.2,
     )
 

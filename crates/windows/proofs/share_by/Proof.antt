@@ -1,8 +1,8 @@
 use mathlib.Core.Path.{sym, ap₂, ◌∙◌}
 use Prim.Native.Nat.{ℕ}
 use native.Mathlib.Omega.{arith}
-use lib.ListN.{get_or, set, length_set}
-use borrow.Author.Tests.{not_true, not_false}
+use lib.ListN.{get_or, set, length-set}
+use borrow.Author.Tests.{not-true, not-false}
 use borrow.Author.Rules.{rules}
 use Rattle.windows.proofs.Written.{share_stays, share_given}
 use Rattle.windows.proofs.share_by.Statement.{statement}
@@ -12,7 +12,7 @@ covers_requires : tie.Need-covers-requires
 covers_requires c κs = search rules
 
 returns : tie.Need-returns
-returns c = let start = c.before.before in (start.requires.2, λ k hk. share_stays start.args.windows.now start.args.i start.args.m start.args.shares.now k (sym c.before.covers.ensures ∙ not_true _ c.if1.true))
+returns c = let start = c.before.before in (start.requires.2, λ k hk. share_stays start.args.windows.now start.args.i start.args.m start.args.shares.now k (sym c.before.covers.ensures ∙ not-true _ c.if1.true))
 
 number_requires : tie.Need-number-requires
 number_requires c κs = search rules
@@ -32,10 +32,10 @@ returns_2 c =
     let tested = node.before in
     let start = tested.before.before in
     let ws = start.args.windows.now in (
-      length_set start.args.shares.now node.number.result c.number2.result ∙ start.requires.2,
+      length-set start.args.shares.now node.number.result c.number2.result ∙ start.requires.2,
       λ k hk.
           ap₂ (λ (n v : ℕ). get_or (set start.args.shares.now n v) k 0) node.number.ensures c.number2.ensures
-          ∙ share_given ws start.args.i start.args.m start.args.shares.now k (omega arith) (sym tested.before.covers.ensures ∙ not_false _ tested.if1.false),
+          ∙ share_given ws start.args.i start.args.m start.args.shares.now k (omega arith) (sym tested.before.covers.ensures ∙ not-false _ tested.if1.false),
     )
 
 pub share_by_spec : {M : Type 1} → statement M

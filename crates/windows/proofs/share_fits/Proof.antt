@@ -26,9 +26,9 @@ unfolding share_fits tree_of
 returns c =
     let args = c.before.before.before.before.args in
     let kind : ℕ → ℕ = λ k. plus (place args.plan.now k kind_at) in
-    c.number_within.ensures
+    c.number-within.ensures
     ∙ ap (λ (n : ℕ). within_ℤ 1 n (window_number args.windows.now args.i window_share_at))
-    (c.before.share_limit.ensures ∙ ap share_limit (c.before.before.natural.ensures ∙ ap kind c.before.before.before.number.ensures))
+    (c.before.share-limit.ensures ∙ ap share_limit (c.before.before.natural.ensures ∙ ap kind c.before.before.before.number.ensures))
 
 pub share_fits_spec : {M : Type 1} → statement M
 share_fits_spec =

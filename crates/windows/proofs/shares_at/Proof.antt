@@ -10,18 +10,18 @@ use Rattle.hourlaws.proofs.Values.{value_none, value_grows}
 use Rattle.windows.proofs.shares_at.Statement.{statement}
 use Rattle.windows.proofs.shares_at.Tie as tie
 
-abbrev invariant_loop : tie.invariant_loop
+abbrev invariant_loop : tie.invariant-loop
 invariant_loop plan windows m shares₀ n i₀ shares i =
     (n ≡ window_count windows) × (i ≤ n) × (length shares ≡ nodes) × ((k : ℕ) → k < nodes → get_or shares k 0 ≡ value_by windows (window_share windows) i k m ((tree_of plan).share k))
 
-abbrev decreases_loop : tie.decreases_loop
+abbrev decreases_loop : tie.decreases-loop
 decreases_loop plan windows m shares₀ n i₀ shares i = n - i
 
 plan_shares_requires : tie.Need-plan-shares-requires invariant_loop decreases_loop
 plan_shares_requires c κs = search rules
 
 loop_holds : tie.Need-loop-init invariant_loop decreases_loop
-loop_holds c = (refl, omega arith, c.plan_shares.ensures.0, λ k hk. c.plan_shares.ensures.1 k hk ∙ sym (value_none _ _ k _ _))
+loop_holds c = (refl, omega arith, c.plan-shares.ensures.0, λ k hk. c.plan-shares.ensures.1 k hk ∙ sym (value_none _ _ k _ _))
 
 share_by_requires : tie.Need-share-by-requires invariant_loop decreases_loop
 share_by_requires c κs =
@@ -41,8 +41,8 @@ loop_again c =
     let ws = args.windows.now in (
       refl,
       omega arith,
-      c.share_by.ensures.0,
-      λ k hk. c.share_by.ensures.1 k hk ∙ value_grows ws (window_share ws) k args.m _ at.loop.i _ _ refl (at.loop.invariant.3 k hk),
+      c.share-by.ensures.0,
+      λ k hk. c.share-by.ensures.1 k hk ∙ value_grows ws (window_share ws) k args.m _ at.loop.i _ _ refl (at.loop.invariant.3 k hk),
     )
 
 returns : tie.Need-returns invariant_loop decreases_loop

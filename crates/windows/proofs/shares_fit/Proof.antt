@@ -8,10 +8,10 @@ use Rattle.hourlaws.specs.Windows.{window_count, share_fits, shares_fit}
 use Rattle.windows.proofs.shares_fit.Statement.{statement}
 use Rattle.windows.proofs.shares_fit.Tie as tie
 
-abbrev invariant_loop : tie.invariant_loop
+abbrev invariant_loop : tie.invariant-loop
 invariant_loop plan windows n ok₀ i₀ ok i = (n ≡ window_count windows) × (i ≤ n) × (ok ≡ all_below i (share_fits (tree_of plan) windows))
 
-abbrev decreases_loop : tie.decreases_loop
+abbrev decreases_loop : tie.decreases-loop
 decreases_loop plan windows n ok₀ i₀ ok i = n - i
 
 loop_holds : tie.Need-loop-init invariant_loop decreases_loop

@@ -8,10 +8,10 @@ use Rattle.hourlaws.specs.Windows.{window_count, window_formed}
 use Rattle.windows.proofs.windows_formed.Statement.{statement}
 use Rattle.windows.proofs.windows_formed.Tie as tie
 
-abbrev invariant_loop : tie.invariant_loop
+abbrev invariant_loop : tie.invariant-loop
 invariant_loop plan windows n ok₀ i₀ ok i = (n ≡ window_count windows) × (i ≤ n) × (ok ≡ all_below i (window_formed (tree_of plan) windows))
 
-abbrev decreases_loop : tie.decreases_loop
+abbrev decreases_loop : tie.decreases-loop
 decreases_loop plan windows n ok₀ i₀ ok i = n - i
 
 loop_holds : tie.Need-loop-init invariant_loop decreases_loop
@@ -31,7 +31,7 @@ loop_again : tie.Need-loop-preserved invariant_loop decreases_loop
 loop_again c =
     let at = c.before.before in
     let args = at.before.args in
-    (refl, omega arith, all_grows at.loop.i (window_formed (tree_of args.plan.now) args.windows.now) _ _ at.loop.invariant.2 c.window_formed.ensures)
+    (refl, omega arith, all_grows at.loop.i (window_formed (tree_of args.plan.now) args.windows.now) _ _ at.loop.invariant.2 c.window-formed.ensures)
 
 returns : tie.Need-returns invariant_loop decreases_loop
 returns c =

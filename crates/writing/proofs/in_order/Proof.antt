@@ -21,7 +21,7 @@ returns c = sym (look_accepted _ _ (sym c.before.before.look.ensures ∙ ap told
 
 returns_2 : tie.Need-returns-2
 unfolding told_seen
-returns_2 c = sym (look_refused _ _ (sym c.before.before.look.ensures ∙ ap told_seen c.enum_told2.given.1))
+returns_2 c = sym (look_refused _ _ (sym c.before.before.look.ensures ∙ ap told_seen c.enum-told2.given.1))
 
 pub in_order_spec : {M : Type 1} → statement M
 in_order_spec = tie.close (tie.spec look_requires enum_told enum_told_2 returns returns_2)

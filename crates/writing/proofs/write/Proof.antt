@@ -4,11 +4,11 @@ use mathlib.Core.Bool.{true}
 use mathlib.Core.List.{[], ◌∷◌}
 use native.Mathlib.Omega.{arith}
 use borrow.Author.Rules.{rules, sfits_of}
-use borrow.Author.Tests.{not_true, not_false}
+use borrow.Author.Tests.{not-true, not-false}
 use lib.ListN.{length}
 use lib.IntN.{ℤ, pos}
 use mir.Syntax.{w64}
-use mir.ValLaws.{to_z_of_z}
+use mir.ValLaws.{to_z-of_z}
 use Rattle.numbers.specs.Whole.{within_ℤ}
 use Rattle.definitions.specs.Tree.{tree_of}
 use Rattle.definitions.specs.Order.{in_order}
@@ -41,23 +41,23 @@ abbrev began : tie.After-plan-length → tie.Start
 began c = start (first (second c.before.before))
 
 ordered : (c : tie.Else1) → in_order (start c).args.table.now ≡ true
-ordered c = sym c.before.in_order.ensures ∙ not_false _ c.if1.false
+ordered c = sym c.before.in_order.ensures ∙ not-false _ c.if1.false
 
 -- The edition that is told.
 tested : (c : tie.After-within) → let s = start c.before in c.within.result ≡ within_ℤ first_edition second_edition s.args.edition
-tested c = let s = start c.before in c.within.ensures ∙ ap (within_ℤ first_edition second_edition) (to_z_of_z w64 s.args.edition s.fits.edition)
+tested c = let s = start c.before in c.within.ensures ∙ ap (within_ℤ first_edition second_edition) (to_z-of_z w64 s.args.edition s.fits.edition)
 
 known : (c : tie.Else2) → within_ℤ first_edition second_edition (start (first c)).args.edition ≡ true
-known c = sym (tested c.before) ∙ not_false _ c.if2.false
+known c = sym (tested c.before) ∙ not-false _ c.if2.false
 
-edition : (c : tie.After-edition-of) → c.edition_of.result ≡ edition_told (start (first (second c))).args.edition
-edition c = c.edition_of.ensures ∙ ap edition_of (natural_of c.before.natural.ensures (start (first (second c))).ranges.edition)
+edition : (c : tie.After-edition-of) → c.edition-of.result ≡ edition_told (start (first (second c))).args.edition
+edition c = c.edition-of.ensures ∙ ap edition_of (natural_of c.before.natural.ensures (start (first (second c))).ranges.edition)
 
 -- The length of the plan.
-long : (c : tie.After-plan-length) → let s = began c in c.plan_length.result ≡ length (plan_bytes (edition_told s.args.edition) s.args.table.now)
+long : (c : tie.After-plan-length) → let s = began c in c.plan-length.result ≡ length (plan_bytes (edition_told s.args.edition) s.args.table.now)
 long c =
     let s = began c in
-    c.plan_length.ensures ∙ ap₂ plan_length (edition c.before.before) c.before.list_nodes.ensures.1 ∙ sym (length_plan (edition_told s.args.edition) s.args.table.now)
+    c.plan-length.ensures ∙ ap₂ plan_length (edition c.before.before) c.before.list-nodes.ensures.1 ∙ sym (length_plan (edition_told s.args.edition) s.args.table.now)
 
 -- Whether the edition has kinds for all nodes.
 kinds : (c : tie.After-unwritable) → let s = began c.before.before in c.unwritable.result ≡ unwritable (edition_told s.args.edition) (tree_of s.args.table.now)
@@ -88,7 +88,7 @@ returns : tie.Need-returns
 returns c =
     let judged = c.before.before in
     let s = judged.before.before in
-    let one = not_in_order_law s.args.table.now s.args.edition s.args.buffer.now (sym judged.in_order.ensures ∙ not_true _ c.before.if1.true) in
+    let one = not_in_order_law s.args.table.now s.args.edition s.args.buffer.now (sym judged.in_order.ensures ∙ not-true _ c.before.if1.true) in
     (c.answered.ensures ∙ refused_answer _ _ _ 1 _ (omega arith) one, refused_buffer _ _ _ 1 (omega arith) one)
 
 within_requires : tie.Need-within-requires
@@ -101,7 +101,7 @@ returns_2 : tie.Need-returns-2
 returns_2 c =
     let at = c.before.before in
     let s = start at.before in
-    let two = no_edition s.args.table.now s.args.edition s.args.buffer.now (ordered at.before) (sym (tested at) ∙ not_true _ c.before.if2.true) in
+    let two = no_edition s.args.table.now s.args.edition s.args.buffer.now (ordered at.before) (sym (tested at) ∙ not-true _ c.before.if2.true) in
     (c.answered2.ensures ∙ refused_answer _ _ _ 2 _ (omega arith) two, refused_buffer _ _ _ 2 (omega arith) two)
 
 natural_requires : tie.Need-natural-requires
@@ -114,7 +114,7 @@ list_nodes_requires : tie.Need-list-nodes-requires
 list_nodes_requires c κs = (facts _ (ordered (first (second c)))).long
 
 plan_length_requires : tie.Need-plan-length-requires
-plan_length_requires c κs = omega (arith, c.list_nodes.ensures.1, order_short (tree_of (start (first (second c.before))).args.table.now))
+plan_length_requires c κs = omega (arith, c.list-nodes.ensures.1, order_short (tree_of (start (first (second c.before))).args.table.now))
 
 answered_requires_3 : tie.Need-answered-requires-3
 answered_requires_3 c κs = search rules
@@ -147,8 +147,8 @@ put_plan_requires : tie.Need-put-plan-requires
 put_plan_requires c κs =
     let last = c.before.before.before in
     let at = last.before.before.before in
-    let listed = at.before.list_nodes.ensures in
-    (record { ordered = ordered (first (second at.before.before)); members = listed.0; count = listed.1 }, omega (arith, last.before.before.if3.false, at.plan_length.ensures))
+    let listed = at.before.list-nodes.ensures in
+    (record { ordered = ordered (first (second at.before.before)); members = listed.0; count = listed.1 }, omega (arith, last.before.before.if3.false, at.plan-length.ensures))
 
 whole_requires : tie.Need-whole-requires
 whole_requires c κs = search rules
@@ -163,8 +163,8 @@ returns_5 c =
     let last = put.before.before.before.before in
     let at = last.before.before.before in
     let s = began at in (
-      ap (λ (z : ℤ). accepted (z ∷ [])) (to_z_of_z w64 c.whole.result (sfits_of c.whole.type_inv) ∙ c.whole.ensures ∙ ap pos (long at)) ∙ accepted_answer _ _ _ (passed last),
-      put.put_plan.ensures ∙ ap (λ (e : Edition). written s.args.buffer.now 0 (plan_bytes e s.args.table.now)) (edition at.before.before) ∙ accepted_buffer _ _ _ (passed last),
+      ap (λ (z : ℤ). accepted (z ∷ [])) (to_z-of_z w64 c.whole.result (sfits_of c.whole.type-inv) ∙ c.whole.ensures ∙ ap pos (long at)) ∙ accepted_answer _ _ _ (passed last),
+      put.put-plan.ensures ∙ ap (λ (e : Edition). written s.args.buffer.now 0 (plan_bytes e s.args.table.now)) (edition at.before.before) ∙ accepted_buffer _ _ _ (passed last),
     )
 
 pub write_spec : {M : Type 1} → statement M

@@ -3,7 +3,7 @@ use Prim.Native.Nat.{ℕ, ◌+◌}
 use mathlib.Core.Path.{◌≡◌, sym, ap, ap₂, ◌∙◌}
 use mathlib.Core.Bool.{true}
 use native.Mathlib.Omega.{arith}
-use borrow.Author.Tests.{not_true, not_false}
+use borrow.Author.Tests.{not-true, not-false}
 use lib.Dec.{leb}
 use Rattle.numbers.proofs.Every.{joined_as, same_tests, last_test}
 use Rattle.definitions.specs.Limits.{whole_share}
@@ -20,7 +20,7 @@ use Rattle.covering.proofs.classes.class_covers.Tie as tie
 
 -- Past the first test the node is a class.
 class : (c : tie.Else1) → is_class (tree_of c.before.before.args.table.now) c.before.before.args.c ≡ true
-class c = sym c.before.is_class.ensures ∙ not_false _ c.if1.false
+class c = sym c.before.is-class.ensures ∙ not-false _ c.if1.false
 
 node : (c : tie.Else1) → Node c.before.before.args.table.now c.before.before.args.c
 node c = node_at _ c.before.before.requires.2 _ c.before.before.requires.1 (class_there _ _ (class c))
@@ -33,7 +33,7 @@ is_class_requires : tie.Need-is-class-requires
 is_class_requires c κs = search rules
 
 returns : tie.Need-returns
-returns c = sym (test_past _ _ _ (sym c.before.is_class.ensures ∙ not_true _ c.if1.true))
+returns c = sym (test_past _ _ _ (sym c.before.is-class.ensures ∙ not-true _ c.if1.true))
 
 natural_requires : tie.Need-natural-requires
 natural_requires c κs = search rules
@@ -68,12 +68,12 @@ returns_2 c =
     let sums = start.pre.3 in
     let depth = grains.before.before.before.natural.ensures in
     let needed = ap₂ ◌+◌ sums.credits grains.before.before.negative.ensures in
-    let covered = ap₂ ◌+◌ (ap₂ ◌+◌ sums.debts grains.before.natural2.ensures) grains.depth_grains.ensures in
+    let covered = ap₂ ◌+◌ (ap₂ ◌+◌ sums.debts grains.before.natural2.ensures) grains.depth-grains.ensures in
     joined_as
     (same_tests (ap (λ (n : ℕ). leb n whole_share) sums.fixed)
     (same_tests (ap₂ leb sums.depths depth)
     (same_tests (ap₂ leb needed covered)
-    (last_test (ap₂ leb sums.stated limit.stated_limit.ensures)))))
+    (last_test (ap₂ leb sums.stated limit.stated-limit.ensures)))))
     ∙ sym (test_here _ (class_covers start.args.table.now) _ (class (shown grains)))
 
 pub class_covers_spec : {M : Type 1} → statement M

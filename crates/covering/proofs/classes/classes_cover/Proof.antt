@@ -13,10 +13,10 @@ use Rattle.covering.proofs.Small.{sum_small, totals_sums}
 use Rattle.covering.proofs.classes.classes_cover.Statement.{statement}
 use Rattle.covering.proofs.classes.classes_cover.Tie as tie
 
-abbrev invariant_loop : tie.invariant_loop
+abbrev invariant_loop : tie.invariant-loop
 invariant_loop table shares depths credits debts ok₀ c₀ ok c = (c ≤ nodes) × (ok ≡ all_below c (λ c. test_if (is_class (tree_of table) c) (class_covers table) c))
 
-abbrev decreases_loop : tie.decreases_loop
+abbrev decreases_loop : tie.decreases-loop
 decreases_loop table shares depths credits debts ok₀ c₀ ok c = nodes - c
 
 loop_holds : tie.Need-loop-init invariant_loop decreases_loop
@@ -51,7 +51,7 @@ class_covers_requires c κs =
     let pre = inside.before.before.requires in
     let t = inside.before.before.args.table.now in
     let k = inside.before.loop.c in
-    let below : k < nodes = inside.loop_test.true in
+    let below : k < nodes = inside.loop-test.true in
     let under = c.before.before.before.under in
     let sums = totals_sums _ _ _ _ _ pre.2 k below under.result under.ensures.0 under.ensures.2 in
     (pre.0, below, pre.1, sums, omega (arith, sums.credits, sum_small Credits t pre.1 k), omega (arith, sums.debts, sum_small Debts t pre.1 k))
@@ -63,7 +63,7 @@ loop_less : tie.Need-loop-smaller invariant_loop decreases_loop
 loop_less c = omega arith
 
 loop_again : tie.Need-loop-preserved invariant_loop decreases_loop
-loop_again c = (omega arith, all_grows _ _ _ _ c.before.before.before.before.before.before.loop.invariant.1 c.class_covers.ensures)
+loop_again c = (omega arith, all_grows _ _ _ _ c.before.before.before.before.before.before.loop.invariant.1 c.class-covers.ensures)
 
 returns : tie.Need-returns invariant_loop decreases_loop
 unfolding each_class

@@ -1,6 +1,6 @@
 -- `covering::classes::stated_limit` meets its contract.
 use mathlib.Core.Path.{sym, ◌∙◌}
-use borrow.Author.Tests.{eq_eqb, ne_eqb}
+use borrow.Author.Tests.{eq-eqb, ne_eqb}
 use Rattle.numbers.proofs.Tests.{cond_true, cond_false}
 use Rattle.definitions.specs.Limits.{root}
 use Rattle.definitions.specs.Places.{rate}
@@ -14,7 +14,7 @@ natural_requires c κs = search rules
 
 returns : tie.Need-returns
 unfolding stated_limit rate
-returns c = c.before.natural.ensures ∙ sym (cond_true _ _ 0 (eq_eqb c.before.before.args.c root c.if1.true))
+returns c = c.before.natural.ensures ∙ sym (cond_true _ _ 0 (eq-eqb c.before.before.args.c root c.if1.true))
 
 returns_2 : tie.Need-returns-2
 unfolding stated_limit

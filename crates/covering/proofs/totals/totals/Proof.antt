@@ -7,11 +7,11 @@ use Rattle.covering.specs.Cover.{Totals}
 use Rattle.covering.proofs.totals.totals.Statement.{statement}
 use Rattle.covering.proofs.totals.totals.Tie as tie
 
-abbrev invariant_loop : tie.invariant_loop
+abbrev invariant_loop : tie.invariant-loop
 invariant_loop table shares₀ depths₀ credits₀ debts₀ k₀ shares depths credits debts k =
     (0 < k) × (k ≤ nodes) × Totals table k shares depths credits debts
 
-abbrev decreases_loop : tie.decreases_loop
+abbrev decreases_loop : tie.decreases-loop
 decreases_loop table shares₀ depths₀ credits₀ debts₀ k₀ shares depths credits debts k = nodes - k
 
 loop_holds : tie.Need-loop-init invariant_loop decreases_loop
@@ -30,7 +30,7 @@ loop_less : tie.Need-loop-smaller invariant_loop decreases_loop
 loop_less c = omega arith
 
 loop_again : tie.Need-loop-preserved invariant_loop decreases_loop
-loop_again c = (omega arith, omega arith, c.add_node.ensures)
+loop_again c = (omega arith, omega arith, c.add-node.ensures)
 
 returns : tie.Need-returns invariant_loop decreases_loop
 returns c =

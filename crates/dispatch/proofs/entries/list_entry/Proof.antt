@@ -3,7 +3,7 @@ use mathlib.Core.Path.{◌≡◌, sym, ◌∙◌}
 use native.Mathlib.Omega.{arith}
 use borrow.Author.Rules.{rules}
 use mir.Syntax.{w64}
-use mir.ValLaws.{to_z_of_z}
+use mir.ValLaws.{to_z-of_z}
 use Rattle.definitions.specs.Limits.{first_port, second_port}
 use Rattle.dispatch.proofs.Gets.{gets_here, gets_other, entered_here, entered_other}
 use Rattle.dispatch.proofs.entries.list_entry.Statement.{statement}
@@ -32,7 +32,7 @@ returns c =
     let s = at.before in
     let here = at.if1.true in
     let other : s.args.port ≡ second_port → ⊥ = λ e. omega arith in (
-      (rw (to_z_of_z w64 _ s.ranges.tag) at made.write_entry.ensures) ∙ sym (entered_here first_port s.args.port _ _ _ _ _ _ here),
+      (rw (to_z-of_z w64 _ s.ranges.tag) at made.write-entry.ensures) ∙ sym (entered_here first_port s.args.port _ _ _ _ _ _ here),
       (
         sym (entered_other second_port s.args.port _ _ _ _ _ _ other),
         (omega (arith, gets_here first_port s.args.port here), omega (arith, gets_other second_port s.args.port other)),
@@ -59,7 +59,7 @@ returns_2 c =
     let other = at.if1.false in (
       sym (entered_other first_port s.args.port _ _ _ _ _ _ other),
       (
-        (rw (to_z_of_z w64 _ s.ranges.tag) at made.write_entry2.ensures) ∙ sym (entered_here second_port s.args.port _ _ _ _ _ _ here),
+        (rw (to_z-of_z w64 _ s.ranges.tag) at made.write-entry2.ensures) ∙ sym (entered_here second_port s.args.port _ _ _ _ _ _ here),
         (omega (arith, gets_other first_port s.args.port other), omega (arith, gets_here second_port s.args.port here)),
       ),
     )

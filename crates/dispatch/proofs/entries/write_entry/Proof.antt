@@ -3,10 +3,10 @@ use Prim.Native.Nat.{ℕ}
 use mathlib.Core.Path.{◌≡◌, ◌∙◌}
 use mathlib.Core.List.{List}
 use native.Mathlib.Omega.{arith}
-use lib.ListN.{length_set}
+use lib.ListN.{length-set}
 use lib.IntN.{ℤ}
 use mir.Syntax.{w64}
-use mir.ValLaws.{to_z_of_z}
+use mir.ValLaws.{to_z-of_z}
 use borrow.Author.Rules.{rules, sfits_of}
 use Rattle.dispatch.specs.Entries.{entered}
 use Rattle.dispatch.proofs.entries.write_entry.Statement.{statement}
@@ -34,7 +34,7 @@ mul_tag : tie.Need-overflow-mul-tag
 mul_tag c = search rules
 
 slice_set_from_tag : tie.Need-slice-set-from-tag
-slice_set_from_tag c = simp length_set (omega arith)
+slice_set_from_tag c = simp length-set (omega arith)
 
 whole_requires_2 : tie.Need-whole-requires-2
 whole_requires_2 c κs = search rules
@@ -46,7 +46,7 @@ mul_list_2 : tie.Need-overflow-mul-list-2
 mul_list_2 c = search rules
 
 slice_set_from_list_2 : tie.Need-slice-set-from-list-2
-slice_set_from_list_2 c = simp length_set (omega arith)
+slice_set_from_list_2 c = simp length-set (omega arith)
 
 whole_requires_3 : tie.Need-whole-requires-3
 whole_requires_3 c κs = search rules
@@ -58,7 +58,7 @@ mul_t10 : tie.Need-overflow-mul-t10
 mul_t10 c = search rules
 
 slice_set_from_list_3 : tie.Need-slice-set-from-list-3
-slice_set_from_list_3 c = simp length_set (omega arith)
+slice_set_from_list_3 c = simp length-set (omega arith)
 
 same_length : tie.Need-same-length
 same_length c = search rules
@@ -68,10 +68,10 @@ unfolding entered
 returns c =
     let start = c.before.before.before in
     same_entry start.args.list.now _ _ _ _ _ _ _ _ _
-    (to_z_of_z w64 _ (sfits_of c.before.before.whole.type_inv) ∙ c.before.before.whole.ensures)
-    (to_z_of_z w64 _ start.ranges.tag)
-    (to_z_of_z w64 _ (sfits_of c.before.whole2.type_inv) ∙ c.before.whole2.ensures)
-    (to_z_of_z w64 _ (sfits_of c.whole3.type_inv) ∙ c.whole3.ensures)
+    (to_z-of_z w64 _ (sfits_of c.before.before.whole.type-inv) ∙ c.before.before.whole.ensures)
+    (to_z-of_z w64 _ start.ranges.tag)
+    (to_z-of_z w64 _ (sfits_of c.before.whole2.type-inv) ∙ c.before.whole2.ensures)
+    (to_z-of_z w64 _ (sfits_of c.whole3.type-inv) ∙ c.whole3.ensures)
 
 pub write_entry_spec : {M : Type 1} → statement M
 write_entry_spec =

@@ -13,10 +13,10 @@ use Rattle.dispatch.proofs.queue.clear_last.Tie as tie
 abbrev step : ℕ → ℕ → List ℤ → List ℤ
 step k p u = put u k (queue_at + (queue_length - request_length) + p) (pos 0)
 
-abbrev invariant_loop : tie.invariant_loop
+abbrev invariant_loop : tie.invariant-loop
 invariant_loop table₀ k p₀ table p = Turns request_length (step k) table₀ table p
 
-abbrev decreases_loop : tie.decreases_loop
+abbrev decreases_loop : tie.decreases-loop
 decreases_loop table₀ k p₀ table p = request_length - p
 
 -- From the end of a turn back to the loop.

@@ -1,7 +1,7 @@
 -- `dispatch::queue::move_one` meets its contract: one place is read and written.
 use mathlib.Core.Path.{ap, ◌∙◌}
 use mir.Syntax.{w64}
-use mir.ValLaws.{to_z_of_z}
+use mir.ValLaws.{to_z-of_z}
 use borrow.Author.Rules.{rules, sfits_of}
 use Rattle.definitions.specs.Places.{put}
 use Rattle.dispatch.proofs.queue.move_one.Statement.{statement}
@@ -28,7 +28,7 @@ same_length c = search rules
 returns : tie.Need-returns
 returns c =
     let read = c.before.before.before in
-    c.before.put.ensures ∙ ap (put _ _ _) (to_z_of_z w64 _ (sfits_of read.get.type_inv) ∙ read.get.ensures)
+    c.before.put.ensures ∙ ap (put _ _ _) (to_z-of_z w64 _ (sfits_of read.get.type-inv) ∙ read.get.ensures)
 
 pub move_one_spec : {M : Type 1} → statement M
 move_one_spec =

@@ -13,10 +13,10 @@ use Rattle.dispatch.proofs.queue.move_up.Tie as tie
 abbrev step : ℕ → ℕ → List ℤ → List ℤ
 step k p u = put u k (queue_at + p) (place u k (queue_at + request_length + p))
 
-abbrev invariant_loop : tie.invariant_loop
+abbrev invariant_loop : tie.invariant-loop
 invariant_loop table₀ k p₀ table p = Turns (queue_length - request_length) (step k) table₀ table p
 
-abbrev decreases_loop : tie.decreases_loop
+abbrev decreases_loop : tie.decreases-loop
 decreases_loop table₀ k p₀ table p = (queue_length - request_length) - p
 
 -- From the end of a turn back to the loop.
@@ -38,7 +38,7 @@ loop_less c = omega arith
 loop_again : tie.Need-loop-preserved invariant_loop decreases_loop
 loop_again c =
     let at = (at c.before).loop in
-    turns_next at.inv (omega arith) _ c.before.move_one.auto.0 c.before.move_one.ensures
+    turns_next at.inv (omega arith) _ c.before.move-one.auto.0 c.before.move-one.ensures
 
 same_length : tie.Need-same-length invariant_loop decreases_loop
 same_length c = omega arith

@@ -39,7 +39,7 @@ put_natural_requires c κs =
     let cleared = c.before.before in
     let held = counted (moved cleared) in
     let pre = held.before.before.pre in (
-      cleared.clear_last.auto.0 ∙ (moved cleared).move_up.auto.0 ∙ pre.0,
+      cleared.clear-last.auto.0 ∙ (moved cleared).move_up.auto.0 ∙ pre.0,
       pre.1,
       omega arith,
       omega (arith, held.natural.ensures, pre.3),
@@ -55,8 +55,8 @@ returns c =
     let cleared = written.before.before.before in
     let held = counted (moved cleared) in
     let k = held.before.before.args.k in
-    put_then k waiting_at written.put_natural.ensures (ap (λ (n : ℕ). pos (n - 1)) held.natural.ensures)
-    (cleared.clear_last.ensures ∙ ap (λ (u : List ℤ). last_cleared u k) (moved cleared).move_up.ensures)
+    put_then k waiting_at written.put-natural.ensures (ap (λ (n : ℕ). pos (n - 1)) held.natural.ensures)
+    (cleared.clear-last.ensures ∙ ap (λ (u : List ℤ). last_cleared u k) (moved cleared).move_up.ensures)
 
 pub take_out_spec : {M : Type 1} → statement M
 take_out_spec =

@@ -44,23 +44,23 @@ returns c = (kind_told Class c.before.before.before.sort.given.1 c.enum_told.giv
 
 returns_2 : tie.Need-returns-2
 unfolding kind_in kind_of sort_in share_kind_in held_by
-returns_2 c = (kind_told Class c.before.before.before.sort.given.1 c.enum_told2.given.1, omega arith)
+returns_2 c = (kind_told Class c.before.before.before.sort.given.1 c.enum-told2.given.1, omega arith)
 
 returns_3 : tie.Need-returns-3
 unfolding kind_in kind_of sort_in share_kind_in held_by
-returns_3 c = (kind_told Class c.before.before.before.sort.given.1 c.enum_told3.given.1, omega arith)
+returns_3 c = (kind_told Class c.before.before.before.sort.given.1 c.enum-told3.given.1, omega arith)
 
 returns_4 : tie.Need-returns-4
 unfolding kind_in kind_of sort_in share_kind_in held_by
-returns_4 c = (kind_told Client c.before.before.before.sort2.given.1 c.enum_told4.given.1, omega arith)
+returns_4 c = (kind_told Client c.before.before.before.sort2.given.1 c.enum-told4.given.1, omega arith)
 
 returns_5 : tie.Need-returns-5
 unfolding kind_in kind_of sort_in share_kind_in held_by
-returns_5 c = (kind_told Client c.before.before.before.sort2.given.1 c.enum_told5.given.1, omega arith)
+returns_5 c = (kind_told Client c.before.before.before.sort2.given.1 c.enum-told5.given.1, omega arith)
 
 returns_6 : tie.Need-returns-6
 unfolding kind_in kind_of sort_in share_kind_in held_by
-returns_6 c = (kind_told Client c.before.before.before.sort2.given.1 c.enum_told6.given.1, omega arith)
+returns_6 c = (kind_told Client c.before.before.before.sort2.given.1 c.enum-told6.given.1, omega arith)
 
 pub kind_in_spec : {M : Type 1} → statement M
 kind_in_spec =

@@ -13,7 +13,7 @@ wide_requires c κs = search rules
 
 returns : tie.Need-returns
 unfolding byte_at
-returns c = (c.wide.ensures, omega (arith, c.before.shared_slice_known2.given c.before.before.before.args.i))
+returns c = (c.wide.ensures, omega (arith, c.before.shared-slice-known2.given c.before.before.before.args.i))
 
 pub byte_spec : {M : Type 1} → statement M
 byte_spec = tie.close (tie.spec shared_slice_read_wide wide_requires returns)

@@ -18,7 +18,7 @@ enum_told_2 c = search rules
 
 four_requires : tie.Need-four-requires
 unfolding share_length
-four_requires c κs = omega (arith, ap share_length c.enum_told2.given.1, c.before.before.before.requires)
+four_requires c κs = omega (arith, ap share_length c.enum-told2.given.1, c.before.before.before.requires)
 
 returns : tie.Need-returns
 unfolding share_values share_from
@@ -26,7 +26,7 @@ returns c = rw c.before.enum_told.given.1 (c.pair.ensures.0, c.pair.ensures.1)
 
 returns_2 : tie.Need-returns-2
 unfolding share_values share_from
-returns_2 c = rw c.before.enum_told2.given.1 (c.four.ensures.0, c.four.ensures.1)
+returns_2 c = rw c.before.enum-told2.given.1 (c.four.ensures.0, c.four.ensures.1)
 
 pub share_spec : {M : Type 1} → statement M
 share_spec =

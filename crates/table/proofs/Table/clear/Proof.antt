@@ -1,10 +1,10 @@
 -- `table::Table::clear` meets its contract. The invariant: the first i numbers are 0, the others as they came.
 use Prim.Native.Nat.{ℕ, ◌≤◌, ◌-◌}
 use mathlib.Core.Path.{◌≡◌, refl, ap, ◌∙◌}
-use mathlib.Core.List.{List, ◌++◌, append_nil}
+use mathlib.Core.List.{List, ◌++◌, append-nil}
 use native.Mathlib.Omega.{arith}
-use lib.ListN.{length, length_set, replicate, drop, set}
-use lib.Seq.{drop_length}
+use lib.ListN.{length, length-set, replicate, drop, set}
+use lib.Seq.{drop-length}
 use lib.IntN.{ℤ, pos}
 use borrow.Author.Rules.{rules}
 use Rattle.definitions.specs.Calls.{blank}
@@ -12,11 +12,11 @@ use Rattle.definitions.proofs.Zeros.{fill_next}
 use Rattle.table.proofs.Table.clear.Statement.{statement}
 use Rattle.table.proofs.Table.clear.Tie as tie
 
-abbrev invariant_loop : tie.invariant_loop
+abbrev invariant_loop : tie.invariant-loop
 invariant_loop table₀ i₀ table i =
     (i ≤ length table₀) × (length table ≡ length table₀) × (table ≡ replicate i (pos 0) ++ drop i table₀)
 
-abbrev decreases_loop : tie.decreases_loop
+abbrev decreases_loop : tie.decreases-loop
 decreases_loop table₀ i₀ table i = length table₀ - i
 
 loop_holds : tie.Need-loop-init invariant_loop decreases_loop
@@ -37,7 +37,7 @@ loop_less c = omega arith
 loop_again : tie.Need-loop-preserved invariant_loop decreases_loop
 loop_again c = (
   omega arith,
-  length_set c.before.loop.table c.before.loop.i (pos 0) ∙ c.before.loop.invariant.1,
+  length-set c.before.loop.table c.before.loop.i (pos 0) ∙ c.before.loop.invariant.1,
   ap (λ (l : List ℤ). set l c.before.loop.i (pos 0)) c.before.loop.invariant.2 ∙ fill_next c.before.loop.i (pos 0) c.before.before.args.table.now (omega arith),
 )
 
@@ -51,8 +51,8 @@ returns c =
     let end : c.before.loop.i ≡ length t = omega arith in
     c.before.loop.invariant.2
     ∙ ap (λ (n : ℕ). replicate n (pos 0) ++ drop n t) end
-    ∙ ap (λ (l : List ℤ). replicate (length t) (pos 0) ++ l) (drop_length t)
-    ∙ append_nil (replicate (length t) (pos 0))
+    ∙ ap (λ (l : List ℤ). replicate (length t) (pos 0) ++ l) (drop-length t)
+    ∙ append-nil (replicate (length t) (pos 0))
     ∙ ap (λ (n : ℕ). replicate n (pos 0)) c.before.before.requires
 
 pub clear_spec : {M : Type 1} → statement M

@@ -1,7 +1,7 @@
 -- `table::Table::count` meets its contract, by those of `heading` and `numbers::natural`.
 use mathlib.Core.Path.{ap, ◌∙◌}
 use mir.Syntax.{w64}
-use mir.ValLaws.{to_z_of_z}
+use mir.ValLaws.{to_z-of_z}
 use borrow.Author.Rules.{sfits_of}
 use Rattle.numbers.specs.Whole.{plus}
 use Rattle.definitions.specs.Places.{count}
@@ -18,7 +18,7 @@ natural_requires c κs = search rules
 returns : tie.Need-returns
 unfolding count
 returns c =
-    c.natural.ensures ∙ ap plus (to_z_of_z w64 _ (sfits_of c.before.heading.type_inv) ∙ c.before.heading.ensures)
+    c.natural.ensures ∙ ap plus (to_z-of_z w64 _ (sfits_of c.before.heading.type-inv) ∙ c.before.heading.ensures)
 
 pub count_spec : {M : Type 1} → statement M
 count_spec = tie.close (tie.spec heading_requires natural_requires returns)

@@ -1,7 +1,7 @@
 -- `table::Table::natural` meets its contract, by those of `get` and `numbers::natural`.
 use mathlib.Core.Path.{ap, ◌∙◌}
 use mir.Syntax.{w64}
-use mir.ValLaws.{to_z_of_z}
+use mir.ValLaws.{to_z-of_z}
 use borrow.Author.Rules.{sfits_of}
 use Rattle.numbers.specs.Whole.{plus}
 use borrow.Author.Rules.{rules}
@@ -16,7 +16,7 @@ natural_requires c κs = search rules
 
 returns : tie.Need-returns
 returns c =
-    c.natural.ensures ∙ ap plus (to_z_of_z w64 _ (sfits_of c.before.get.type_inv) ∙ c.before.get.ensures)
+    c.natural.ensures ∙ ap plus (to_z-of_z w64 _ (sfits_of c.before.get.type-inv) ∙ c.before.get.ensures)
 
 pub natural_spec : {M : Type 1} → statement M
 natural_spec = tie.close (tie.spec get_requires natural_requires returns)

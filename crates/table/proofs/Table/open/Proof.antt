@@ -2,7 +2,7 @@
 use Prim.Native.Nat.{ℕ}
 use mathlib.Core.Path.{◌≡◌, sym, ap, ◌∙◌}
 use mir.Syntax.{w64}
-use mir.ValLaws.{to_z_of_z}
+use mir.ValLaws.{to_z-of_z}
 use Rattle.answers.specs.Answers.{told}
 use Rattle.definitions.specs.Calls.{done, open_refusal, open_table, open_answer}
 use Rattle.definitions.specs.Refusals.{outcome}
@@ -13,9 +13,9 @@ use Rattle.table.proofs.Table.open.Statement.{statement}
 use Rattle.table.proofs.Table.open.Tie as tie
 
 -- The number is that of the definition.
-number : (c : tie.After-open-refusal) → c.open_refusal.result ≡ open_refusal c.before.before.args.table.now c.before.before.args.rate c.before.before.args.depth
+number : (c : tie.After-open-refusal) → c.open-refusal.result ≡ open_refusal c.before.before.args.table.now c.before.before.args.rate c.before.before.args.depth
 number c =
-    rw (to_z_of_z w64 _ c.before.before.ranges.rate, to_z_of_z w64 _ c.before.before.ranges.depth) at c.open_refusal.ensures.0
+    rw (to_z-of_z w64 _ c.before.before.ranges.rate, to_z-of_z w64 _ c.before.before.ranges.depth) at c.open-refusal.ensures.0
 
 accepted : (c : tie.Else1) → open_refusal c.before.before.before.args.table.now c.before.before.before.args.rate c.before.before.before.args.depth ≡ 0
 accepted c = sym (number c.before) ∙ c.if1.false
@@ -55,7 +55,7 @@ returns_2 c =
     let start = passed.before.before.before in
     let zero = accepted passed in (
       sym (outcome_accepted _ _ zero),
-      rw (to_z_of_z w64 _ start.ranges.rate, to_z_of_z w64 _ start.ranges.depth) at c.before.put_root.ensures ∙ sym (kept_new _ _ _ zero),
+      rw (to_z-of_z w64 _ start.ranges.rate, to_z-of_z w64 _ start.ranges.depth) at c.before.put-root.ensures ∙ sym (kept_new _ _ _ zero),
     )
 
 pub open_spec : {M : Type 1} → statement M

@@ -1,6 +1,6 @@
 -- `table::Table::open_limits` meets its contract: both tests together.
 use mathlib.Core.Path.{ap, ◌∙◌}
-use mir.Facts.{to_z_of_z}
+use mir.Facts.{to_z-of_z}
 use Rattle.numbers.specs.Whole.{within_ℤ}
 use Rattle.numbers.proofs.Every.{joined_as, same_tests, last_test}
 use borrow.Author.Rules.{rules}
@@ -20,8 +20,8 @@ unfolding open_limits
 returns c =
     let start = c.before.before in
     joined_as
-    (same_tests (c.before.within.ensures ∙ ap (within_ℤ 1 greatest_rate) (to_z_of_z start.ranges.rate))
-    (last_test (c.within2.ensures ∙ ap (within_ℤ 1 greatest_depth) (to_z_of_z start.ranges.depth))))
+    (same_tests (c.before.within.ensures ∙ ap (within_ℤ 1 greatest_rate) (to_z-of_z start.ranges.rate))
+    (last_test (c.within2.ensures ∙ ap (within_ℤ 1 greatest_depth) (to_z-of_z start.ranges.depth))))
 
 pub open_limits_spec : {M : Type 1} → statement M
 open_limits_spec = tie.close (tie.spec within_requires within_requires_2 returns)

@@ -2,9 +2,9 @@
 use mathlib.Core.Path.{sym, ap, ◌∙◌}
 use mathlib.Core.Bool.{not}
 use native.Mathlib.Omega.{arith}
-use borrow.Author.Tests.{eq_eqb, ne_eqb, not_true, not_false}
+use borrow.Author.Tests.{eq-eqb, ne_eqb, not-true, not-false}
 use mir.Syntax.{w64}
-use mir.ValLaws.{to_z_of_z}
+use mir.ValLaws.{to_z-of_z}
 use Rattle.definitions.specs.Calls.{open_refusal}
 use Rattle.definitions.proofs.Refusals.{first_here, first_past, first_end}
 use borrow.Author.Rules.{rules}
@@ -23,8 +23,8 @@ unfolding open_refusal
 returns_2 c =
     let start = c.before.before.before in (
       sym
-          (first_past 1 _ _ (ap not (eq_eqb _ _ c.before.before.if1.false))
-          ∙ first_here 2 _ _ (ap not (sym (rw (to_z_of_z w64 _ start.ranges.rate, to_z_of_z w64 _ start.ranges.depth) at c.before.open_limits.ensures) ∙ not_true _ c.if2.true))),
+          (first_past 1 _ _ (ap not (eq-eqb _ _ c.before.before.if1.false))
+          ∙ first_here 2 _ _ (ap not (sym (rw (to_z-of_z w64 _ start.ranges.rate, to_z-of_z w64 _ start.ranges.depth) at c.before.open-limits.ensures) ∙ not-true _ c.if2.true))),
       omega arith,
     )
 
@@ -33,8 +33,8 @@ unfolding open_refusal
 returns_3 c =
     let start = c.before.before.before in (
       sym
-          (first_past 1 _ _ (ap not (eq_eqb _ _ c.before.before.if1.false))
-          ∙ first_past 2 _ _ (ap not (sym (rw (to_z_of_z w64 _ start.ranges.rate, to_z_of_z w64 _ start.ranges.depth) at c.before.open_limits.ensures) ∙ not_false _ c.if2.false))
+          (first_past 1 _ _ (ap not (eq-eqb _ _ c.before.before.if1.false))
+          ∙ first_past 2 _ _ (ap not (sym (rw (to_z-of_z w64 _ start.ranges.rate, to_z-of_z w64 _ start.ranges.depth) at c.before.open-limits.ensures) ∙ not-false _ c.if2.false))
           ∙ first_end),
       omega arith,
     )

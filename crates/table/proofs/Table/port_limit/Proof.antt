@@ -1,6 +1,6 @@
 -- `table::Table::port_limit` meets its contract.
 use mathlib.Core.Path.{sym}
-use borrow.Author.Tests.{eq_eqb, ne_eqb}
+use borrow.Author.Tests.{eq-eqb, ne_eqb}
 use Rattle.numbers.proofs.Tests.{cond_true, cond_false}
 use Rattle.definitions.specs.Limits.{client, second_port, port_limit}
 use Rattle.table.proofs.Table.port_limit.Statement.{statement}
@@ -8,7 +8,7 @@ use Rattle.table.proofs.Table.port_limit.Tie as tie
 
 returns : tie.Need-returns
 unfolding port_limit
-returns c = sym (cond_true _ second_port 0 (eq_eqb _ client c.if1.true))
+returns c = sym (cond_true _ second_port 0 (eq-eqb _ client c.if1.true))
 
 returns_2 : tie.Need-returns-2
 unfolding port_limit

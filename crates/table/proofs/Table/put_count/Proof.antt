@@ -1,7 +1,7 @@
 -- `table::Table::put_count` meets its contract.
 use mathlib.Core.Path.{ap, ◌∙◌}
 use lib.ListN.{set}
-use mir.Facts.{to_z_of_z}
+use mir.Facts.{to_z-of_z}
 use borrow.Author.Rules.{sfits_of}
 use Rattle.definitions.specs.Places.{put_header}
 use borrow.Author.Rules.{rules}
@@ -19,7 +19,7 @@ same_length c = search rules
 
 returns : tie.Need-returns
 unfolding put_header
-returns c = ap (set c.before.args.table.now 0) (to_z_of_z (sfits_of c.whole.type_inv) ∙ c.whole.ensures)
+returns c = ap (set c.before.args.table.now 0) (to_z-of_z (sfits_of c.whole.type-inv) ∙ c.whole.ensures)
 
 pub put_count_spec : {M : Type 1} → statement M
 put_count_spec = tie.close (tie.spec whole_requires slice_set_from_count same_length returns)

@@ -1,7 +1,7 @@
 -- `table::Table::put_natural` meets its contract, by those of `put` and `numbers::whole`.
 use mathlib.Core.Path.{ap, ◌∙◌}
 use mir.Syntax.{w64}
-use mir.ValLaws.{to_z_of_z}
+use mir.ValLaws.{to_z-of_z}
 use borrow.Author.Rules.{sfits_of}
 use Rattle.definitions.specs.Places.{put}
 use borrow.Author.Rules.{rules}
@@ -19,7 +19,7 @@ same_length c = search rules
 
 returns : tie.Need-returns
 returns c =
-    c.before.put.ensures ∙ ap (put _ _ _) (to_z_of_z w64 _ (sfits_of c.before.before.whole.type_inv) ∙ c.before.before.whole.ensures)
+    c.before.put.ensures ∙ ap (put _ _ _) (to_z-of_z w64 _ (sfits_of c.before.before.whole.type-inv) ∙ c.before.before.whole.ensures)
 
 pub put_natural_spec : {M : Type 1} → statement M
 put_natural_spec = tie.close (tie.spec whole_requires put_requires same_length returns)

@@ -1,6 +1,6 @@
 -- `table::Table::put_root` meets its contract: four writes into a table of zeros.
 use mathlib.Core.Path.{refl}
-use mir.Facts.{to_z_of_z}
+use mir.Facts.{to_z-of_z}
 use Rattle.definitions.specs.Limits.{sort_at, share_at, depth_at, rate_at, root}
 use Rattle.definitions.specs.Calls.{opened}
 use Rattle.definitions.proofs.Places.{put_then}
@@ -31,9 +31,9 @@ returns c =
     let shared = deep.before.before.before in
     let sorted = shared.before.before.before in
     let start = sorted.before.before in
-    put_then root rate_at rated.put2.ensures (to_z_of_z start.ranges.rate)
-    (put_then root depth_at deep.put.ensures (to_z_of_z start.ranges.depth)
-    (put_then root share_at shared.put_natural2.ensures refl (put_then root sort_at sorted.put_natural.ensures refl start.requires.1)))
+    put_then root rate_at rated.put2.ensures (to_z-of_z start.ranges.rate)
+    (put_then root depth_at deep.put.ensures (to_z-of_z start.ranges.depth)
+    (put_then root share_at shared.put-natural2.ensures refl (put_then root sort_at sorted.put-natural.ensures refl start.requires.1)))
 
 pub put_root_spec : {M : Type 1} → statement M
 put_root_spec =

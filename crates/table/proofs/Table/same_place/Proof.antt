@@ -1,6 +1,6 @@
 -- `Table::same_place` meets its contract, by those of `get` and `equal`.
 use mathlib.Core.Path.{ap₂, ◌∙◌}
-use mir.Facts.{to_z_of_z}
+use mir.Facts.{to_z-of_z}
 use borrow.Author.Rules.{rules, sfits_of}
 use Rattle.numbers.specs.Whole.{same_ℤ}
 use Rattle.table.proofs.Table.same_place.Statement.{statement}
@@ -20,7 +20,7 @@ returns c =
     let one = c.before.before.get in
     let other = c.before.get2 in
     c.equal.ensures
-    ∙ ap₂ same_ℤ (to_z_of_z (sfits_of one.type_inv) ∙ one.ensures) (to_z_of_z (sfits_of other.type_inv) ∙ other.ensures)
+    ∙ ap₂ same_ℤ (to_z-of_z (sfits_of one.type-inv) ∙ one.ensures) (to_z-of_z (sfits_of other.type-inv) ∙ other.ensures)
 
 pub same_place_spec : {M : Type 1} → statement M
 same_place_spec = tie.close (tie.spec get_requires get_requires_2 equal_requires returns)

@@ -1,6 +1,6 @@
 -- `table::Table::share_limit` meets its contract.
 use mathlib.Core.Path.{sym}
-use borrow.Author.Tests.{eq_eqb, ne_eqb}
+use borrow.Author.Tests.{eq-eqb, ne_eqb}
 use Rattle.numbers.proofs.Tests.{cond_true, cond_false}
 use Rattle.definitions.specs.Limits.{stated, whole_share, greatest_rate, share_limit}
 use Rattle.table.proofs.Table.share_limit.Statement.{statement}
@@ -8,7 +8,7 @@ use Rattle.table.proofs.Table.share_limit.Tie as tie
 
 returns : tie.Need-returns
 unfolding share_limit
-returns c = sym (cond_true _ greatest_rate whole_share (eq_eqb _ stated c.if1.true))
+returns c = sym (cond_true _ greatest_rate whole_share (eq-eqb _ stated c.if1.true))
 
 returns_2 : tie.Need-returns-2
 unfolding share_limit

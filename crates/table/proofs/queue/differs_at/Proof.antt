@@ -11,10 +11,10 @@ use Rattle.definitions.specs.Order.{differs_at}
 use Rattle.table.proofs.queue.differs_at.Statement.{statement}
 use Rattle.table.proofs.queue.differs_at.Tie as tie
 
-abbrev invariant_loop : tie.invariant_loop
+abbrev invariant_loop : tie.invariant-loop
 invariant_loop table a j n ok₀ i₀ ok i = (i ≤ n) × (ok ≡ all_below i (λ i. not (eqb a (arrival table j i))))
 
-abbrev decreases_loop : tie.decreases_loop
+abbrev decreases_loop : tie.decreases-loop
 decreases_loop table a j n ok₀ i₀ ok i = n - i
 
 waiting_requires : tie.Need-waiting-requires invariant_loop decreases_loop

@@ -11,11 +11,11 @@ use Rattle.definitions.specs.Tree.{tree_of, child_of, childless}
 use Rattle.table.proofs.tree.childless.Statement.{statement}
 use Rattle.table.proofs.tree.childless.Tie as tie
 
-abbrev invariant_loop : tie.invariant_loop
+abbrev invariant_loop : tie.invariant-loop
 invariant_loop table c none₀ k₀ none k =
     (k ≤ nodes) × (none ≡ all_below k (λ j. not (child_of (tree_of table) c j)))
 
-abbrev decreases_loop : tie.decreases_loop
+abbrev decreases_loop : tie.decreases-loop
 decreases_loop table c none₀ k₀ none k = nodes - k
 
 loop_holds : tie.Need-loop-init invariant_loop decreases_loop
@@ -35,7 +35,7 @@ loop_again : tie.Need-loop-preserved invariant_loop decreases_loop
 loop_again c =
     let start = c.before.before.before.args in
     let at = c.before.before.loop in (
-      omega (arith, c.before.loop_test.true),
+      omega (arith, c.before.loop-test.true),
       all_grows at.k (λ j. not (child_of (tree_of start.table.now) start.c j)) _ _ at.invariant.1 (ap not c.child_of.ensures),
     )
 

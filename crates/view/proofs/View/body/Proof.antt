@@ -22,4 +22,4 @@ body_spec 𝓤 𝓛 𝓜 𝓡 =
     entered 𝓤 𝓛.H (triple_of 𝓛 body.signature (body.spec 𝓛 𝓜.mem 𝓡.run))
     (tables 𝓤 𝓛.H 𝓜 𝓡 code.env).C (tables 𝓤 𝓛.H 𝓜 𝓡 code.env).Λ #view·View·body code.function (code.unfolded 𝓤 𝓛.H 𝓜 𝓡)
     (hands 𝓛 B.the_row BodyAt B'.mir (λ r u is. ((LL.lawful B.the_type B'.the_laws 𝓛).typed r (u ∷ []) is).0) #view·parts·body-in (tables_of 𝓤 𝓛.H 𝓜 (tables 𝓤 𝓛.H 𝓜 𝓡 code.env))
-    (cited 𝓤 𝓛.H (Finds 𝓤 B.the_row BodyAt 𝓛) 𝓜 𝓡 code.env #view·parts·body-in body_in_def.routine code.calls_view::parts::body_in (body_in_thm.met 𝓤 𝓛 𝓜 𝓡)))
+    (cited 𝓤 𝓛.H (Finds 𝓤 B.the_row BodyAt 𝓛) 𝓜 𝓡 code.env #view·parts·body-in body_in_def.routine code.calls-view::parts::body_in (body_in_thm.met 𝓤 𝓛 𝓜 𝓡)))

@@ -22,4 +22,4 @@ entry_spec 𝓤 𝓛 𝓜 𝓡 =
     entered 𝓤 𝓛.H (triple_of 𝓛 entry.signature (entry.spec 𝓛 𝓜.mem 𝓡.run))
     (tables 𝓤 𝓛.H 𝓜 𝓡 code.env).C (tables 𝓤 𝓛.H 𝓜 𝓡 code.env).Λ #view·View·entry code.function (code.unfolded 𝓤 𝓛.H 𝓜 𝓡)
     (hands 𝓛 E.the_row EntryAt E'.mir (λ r u is. ((LL.lawful E.the_type E'.the_laws 𝓛).typed r (u ∷ []) is).0) #view·parts·entry-in (tables_of 𝓤 𝓛.H 𝓜 (tables 𝓤 𝓛.H 𝓜 𝓡 code.env))
-    (cited 𝓤 𝓛.H (Finds 𝓤 E.the_row EntryAt 𝓛) 𝓜 𝓡 code.env #view·parts·entry-in entry_in_def.routine code.calls_view::parts::entry_in_law (entry_in_thm.met 𝓤 𝓛 𝓜 𝓡)))
+    (cited 𝓤 𝓛.H (Finds 𝓤 E.the_row EntryAt 𝓛) 𝓜 𝓡 code.env #view·parts·entry-in entry_in_def.routine code.calls-view::parts::entry_in_law (entry_in_thm.met 𝓤 𝓛 𝓜 𝓡)))

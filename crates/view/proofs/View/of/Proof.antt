@@ -189,5 +189,5 @@ of_spec 𝓤 𝓛 𝓜 𝓡 =
     entered 𝓤 𝓛.H (triple_of 𝓛 of.signature (of.spec 𝓛 𝓜.mem 𝓡.run))
     (tables 𝓤 𝓛.H 𝓜 𝓡 code.env).C (tables 𝓤 𝓛.H 𝓜 𝓡 code.env).Λ #view·View·of code.function (code.unfolded 𝓤 𝓛.H 𝓜 𝓡)
     (of_meets 𝓛 𝓜.mem 𝓡.run (tables_of 𝓤 𝓛.H 𝓜 (tables 𝓤 𝓛.H 𝓜 𝓡 code.env))
-    (cited 𝓤 𝓛.H (EditionIn 𝓛 𝓜.mem 𝓡.run) 𝓜 𝓡 code.env #forms·edition-in edition_in_def.routine code.calls_forms::edition_in_law (edition_in_thm.met 𝓤 𝓛 𝓜 𝓡))
-    (cited 𝓤 𝓛.H (CountIn 𝓛 𝓜.mem 𝓡.run) 𝓜 𝓡 code.env #forms·count-in count_in_def.routine code.calls_forms::count_in_law (count_in_thm.met 𝓤 𝓛 𝓜 𝓡)))
+    (cited 𝓤 𝓛.H (EditionIn 𝓛 𝓜.mem 𝓡.run) 𝓜 𝓡 code.env #forms·edition-in edition_in_def.routine code.calls-forms::edition_in_law (edition_in_thm.met 𝓤 𝓛 𝓜 𝓡))
+    (cited 𝓤 𝓛.H (CountIn 𝓛 𝓜.mem 𝓡.run) 𝓜 𝓡 code.env #forms·count-in count_in_def.routine code.calls-forms::count_in_law (count_in_thm.met 𝓤 𝓛 𝓜 𝓡)))
