@@ -1,4 +1,6 @@
 // What turns a join back: the limits of its arguments, and the causes in the tree.
+#![tactic(auto)]
+
 ghost use Rattle.std.specs.Prelude.{◌≡◌, [], ◌∷◌, ◌≤◌, eqb, length};
 ghost use Rattle.numbers.specs.Tests.{every};
 ghost use Rattle.definitions.specs.Limits.{table_length, last_node, last_class_level, class};
@@ -12,7 +14,7 @@ use answers::Refusal;
 use table::Table;
 
 // The joining node: join's arguments as natural numbers.
-#[derive(Drop)]
+#[derive(Clone, Copy)]
 pub struct NewNode {
     pub node: usize,
     pub parent: usize,

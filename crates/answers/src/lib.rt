@@ -1,10 +1,12 @@
 // What a call answers: the enums of the answers and of the refusals, and the numbers of these.
+#![tactic(auto)]
+
 ghost use Rattle.std.specs.Prelude.{◌≡◌, [], ◌∷◌, ◌≤◌};
 ghost use Rattle.definitions.specs.Refusals.{last_refusal, outcome, number_told};
 ghost use Rattle.answers.specs.Answers.{number_of, told};
 
 // The causes of refusal, in the order of their numbers.
-#[derive(Drop)]
+#[derive(Clone, Copy)]
 pub enum Refusal {
     NotInOrder,
     OutsideLimits,
@@ -63,21 +65,21 @@ impl Refusal {
 }
 
 // What a call answers: its number, 0 where it has no other, or why it is refused.
-#[derive(Drop)]
+#[derive(Clone, Copy)]
 pub enum Answer {
     Accepted(i64),
     Refused(Refusal),
 }
 
 // What tick answers: how many were dispatched to the first port and to the second.
-#[derive(Drop)]
+#[derive(Clone, Copy)]
 pub enum Ticked {
     Dispatched { first: i64, second: i64 },
     Refused(Refusal),
 }
 
 // What look answers.
-#[derive(Drop)]
+#[derive(Clone, Copy)]
 pub enum Seen {
     Node {
         rate: i64,
@@ -89,7 +91,7 @@ pub enum Seen {
 }
 
 // What same answers.
-#[derive(Drop)]
+#[derive(Clone, Copy)]
 pub enum Compared {
     Same,
     Different,

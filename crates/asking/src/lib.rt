@@ -1,4 +1,6 @@
 // The requests of a load. Document 02, (d).
+#![tactic(auto)]
+
 ghost use Rattle.std.specs.Prelude.{◌≡◌, true, ◌≤◌, length, take};
 ghost use Rattle.io.specs.Counts.{IsPrefixLen};
 ghost use Rattle.definitions.specs.Limits.{table_length, nodes};

@@ -1,5 +1,7 @@
 // What a tick does to balances: what a dispatch takes from them, and the steps in which every balance grows by its rate and in
 // which none stays above its depth.
+#![tactic(auto)]
+
 ghost use Rattle.std.specs.Prelude.{◌≡◌, cond, ◌+◌, ◌<◌, ◌≤◌, ◌^◌, length, pos, ◌+ℤ◌};
 ghost use Rattle.std.specs.Int.Signed.{le_z};
 ghost use Rattle.numbers.specs.Whole.{minus, plus};

@@ -1,20 +1,17 @@
--- Reading an accepted plan leaves the table of an open and of the entries' joins; a claim over every list of calls follows with these
--- joins as its first calls.
+-- Reading an accepted plan leaves the table of an open and of the entries' joins; demand 3 follows with these joins as its first calls.
 use Prim.Native.Nat.{ℕ, zero, suc}
 use mathlib.Core.Path.{◌≡◌, refl, sym, ap, ◌∙◌}
 use mathlib.Core.List.{List, [], ◌∷◌, ◌++◌}
 use lib.IntN.{ℤ, pos}
 use Rattle.treelaws.specs.Joins.{Join, after_join}
-use Rattle.definitions.specs.Calls.{open_refusal, open_table}
-use Rattle.runs.specs.Runs.{Call, after, Event, events, table_after_all}
+use Rattle.runs.specs.Runs.{Call, after, events, table_after_all}
 use Rattle.runs.proofs.Divided.{table_divided}
-use Rattle.bounds.specs.Observer.{Observer, start, observed_all}
+use Rattle.bounds.specs.Observer.{start, observed_all}
 use Rattle.bounds.specs.Demand.{Bounds, Demand3}
-use Rattle.bounds.specs.Times.{InTime, Times}
-use Rattle.bounds.proofs.Theorem.{demand_3, times}
+use Rattle.bounds.proofs.Theorem.{demand_3}
 use Rattle.planformat.specs.Format.{Plan, plan_in}
 use Rattle.planlaws.specs.Reading.{join_of, after_entry, after_entries, opened_for, joined_for, plan_refusal, plan_table}
-use Rattle.bounds.specs.AsCalls.{called, first_joins, joins_of, AsCalls, AfterReading, ReadDemand3, ReadTimes}
+use Rattle.bounds.specs.AsCalls.{called, first_joins, joins_of, AsCalls, ReadDemand3}
 use Rattle.planlaws.proofs.Accepted.{after_none, after_suc, entries_each, plan_accepted, plan_table_law}
 
 call_joins : (t : List ℤ) (j : Join) → table_after_all t (called j ∷ []) ≡ after_join t j
@@ -40,22 +37,10 @@ read_as_calls t s h =
       table = plan_table_law t s h ∙ calls_join (opened_for t (plan_in s)) (plan_in s) (plan_in s).count;
     }
 
-after_reading :
-    (Claim : Observer → List Event → Type 0)
-    → ((t : List ℤ) (rate depth : ℤ) (before stretch : List Call) → open_refusal t rate depth ≡ 0
-    → Claim (observed_all (start rate depth) (events (open_table t rate depth) before)) (events (table_after_all (open_table t rate depth) before) stretch))
-    → AfterReading Claim
-unfolding AfterReading opened_for
-after_reading Claim claim t s before stretch h =
+pub read_demand_3 : ReadDemand3
+unfolding ReadDemand3 Demand3 opened_for
+read_demand_3 t s before stretch h =
     let c = read_as_calls t s h in
     let joins = joins_of (plan_in s) in
     rw (c.table, ← table_divided (opened_for t (plan_in s)) joins before)
-    (claim t (pos (plan_in s).rate) (pos (plan_in s).depth) (joins ++ before) stretch c.opening)
-
-pub read_demand_3 : ReadDemand3
-unfolding ReadDemand3 Demand3
-read_demand_3 = after_reading Bounds demand_3
-
-pub read_times : ReadTimes
-unfolding ReadTimes Times
-read_times = after_reading InTime times
+    (demand_3 t (pos (plan_in s).rate) (pos (plan_in s).depth) (joins ++ before) stretch c.opening)

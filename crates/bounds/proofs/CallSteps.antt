@@ -1,15 +1,15 @@
--- The laws of one call that is no accepted tick: there are no entries and no rate counts, so a class that stays and a client that has
--- a request waiting keep balance and depth. A refused call, whichever it is, leaves the table and the observer as they were.
+-- The laws of one call that is no accepted tick: there are no entries and no rate counts, so a class that stays and a client that
+-- waits have the balance and the depth they had. A refused call, whichever it is, leaves the table and the observer as they were.
 use Prim.Native.Nat.{ℕ}
 use mathlib.Core.Path.{◌≡◌, refl, sym, ap, ◌∙◌}
 use mathlib.Core.Bool.{Bool, true, false, cond, ◌&&◌, and-true}
-use mathlib.Core.Logic.{◌⊎◌, inl, ⊎_elim}
+use mathlib.Core.Logic.{inl}
 use mathlib.Core.List.{List, [], ◌∷◌}
 use native.Mathlib.Omega.{arith}
 use lib.IntN.{ℤ}
 use Rattle.numbers.specs.Whole.{plus, minus}
 use Rattle.numbers.specs.Tests.{every}
-use Rattle.numbers.proofs.Tests.{true_false}
+use Rattle.numbers.proofs.Tests.{true_false, cond_false}
 use Rattle.numbers.proofs.Every.{every_two, head_fails, rest_fail}
 use Rattle.definitions.specs.Tree.{is_class, is_client}
 use Rattle.definitions.specs.Refusals.{Outcome, accepted, refused, outcome, kept}
@@ -18,9 +18,9 @@ use Rattle.calllaws.proofs.Nodes.{class_same, client_same}
 use Rattle.runs.specs.Runs.{Call, without_lists, after, is_tick, leaves, accepts, event_of}
 use Rattle.runs.proofs.Refused.{accepted_none, refused_keeps}
 use Rattle.bounds.specs.Observer.{Observer, Entry, dispatched_by, entries, after_accepted, after_answer, observed}
-use Rattle.bounds.specs.Counts.{accepted_tick, grains_to_node, sum_over, takes_out}
-use Rattle.bounds.proofs.Simulation.{Agrees, idle_rate, ClassStep, Busy, ClientStep, Step}
-use Rattle.bounds.proofs.Changes.{queue_grows, Change, unchanged}
+use Rattle.bounds.specs.Counts.{accepted_tick, rate_at, grains_to_node, sum_over, waits, takes_out}
+use Rattle.bounds.proofs.Simulation.{Agrees, ClassStep, ClientStep, Step}
+use Rattle.bounds.proofs.Changes.{Change, unchanged}
 
 none_dispatched : (ticks : Bool) (answer : Outcome) (first second : List ℤ) → every (ticks ∷ accepts answer ∷ []) ≡ false → cond ticks (dispatched_by answer first second) [] ≡ []
 unfolding every accepts dispatched_by
@@ -29,10 +29,14 @@ none_dispatched true (refused number) first second h = refl
 none_dispatched false answer first second h = refl
 
 -- By what the call changes; `out c` says whether it takes class c out.
-module _ (t : List ℤ) (o : Observer) (call : Call) (a : Agrees t o) (idle : accepted_tick (event_of t call) ≡ false) (out : ℕ → Bool) (outs : (c : ℕ) → takes_out c (event_of t call) ≡ out c) (d : Change t (after t call).table o (observed o (event_of t call)) out) where
+module _ (t : List ℤ) (o : Observer) (call : Call) (idle : accepted_tick (event_of t call) ≡ false) (out : ℕ → Bool) (outs : (c : ℕ) → takes_out c (event_of t call) ≡ out c) (d : Change t (after t call).table o (observed o (event_of t call)) out) where
   no_entries : entries (event_of t call) ≡ []
   unfolding accepted_tick entries event_of
   no_entries = none_dispatched (is_tick call) (after t call).answer (after t call).first (after t call).second idle
+
+  no_rate : (k : ℕ) → rate_at o k (event_of t call) ≡ 0
+  unfolding rate_at
+  no_rate k = cond_false (accepted_tick (event_of t call)) _ 0 idle
 
   idle_class : (c : ℕ) → is_class o.tree c ≡ true → takes_out c (event_of t call) ≡ false → ClassStep t o call c
   unfolding sum_over
@@ -48,29 +52,18 @@ module _ (t : List ℤ) (o : Observer) (call : Call) (a : Agrees t o) (idle : ac
               ap plus same.balance,
               ap minus same.balance,
               ap (sum_over (grains_to_node o.tree c)) no_entries,
-              idle_rate o c (event_of t call) idle,
+              no_rate c,
             );
       }
 
-  idle_client : (k : ℕ) → Busy t o k ⊎ Busy (after t call).table (observed o (event_of t call)) k → ClientStep t o call k
-  idle_client k busy =
-      let p = observed o (event_of t call) in
-      let s = d.client k busy in
-      let same = client_same p.tree o.tree k s.same.sort in
-      let client : is_client o.tree k ≡ true = ⊎_elim (λ was. was.client) (λ is. sym same ∙ is.client) busy in
+  idle_client : (k : ℕ) → is_client (observed o (event_of t call)).tree k ≡ true → waits (observed o (event_of t call)) k ≡ true → ClientStep t o call k
+  idle_client k e busy =
+      let same = d.client k e busy in
       record {
-        client = client;
-        stays = same ∙ client;
-        depth = s.same.depth;
-        way =
-            inl
-            (record {
-              idle = idle;
-              none = no_entries;
-              balance = s.same.balance;
-              more = s.grows.more;
-              queue = queue_grows t (after t call).table o p a d.agrees k client (same ∙ client) s.grows;
-            });
+        client = sym (client_same (observed o (event_of t call)).tree o.tree k same.sort) ∙ e;
+        depth = same.depth;
+        line = omega (arith, ap plus same.balance, no_rate k);
+        end = inl (no_rate k, ap plus same.balance);
       }
 
   idle_step : Step t o call
@@ -79,13 +72,13 @@ module _ (t : List ℤ) (o : Observer) (call : Call) (a : Agrees t o) (idle : ac
 
 -- An accepted call other than a tick leaves the new contents.
 pub quiet_step :
-    (t : List ℤ) (o : Observer) (call : Call) → Agrees t o → (refusal : ℕ) (new values : List ℤ) → is_tick call ≡ false
+    (t : List ℤ) (o : Observer) (call : Call) (refusal : ℕ) (new values : List ℤ) → is_tick call ≡ false
     → after t call ≡ without_lists (kept refusal new t) (outcome refusal values) → accepts (after t call).answer ≡ true
     → (refusal ≡ 0 → Change t new o (after_accepted o call []) (λ c. leaves c call)) → Step t o call
 unfolding accepted_tick takes_out entries event_of observed after_answer
-quiet_step t o call a refusal new values quiet made h change =
+quiet_step t o call refusal new values quiet made h change =
     let e = accepted_none refusal values (rw made at h) in
-    idle_step t o call a (head_fails _ _ quiet) (λ c. leaves c call)
+    idle_step t o call (head_fails _ _ quiet) (λ c. leaves c call)
     (λ c. every_two (leaves c call) (accepts (after t call).answer) ∙ ap (λ (b : Bool). leaves c call && b) h ∙ and-true (leaves c call))
     (rw (made, quiet, kept_new refusal new t e, outcome_accepted refusal values e) (change e))
 
@@ -99,5 +92,5 @@ pub refused_step : (t : List ℤ) (o : Observer) (call : Call) → Agrees t o �
 unfolding accepted_tick takes_out event_of observed
 refused_step t o call a h =
     let fails : every (accepts (after t call).answer ∷ []) ≡ false = head_fails _ _ h in
-    idle_step t o call a (rest_fail _ _ fails) (λ c. false) (λ c. rest_fail _ _ fails)
+    idle_step t o call (rest_fail _ _ fails) (λ c. false) (λ c. rest_fail _ _ fails)
     (rw (refused_keeps t call h, refused_observed o call (after t call).answer (entries (event_of t call)) h) (unchanged t o a))

@@ -1,13 +1,13 @@
 -- An accepted change of share: balances and requests stay.
-use Prim.Native.Nat.{ℕ, ◌<◌}
-use mathlib.Core.Path.{◌≡◌, refl, ap, ◌∙◌}
+use Prim.Native.Nat.{ℕ, ◌+◌, ◌<◌}
+use mathlib.Core.Path.{◌≡◌, refl, sym, ap, ◌∙◌}
 use mathlib.Core.Bool.{true}
 use mathlib.Core.List.{List, []}
 use native.Mathlib.Omega.{arith}
 use lib.IntN.{ℤ}
 use Rattle.numbers.specs.Whole.{plus}
-use Rattle.definitions.specs.Limits.{record_length, kind_at, share_at, rate_at, balance_at, root}
-use Rattle.definitions.specs.Places.{place, rate as rate_of, balance}
+use Rattle.definitions.specs.Limits.{record_length, kind_at, share_at, rate_at, balance_at, waiting_at, root}
+use Rattle.definitions.specs.Places.{place, rate as rate_of, balance, waiting}
 use Rattle.definitions.specs.Tree.{Tree, tree_of, is_client}
 use Rattle.definitions.specs.Rates.{renewed}
 use Rattle.definitions.specs.Order.{in_order}
@@ -20,19 +20,18 @@ use Rattle.runs.specs.Runs.{change_share, leaves}
 use Rattle.bounds.specs.Observer.{Observer, with_share, after_accepted}
 use Rattle.bounds.proofs.Simulation.{Agrees}
 use Rattle.bounds.proofs.Trees.{with_share_law}
-use Rattle.bounds.proofs.Changes.{Change, all_same, grows_none, same_queues}
+use Rattle.bounds.proofs.Changes.{Change, all_same}
 use Rattle.bounds.proofs.Renewing.{kept_order, renewed_agrees, renewed_same}
 
 pub share_change :
     (t : List ℤ) (o : Observer) (node kind share : ℤ) → Agrees t o → change_share_refusal t node kind share ≡ 0
     → Change t (renewed (reshared t (plus node) kind share)) o (after_accepted o (change_share node kind share) []) (λ c. leaves c (change_share node kind share))
-unfolding change_share_table after_accepted with_share rate_of balance is_client leaves
+unfolding change_share_table after_accepted with_share rate_of balance waiting is_client leaves
 share_change t o node kind share a h =
     all_same t (renewed u) o p _ refl
     (renewed_agrees u order p tree (ap plus (rest root rate_at (omega arith) (omega arith) (omega arith)) ∙ a.disk)
-    (same_queues t u o a (λ j p least hp. rest j p hp (omega arith) (omega arith))))
+    (λ j e. a.queue j e ∙ ap (λ (w : ℕ). o.sent j + w) (sym (ap plus (rest j waiting_at (omega arith) (omega arith) (omega arith))))))
     (λ j. renewed_same u order t o p j (record { sort = refl; level = refl; depth = refl; balance = rest j balance_at (omega arith) (omega arith) (omega arith) }))
-    (λ j. grows_none o p j refl refl)
   where
     k : ℕ
     k = plus node

@@ -1,27 +1,22 @@
 -- What an observer reads from the numbers that a tick writes: each dispatch writes four, so after it the observer reads one
--- entry more, behind those before it, whatever the list holds beyond. Sums over entries grow by that entry's term, and the requests
--- for a client by that entry's request. A client's entries stand on its port's list, in their order.
+-- entry more, behind those before it, whatever the list holds beyond. Counts over entries grow by that entry's term.
 use Prim.Native.Nat.{ℕ, zero, suc, ◌+◌, ◌*◌, ◌/◌, ◌≤◌}
-use mathlib.Core.Path.{◌≡◌, refl, sym, ap, ◌∙◌}
-use mathlib.Core.Bool.{Bool, true, false, cond}
-use mathlib.Core.List.{List, [], ◌∷◌, ◌++◌, append-nil, append_assoc}
+use mathlib.Core.Path.{◌≡◌, refl, ap, ◌∙◌}
+use mathlib.Core.Bool.{cond}
+use mathlib.Core.List.{List, [], ◌∷◌, ◌++◌, append-nil}
 use native.Mathlib.Omega.{arith}
 use native.Mathlib.Nat.{zero-add, suc-add}
-use borrow.Author.Tests.{eqb-true, eqb-false, ne_eqb}
 use lib.Dec.{eqb}
 use lib.ListN.{length}
 use lib.IntN.{ℤ, pos}
 use Rattle.numbers.specs.Whole.{plus}
-use Rattle.numbers.proofs.Tests.{by_test, cond_false}
 use Rattle.definitions.specs.Limits.{entry_length, first_port, second_port}
 use Rattle.definitions.specs.Places.{size, tag}
-use Rattle.definitions.specs.Tick.{State, grains, dispatched, of_port}
+use Rattle.definitions.specs.Tick.{State, dispatched, of_port}
 use Rattle.definitions.proofs.Ports.{whole, whole_of, by_entries, by_port, port_none, port_here, port_other}
 use Rattle.ticklaws.proofs.Dispatch.{dispatch_entry}
-use Rattle.bounds.specs.Observer.{Request, Entry, entries_in, requests_for}
-use Rattle.bounds.specs.Counts.{entry_grains, grains_for_client, sum_over}
-use Rattle.bounds.specs.Times.{grains_of}
-use Rattle.bounds.proofs.Queue.{request_at}
+use Rattle.bounds.specs.Observer.{Entry, entries_in, entries_for}
+use Rattle.bounds.specs.Counts.{sum_over}
 
 -- The entries of a list of numbers, and then those of what stands behind it.
 pub entries_append : (n m : ℕ) (list more : List ℤ) → length list ≡ entry_length * n → entries_in (n + m) (list ++ more) ≡ entries_in n list ++ entries_in m more
@@ -40,20 +35,10 @@ unfolding sum_over
 sum_last f [] e = omega arith
 sum_last f (a ∷ list) e = omega (arith, sum_last f list e)
 
--- The request of an entry, where it is for client k.
-abbrev pub request_for : ℕ → Entry → List Request
-request_for k e = cond (eqb e.client k) (record { tag = e.tag; size = e.size } ∷ []) []
-
--- The requests for a client from entries and from those behind them.
-pub for_append : (k : ℕ) (list more : List Entry) → requests_for k (list ++ more) ≡ requests_for k list ++ requests_for k more
-unfolding requests_for
-for_append k [] more = refl
-for_append k (a ∷ list) more =
-    ap (λ (l : List Request). request_for k a ++ l) (for_append k list more) ∙ sym (append_assoc (request_for k a) (requests_for k list) (requests_for k more))
-
-pub for_last : (k : ℕ) (list : List Entry) (e : Entry) → requests_for k (list ++ (e ∷ [])) ≡ requests_for k list ++ request_for k e
-unfolding requests_for
-for_last k list e = for_append k list (e ∷ []) ∙ ap (λ (l : List Request). requests_for k list ++ l) (append-nil (request_for k e))
+pub entries_for_last : (k : ℕ) (list : List Entry) (e : Entry) → entries_for k (list ++ (e ∷ [])) ≡ entries_for k list + cond (eqb e.client k) 1 0
+unfolding entries_for
+entries_for_last k [] e = omega arith
+entries_for_last k (a ∷ list) e = omega (arith, entries_for_last k list e)
 
 -- The entries that a list of whole entries holds.
 unfoldable pub told : List ℤ → List Entry
@@ -75,7 +60,7 @@ told_first list more w =
 
 -- The entry of a dispatch for client k with node s as supplier.
 unfoldable pub entry_of : List ℤ → ℕ → ℕ → Entry
-entry_of t k s = record { client = k; tag = tag t k 0; size = size t k 0; supplier = s }
+entry_of t k s = record { client = k; size = size t k 0; supplier = s }
 
 module _ (st : State) (k s : ℕ) (w : whole st.entries) where
   pub told_dispatched : told (dispatched st k s).entries ≡ told st.entries ++ (entry_of st.table k s ∷ [])
@@ -91,62 +76,22 @@ unfolding sum_over
 sum_append f [] more = omega arith
 sum_append f (e ∷ list) more = omega (arith, sum_append f list more)
 
+-- Entries for a client are a sum over entries, too.
+pub entries_for_sum : (k : ℕ) (list : List Entry) → entries_for k list ≡ sum_over (λ e. cond (eqb e.client k) 1 0) list
+unfolding entries_for sum_over
+entries_for_sum k [] = refl
+entries_for_sum k (e ∷ list) = omega (arith, entries_for_sum k list)
+
 sum_none : (f : Entry → ℕ) → sum_over f (told []) ≡ 0
 unfolding sum_over
 sum_none f = ap (sum_over f) told_none
 
 -- One entry more in front.
-told_one : (a b c d : ℤ) (list : List ℤ) → told (a ∷ b ∷ c ∷ d ∷ list) ≡ record { client = plus a; tag = b; size = plus c; supplier = plus d } ∷ told list
-unfolding told entries_in
-told_one a b c d list =
+sum_first : (f : Entry → ℕ) (a b c d : ℤ) (list : List ℤ) → sum_over f (told (a ∷ b ∷ c ∷ d ∷ list)) ≡ f (record { client = plus a; size = plus c; supplier = plus d }) + sum_over f (told list)
+unfolding told entries_in sum_over
+sum_first f a b c d list =
     let one : length (a ∷ b ∷ c ∷ d ∷ list) / entry_length ≡ suc (length list / entry_length) = omega arith in
-    ap (λ (n : ℕ). entries_in n (a ∷ b ∷ c ∷ d ∷ list)) one
-
-sum_first : (f : Entry → ℕ) (a b c d : ℤ) (list : List ℤ) → sum_over f (told (a ∷ b ∷ c ∷ d ∷ list)) ≡ f (record { client = plus a; tag = b; size = plus c; supplier = plus d }) + sum_over f (told list)
-unfolding sum_over
-sum_first f a b c d list = ap (sum_over f) (told_one a b c d list)
-
--- It is for its client and for no other.
-module _ (k : ℕ) (a b c d : ℤ) (list : List ℤ) where
-  for_first : requests_for k (told (a ∷ b ∷ c ∷ d ∷ list)) ≡ cond (eqb (plus a) k) (record { tag = b; size = plus c } ∷ []) [] ++ requests_for k (told list)
-  unfolding requests_for
-  for_first = ap (requests_for k) (told_one a b c d list)
-
-  for_not : (plus a ≡ k → ⊥) → requests_for k (told (a ∷ b ∷ c ∷ d ∷ list)) ≡ requests_for k (told list)
-  for_not ne = for_first ∙ ap (λ (l : List Request). l ++ requests_for k (told list)) (cond_false _ _ [] (ne_eqb (plus a) k ne))
-
--- The entries for a client stand on its port's list, in their order, and none on the other.
-module _ (port_of : ℕ → ℕ) (p k : ℕ) where
-  of : List ℤ → List Request
-  of m = requests_for k (told m)
-
-  pub for_here : port_of k ≡ p → (list : List ℤ) → whole list → requests_for k (told (of_port port_of p list)) ≡ requests_for k (told list)
-  unfolding of
-  for_here at =
-      by_entries (λ (l : List ℤ). of (of_port port_of p l) ≡ of l)
-      (ap of (port_none port_of p))
-      (λ a b c d l e.
-      by_test (eqb (port_of (plus a)) p)
-      (λ y.
-      ap of (port_here port_of p a b c d l (eqb-true _ p y))
-      ∙ for_first k a b c d (of_port port_of p l)
-      ∙ ap (λ (m : List Request). cond (eqb (plus a) k) (record { tag = b; size = plus c } ∷ []) [] ++ m) e
-      ∙ sym (for_first k a b c d l))
-      (λ n.
-      let ne = eqb-false _ p n in
-      ap of (port_other port_of p a b c d l ne) ∙ e ∙ sym (for_not k a b c d l (λ same. ne (ap port_of same ∙ at)))))
-
-  pub for_other : (port_of k ≡ p → ⊥) → (list : List ℤ) → whole list → requests_for k (told (of_port port_of p list)) ≡ []
-  unfolding of requests_for
-  for_other off =
-      by_entries (λ (l : List ℤ). of (of_port port_of p l) ≡ [])
-      (ap of (port_none port_of p) ∙ ap (requests_for k) told_none)
-      (λ a b c d l e.
-      by_test (eqb (port_of (plus a)) p)
-      (λ y.
-      let here = eqb-true _ p y in
-      ap of (port_here port_of p a b c d l here) ∙ for_not k a b c d (of_port port_of p l) (λ same. off (sym (ap port_of same) ∙ here)) ∙ e)
-      (λ n. ap of (port_other port_of p a b c d l (eqb-false _ p n)) ∙ e))
+    ap (λ (n : ℕ). sum_over f (entries_in n (a ∷ b ∷ c ∷ d ∷ list))) one
 
 -- A sum over the entries of both ports is that over all.
 pub sum_ports : (f : Entry → ℕ) (port_of : ℕ → ℕ) → ((k : ℕ) → port_of k ≤ second_port) → (list : List ℤ) → whole list → sum_over f (told (of_port port_of first_port list)) + sum_over f (told (of_port port_of second_port list)) ≡ sum_over f (told list)
@@ -174,13 +119,3 @@ sum_ports f port_of small =
       ap of (port_other port_of first_port a b c d l other),
       ap of (port_here port_of second_port a b c d l here),
     )))
-
--- The grains dispatched for a client are those of its requests.
-pub client_grains : (k : ℕ) (es : List Entry) → sum_over (grains_for_client k) es ≡ grains_of (requests_for k es)
-unfolding sum_over grains_for_client entry_grains requests_for grains_of
-client_grains k [] = refl
-client_grains k (e ∷ es) = omega (arith, client_grains k es, one (eqb e.client k) (record { tag = e.tag; size = e.size }) (requests_for k es))
-  where
-    one : (b : Bool) (r : Request) (l : List Request) → grains_of (cond b (r ∷ []) [] ++ l) ≡ cond b (grains r.size) 0 + grains_of l
-    one true r l = refl
-    one false r l = omega arith

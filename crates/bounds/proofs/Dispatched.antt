@@ -1,27 +1,31 @@
--- What one dispatch for client k with node s as supplier adds: the oldest request and its grains for client k, and the grains to s and
--- to every node above it.
+-- What one dispatch for client k with node s as supplier adds to the counts: one entry and its grains for client k, and
+-- the grains to s and to every node above it.
 use Prim.Native.Nat.{ℕ, ◌+◌}
-use mathlib.Core.Path.{◌≡◌, ap, ◌∙◌}
+use mathlib.Core.Path.{◌≡◌, sym, ap, ◌∙◌}
 use mathlib.Core.Bool.{cond}
 use mathlib.Core.List.{List, [], ◌∷◌, ◌++◌}
+use borrow.Author.Tests.{eqb-true, eq-eqb}
 use lib.Dec.{eqb}
+use Rattle.numbers.proofs.Tests.{same_truth}
 use Rattle.definitions.specs.Tree.{Tree, at_or_above}
 use Rattle.definitions.specs.Places.{size}
 use Rattle.definitions.specs.Tick.{State, grains, dispatched}
 use Rattle.definitions.proofs.Ports.{whole}
-use Rattle.bounds.specs.Observer.{Entry, requests_for}
+use Rattle.bounds.specs.Observer.{Entry, entries_for}
 use Rattle.bounds.specs.Counts.{entry_grains, grains_for_client, grains_to_node, sum_over}
-use Rattle.bounds.proofs.Queue.{request_at}
-use Rattle.bounds.proofs.Decoded.{sum_last, for_last, told, entry_of, told_dispatched}
+use Rattle.bounds.proofs.Decoded.{sum_last, entries_for_last, told, entry_of, told_dispatched}
+
+pub eqb_swap : (a b : ℕ) → eqb a b ≡ eqb b a
+eqb_swap a b = same_truth (eqb a b) (eqb b a) (λ e. eq-eqb b a (sym (eqb-true a b e))) (λ e. eq-eqb a b (sym (eqb-true b a e)))
 
 module _ (st : State) (k s : ℕ) (w : whole st.entries) where
-  -- What is read after the dispatch has one entry more.
-  more : {A : Type 0} (f : List Entry → A) → f (told (dispatched st k s).entries) ≡ f (told st.entries ++ (entry_of st.table k s ∷ []))
+  -- A count after the dispatch is the count with one entry more.
+  more : (f : List Entry → ℕ) → f (told (dispatched st k s).entries) ≡ f (told st.entries ++ (entry_of st.table k s ∷ []))
   more f = ap f (told_dispatched st k s w)
 
-  pub sent_more : (j : ℕ) → requests_for j (told (dispatched st k s).entries) ≡ requests_for j (told st.entries) ++ cond (eqb k j) (request_at st.table k 0 ∷ []) []
-  unfolding entry_of request_at
-  sent_more j = more (requests_for j) ∙ for_last j (told st.entries) (entry_of st.table k s)
+  pub sent_more : (j : ℕ) → entries_for j (told (dispatched st k s).entries) ≡ entries_for j (told st.entries) + cond (eqb k j) 1 0
+  unfolding entry_of
+  sent_more j = more (entries_for j) ∙ entries_for_last j (told st.entries) (entry_of st.table k s)
 
   -- A sum after the dispatch has the term of its entry more.
   sum_more : (f : Entry → ℕ) → sum_over f (told (dispatched st k s).entries) ≡ sum_over f (told st.entries) + f (entry_of st.table k s)

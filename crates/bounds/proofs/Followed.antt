@@ -1,38 +1,37 @@
--- The dispatches of a tick, followed by what its entries tell: at each client the requests of its entries and then those that still
--- wait are those that waited, at each node the balance falls by the grains charged to it, and a client is charged for its own requests
--- only, since strictly above any node stand only classes.
-use Prim.Native.Nat.{ℕ, ◌+◌, ◌≤◌, ◌<◌}
-use mathlib.Core.Path.{◌≡◌, refl, sym, ap, ap₂, ◌∙◌}
+-- The dispatches of a tick, followed by what its entries tell: at each client the requests that wait fall by the entries for
+-- it, at each node the balance falls by the grains charged to it, and a client is charged for its own requests only, since
+-- strictly above any node stand only classes.
+use Prim.Native.Nat.{ℕ, ◌+◌, ◌≤◌}
+use mathlib.Core.Path.{◌≡◌, refl, sym, ◌∙◌}
 use mathlib.Core.Bool.{true}
-use mathlib.Core.List.{List, [], ◌∷◌, ◌++◌, append-nil, append_assoc}
+use mathlib.Core.List.{List}
 use native.Mathlib.Omega.{arith}
 use native.Mathlib.Decide.{ℕ_discrete}
-use borrow.Author.Tests.{eq-eqb, ne_eqb}
+use borrow.Author.Tests.{eq-eqb}
 use lib.Dec.{eqb}
 use lib.IntN.{ℤ, pos}
 use Rattle.numbers.specs.Whole.{plus, minus}
 use Rattle.numbers.proofs.Tests.{by_test, true_false, cond_true, cond_false}
 use Rattle.numbers.proofs.Parts.{zarith, sub_parts}
-use Rattle.definitions.specs.Limits.{nodes, most_waiting, root}
+use Rattle.definitions.specs.Limits.{root}
 use Rattle.definitions.specs.Tree.{Tree, is_client, at_or_above}
 use Rattle.definitions.specs.Places.{balance, waiting, size}
 use Rattle.definitions.specs.Tick.{State, grains, dispatched}
 use Rattle.treelaws.proofs.Sorts.{client_class}
 use Rattle.treelaws.proofs.Way.{Ways, At, way_class, above_there, above_root}
-use Rattle.ticklaws.proofs.Dispatch.{Dispatch, dispatch_shifted}
-use Rattle.bounds.specs.Observer.{Request, requests_for}
+use Rattle.ticklaws.proofs.Dispatch.{Dispatch, takes, dispatch_shifted}
+use Rattle.bounds.specs.Observer.{entries_for}
 use Rattle.bounds.specs.Counts.{entry_grains, grains_for_client, grains_to_node, sum_over}
 use Rattle.definitions.proofs.Ports.{whole}
 use Rattle.ticklaws.proofs.Ports.{entry_whole}
-use Rattle.bounds.proofs.Queue.{request_at, queue_of, queue_stays, queue_taken}
 use Rattle.bounds.proofs.Decoded.{told}
-use Rattle.bounds.proofs.Dispatched.{sent_more, all_more, grains_more, charged_more}
+use Rattle.bounds.proofs.Dispatched.{eqb_swap, sent_more, all_more, grains_more, charged_more}
 
 -- What the dispatches from one state to another did.
 pub record Followed (tree : Tree) (from to : State) : Type 0 where
-  pub queues :
-      (k : ℕ) → k < nodes
-      → requests_for k (told to.entries) ++ queue_of to.table k ≡ requests_for k (told from.entries) ++ queue_of from.table k
+  pub waits :
+      (k : ℕ)
+      → waiting to.table k + entries_for k (told to.entries) ≡ waiting from.table k + entries_for k (told from.entries)
   pub fewer : (k : ℕ) → waiting to.table k ≤ waiting from.table k
   pub balances :
       (x : ℕ)
@@ -40,7 +39,7 @@ pub record Followed (tree : Tree) (from to : State) : Type 0 where
       ≡ minus (balance to.table x) + plus (balance from.table x) + sum_over (grains_to_node tree x) (told from.entries)
 
 pub followed_first : (tree : Tree) (st : State) → Followed tree st st
-followed_first tree st = record { queues = λ k hk. refl; fewer = λ k. omega arith; balances = λ x. omega arith }
+followed_first tree st = record { waits = λ k. refl; fewer = λ k. omega arith; balances = λ x. omega arith }
 
 -- A list that holds entries only, in which a client is charged at most what is dispatched for it, and the root everything.
 pub record Fair (tree : Tree) (list : List ℤ) : Type 0 where
@@ -49,24 +48,14 @@ pub record Fair (tree : Tree) (list : List ℤ) : Type 0 where
   pub root : sum_over (grains_to_node tree root) (told list) ≡ sum_over entry_grains (told list)
 
 module _ (tree : Tree) (st : State) (k s : ℕ) (d : Dispatch tree st.table (dispatched st k s).table k s) (w : whole st.entries) where
-  -- The oldest request of client k goes from its queue to its entries; other clients keep theirs.
-  one_own : waiting st.table k ≤ most_waiting → requests_for k (told (dispatched st k s).entries) ++ queue_of (dispatched st k s).table k ≡ requests_for k (told st.entries) ++ queue_of st.table k
-  one_own few =
-      let u = st.table in
-      let v = (dispatched st k s).table in
-      let es = requests_for k (told st.entries) in
-      ap (λ (l : List Request). l ++ queue_of v k)
-      (sent_more st k s w k ∙ ap (λ (l : List Request). es ++ l) (cond_true (eqb k k) (request_at u k 0 ∷ []) [] (eq-eqb k k refl)))
-      ∙ append_assoc es (request_at u k 0 ∷ []) (queue_of v k)
-      ∙ ap (λ (l : List Request). es ++ l) (sym (queue_taken u v k few d.own))
-
-  one_other : (j : ℕ) → (j ≡ k → ⊥) → waiting st.table j ≤ most_waiting → requests_for j (told (dispatched st k s).entries) ++ queue_of (dispatched st k s).table j ≡ requests_for j (told st.entries) ++ queue_of st.table j
-  one_other j ne few =
-      let u = st.table in
-      let es = requests_for j (told st.entries) in
-      ap₂ (λ (l q : List Request). l ++ q)
-      (sent_more st k s w j ∙ ap (λ (l : List Request). es ++ l) (cond_false (eqb k j) (request_at u k 0 ∷ []) [] (ne_eqb k j (λ e. ne (sym e)))) ∙ append-nil es)
-      (queue_stays u (dispatched st k s).table j few (d.other j ne))
+  one_waits : (j : ℕ) → waiting (dispatched st k s).table j + entries_for j (told (dispatched st k s).entries) ≡ waiting st.table j + entries_for j (told st.entries)
+  unfolding takes
+  one_waits j =
+      omega (
+        arith,
+        rw (eqb_swap k j) at (sent_more st k s w j),
+        (dispatch_shifted tree st.table (dispatched st k s).table k s d j).waits,
+      )
 
   one_balance :
       (x : ℕ)
@@ -79,10 +68,10 @@ module _ (tree : Tree) (st : State) (k s : ℕ) (d : Dispatch tree st.table (dis
       (λ on. omega (arith, zarith, charged_more st k s w tree x, cond_true (at_or_above tree s x) g 0 on, d.on x on, sub_parts (balance st.table x) (pos g)))
       (λ off. omega (arith, zarith, charged_more st k s w tree x, cond_false (at_or_above tree s x) g 0 off, d.off x off))
 
-  pub followed_next : ((j : ℕ) → j < nodes → waiting st.table j ≤ most_waiting) → (from : State) → Followed tree from st → Followed tree from (dispatched st k s)
-  followed_next few from f =
+  pub followed_next : (from : State) → Followed tree from st → Followed tree from (dispatched st k s)
+  followed_next from f =
       record {
-        queues = λ j hj. elim (ℕ_discrete j k) [ yes e ↦ rw e (one_own (rw e at (few j hj))) | no ne ↦ one_other j ne (few j hj) ] ∙ f.queues j hj;
+        waits = λ j. one_waits j ∙ f.waits j;
         fewer = λ j. omega (arith, f.fewer j, (dispatch_shifted tree st.table (dispatched st k s).table k s d j).waits);
         balances = λ x. omega (arith, one_balance x, f.balances x);
       }

@@ -1,9 +1,8 @@
 -- An accepted join: the node was unused, so it was no class, and nothing waits at it.
 use Prim.Native.Nat.{ℕ, suc, ◌≤◌, ◌<◌}
-use mathlib.Core.Path.{◌≡◌, refl, sym, ap, ap₂, ◌∙◌}
+use mathlib.Core.Path.{◌≡◌, refl, ap, ◌∙◌}
 use mathlib.Core.Bool.{true}
-use mathlib.Core.Logic.{⊎_elim}
-use mathlib.Core.List.{List, [], ◌++◌}
+use mathlib.Core.List.{List, []}
 use native.Mathlib.Omega.{arith}
 use lib.IntN.{ℤ}
 use Rattle.numbers.specs.Whole.{plus}
@@ -11,23 +10,21 @@ use Rattle.numbers.proofs.Tests.{true_false}
 use Rattle.numbers.proofs.Parts.{plus_pos}
 use Rattle.definitions.specs.Limits.{record_length, rate_at, waiting_at, port_at, root}
 use Rattle.definitions.specs.Places.{place, rate as rate_of, waiting}
-use Rattle.definitions.specs.Tree.{Tree, tree_of, there}
+use Rattle.definitions.specs.Tree.{Tree, tree_of}
 use Rattle.definitions.specs.Rates.{renewed}
 use Rattle.definitions.specs.Order.{in_order}
 use Rattle.definitions.specs.Calls.{joined, join_refusal, join_table}
 use Rattle.definitions.proofs.Facts.{InOrder, facts}
 use Rattle.treelaws.proofs.Children.{class_there}
-use Rattle.treelaws.proofs.Sorts.{client_there}
 use Rattle.definitions.proofs.Edits.{joined_edit, joined_node, joined_others, joined_rest}
 use Rattle.definitions.proofs.Passed.{JoinPassed, join_passed}
 use Rattle.calllaws.proofs.Join.{join_keeps}
 use Rattle.runs.specs.Runs.{join, leaves}
-use Rattle.bounds.specs.Observer.{Request, Observer, set_at, with_node, after_accepted}
-use Rattle.bounds.proofs.Simulation.{Agrees}
+use Rattle.bounds.specs.Observer.{Observer, set_at, with_node, after_accepted}
+use Rattle.bounds.proofs.Simulation.{Agrees, waits_more}
 use Rattle.bounds.proofs.Trees.{set_here, set_other, with_node_law}
-use Rattle.bounds.proofs.Changes.{Same, Change, Others, other_same, other_grows, queues}
-use Rattle.bounds.proofs.Queue.{no_queue}
-use Rattle.bounds.proofs.Renewing.{kept_order, renewed_waiting, renewed_agrees, renewed_same}
+use Rattle.bounds.proofs.Changes.{Same, Change, Others, other_same, queues}
+use Rattle.bounds.proofs.Renewing.{kept_order, renewed_agrees, renewed_same}
 
 pub join_change :
     (t : List ℤ) (o : Observer) (node parent sort kind share depth port : ℤ) → Agrees t o → join_refusal t node parent sort kind share depth port ≡ 0
@@ -37,12 +34,10 @@ join_change t o node parent sort kind share depth port a h =
     record {
       agrees =
           renewed_agrees u order p tree (ap plus (rest root rate_at (omega arith) (omega arith) (λ e. omega arith)) ∙ a.disk)
-          (queues t u o p k others a (λ e. nothing o.asked ∙ ap₂ (λ (s q : List Request). s ++ q) (sym (nothing o.sent)) (sym (no_queue u k idle))));
+          (queues t u o p k others a (λ e. omega (arith, idle, nothing o.asked, nothing o.sent)));
       root = refl;
-      class = λ c e stays. same c (new c (class_there o.tree c e));
-      client = λ j busy.
-          let other : j ≡ k → ⊥ = ⊎_elim (λ was. new j (client_there o.tree j was.client)) (λ is at. omega (arith, is.waits, renewed_waiting u order j, ap (waiting u) at, idle)) busy in
-          record { same = same j other; grows = other_grows t u o p k others j other };
+      class = λ c e stays. same c (λ at. true_false (class_there o.tree c e) (rw at (rw a.tree at passed.unused)));
+      client = λ j e busy. same j (λ at. omega (arith, waits_more p j busy, ap p.asked at, nothing o.asked));
     }
   where
     k : ℕ
@@ -79,19 +74,15 @@ join_change t o node parent sort kind share depth port a h =
           sort = set_other k (plus sort) o.tree.sort;
           level = set_other k _ o.tree.level;
           depth = set_other k (plus depth) o.tree.depth;
-          asked = set_other k [] o.asked;
-          sent = set_other k [] o.sent;
+          asked = set_other k 0 o.asked;
+          sent = set_other k 0 o.sent;
         }
 
     same : (j : ℕ) → (j ≡ k → ⊥) → Same t (renewed u) o p j
     same j ne = renewed_same u order t o p j (other_same t u o p k others j ne)
 
-    -- A node that was there is another one.
-    new : (j : ℕ) → there o.tree j ≡ true → j ≡ k → ⊥
-    new j here at = true_false here (rw at (rw a.tree at passed.unused))
-
     idle : waiting u k ≡ 0
     idle = ap plus (rest k waiting_at (omega arith) (omega arith) (λ e. omega arith) ∙ f.empty k passed.node passed.unused waiting_at (omega arith)) ∙ plus_pos 0
 
-    nothing : (g : ℕ → List Request) → set_at k [] g k ≡ []
-    nothing g = set_here k [] g k refl
+    nothing : (g : ℕ → ℕ) → set_at k 0 g k ≡ 0
+    nothing g = set_here k 0 g k refl

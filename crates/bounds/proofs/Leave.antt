@@ -2,14 +2,13 @@
 use Prim.Native.Nat.{ℕ}
 use mathlib.Core.Path.{◌≡◌, refl, sym, ap, ◌∙◌}
 use mathlib.Core.Bool.{true}
-use mathlib.Core.Logic.{⊎_elim}
 use mathlib.Core.List.{List, []}
 use native.Mathlib.Omega.{arith}
 use borrow.Author.Tests.{eqb-true, eqb-false, ne_eqb}
 use lib.IntN.{ℤ}
 use Rattle.numbers.specs.Whole.{plus}
 use Rattle.definitions.specs.Limits.{rate_at, client, root}
-use Rattle.definitions.specs.Places.{rate as rate_of, waiting}
+use Rattle.definitions.specs.Places.{rate as rate_of}
 use Rattle.definitions.specs.Tree.{Tree, tree_of, is_client}
 use Rattle.definitions.specs.Rates.{renewed}
 use Rattle.definitions.specs.Order.{in_order}
@@ -22,7 +21,7 @@ use Rattle.runs.specs.Runs.{leave, leaves}
 use Rattle.bounds.specs.Observer.{Observer, with_node, after_accepted}
 use Rattle.bounds.proofs.Simulation.{Agrees}
 use Rattle.bounds.proofs.Trees.{set_here, set_other, with_node_law}
-use Rattle.bounds.proofs.Changes.{Same, Change, Others, other_same, other_grows, queues}
+use Rattle.bounds.proofs.Changes.{Same, Change, Others, other_same, queues}
 use Rattle.bounds.proofs.Renewing.{kept_order, renewed_agrees, renewed_same}
 
 pub leave_change :
@@ -36,9 +35,7 @@ leave_change t o node a h =
           (queues t u o p k others a (λ e. absurd (no_client k e refl)));
       root = ne_eqb k root passed.below;
       class = λ c e stays. same c (λ at. eqb-false k c stays (sym at));
-      client = λ j busy.
-          let other : j ≡ k → ⊥ = ⊎_elim (λ was at. omega (arith, was.waits, passed.idle, ap (waiting t) at)) (λ is. no_client j is.client) busy in
-          record { same = same j other; grows = other_grows t u o p k others j other };
+      client = λ j e busy. same j (no_client j e);
     }
   where
     k : ℕ

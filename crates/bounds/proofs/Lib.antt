@@ -1,4 +1,3 @@
-pub mod Queue
 pub mod Simulation
 pub mod Telescope
 pub mod Stretch
@@ -20,7 +19,6 @@ pub mod Ticked
 pub mod Waiting
 pub mod Shown
 pub mod TickSteps
-pub mod Times
 pub mod Theorem
 pub mod Fakes
 pub mod AsCalls

@@ -1,6 +1,6 @@
 -- The table that an accepted open leaves agrees with the observer at the start: both show the root alone.
 use Prim.Native.Nat.{ℕ, ◌+◌, ◌*◌, ◌≤◌, ◌<◌}
-use mathlib.Core.Path.{◌≡◌, sym, ap, ◌∙◌}
+use mathlib.Core.Path.{◌≡◌, ap, ◌∙◌}
 use mathlib.Core.List.{List}
 use native.Mathlib.Omega.{arith}
 use native.Mathlib.Decide.{dec_lt, ℕ_discrete}
@@ -18,7 +18,6 @@ use Rattle.definitions.proofs.Passed.{open_passed}
 use Rattle.calllaws.proofs.Open.{opened_in_order}
 use Rattle.bounds.specs.Observer.{start}
 use Rattle.bounds.proofs.Simulation.{Agrees}
-use Rattle.bounds.proofs.Queue.{no_queue}
 use Rattle.bounds.proofs.Trees.{set_column, same_column}
 
 -- A table of zeros shows zeros, also beyond its end.
@@ -64,5 +63,5 @@ opened_agrees t rate depth h =
       order = opened_in_order rate depth (open_passed t rate depth h);
       tree = opened_tree rate depth;
       disk = ap plus ((opened_edit rate depth).here rate_at (omega arith));
-      queue = λ k e. sym (no_queue (opened rate depth) k (opened_idle rate depth k));
+      queue = λ k e. omega (arith, opened_idle rate depth k);
     })

@@ -1,9 +1,9 @@
 -- A call that renews the rates: renewing leaves the tree, the disk's rate, the requests and the balances, so an observer
 -- that agrees in these agrees afterwards, and a node that was the same is still the same.
-use Prim.Native.Nat.{ℕ}
+use Prim.Native.Nat.{ℕ, ◌+◌}
 use mathlib.Core.Path.{◌≡◌, sym, ap, ◌∙◌}
 use mathlib.Core.Bool.{true}
-use mathlib.Core.List.{List, ◌++◌}
+use mathlib.Core.List.{List}
 use native.Mathlib.Omega.{arith}
 use lib.IntN.{ℤ}
 use Rattle.numbers.specs.Whole.{plus}
@@ -16,12 +16,9 @@ use Rattle.definitions.specs.Refusals.{kept}
 use Rattle.definitions.proofs.Facts.{facts}
 use Rattle.definitions.proofs.Refusals.{kept_new}
 use Rattle.treelaws.proofs.Renewed.{renewed_length, renewed_place, renewed_tree, renewed_disk}
-use Rattle.treelaws.proofs.Sorts.{client_there}
-use Rattle.calllaws.proofs.Nodes.{ready, most_waiting_law}
 use Rattle.calllaws.proofs.Ready.{root_there, root_level}
-use Rattle.bounds.specs.Observer.{Request, Observer}
-use Rattle.bounds.proofs.Simulation.{Agrees, there_below}
-use Rattle.bounds.proofs.Queue.{queue_of, queue_same}
+use Rattle.bounds.specs.Observer.{Observer}
+use Rattle.bounds.proofs.Simulation.{Agrees}
 use Rattle.bounds.proofs.Changes.{Same}
 
 -- The contents that an accepted call leaves are in order.
@@ -30,20 +27,13 @@ kept_order refusal new old h e = rw (kept_new refusal new old h) at e
 
 -- The rates of the contents u are renewed.
 module _ (u : List ℤ) (order : in_order (renewed u) ≡ true) where
-  pub renewed_waiting : (k : ℕ) → waiting (renewed u) k ≡ waiting u k
+  renewed_waiting : (k : ℕ) → waiting (renewed u) k ≡ waiting u k
   unfolding waiting
   renewed_waiting k = ap plus (renewed_place u k waiting_at (omega arith) (omega arith))
 
-  renewed_queue : (k : ℕ) → is_client (tree_of u) k ≡ true → queue_of (renewed u) k ≡ queue_of u k
-  renewed_queue k client =
-      let f = facts (renewed u) order in
-      let low = there_below (renewed u) k f.long (client_there (tree_of (renewed u)) k (rw renewed_tree client)) in
-      queue_same u (renewed u) k (omega (arith, renewed_waiting k, most_waiting_law (renewed u) k ((ready (renewed u) f).node k low)))
-      (λ p least hp. renewed_place u k p hp (omega arith))
-
   pub renewed_agrees :
       (p : Observer) → tree_of u ≡ p.tree → rate_of u 0 ≡ p.disk
-      → ((k : ℕ) → is_client p.tree k ≡ true → p.asked k ≡ p.sent k ++ queue_of u k) → Agrees (renewed u) p
+      → ((k : ℕ) → is_client p.tree k ≡ true → p.asked k ≡ p.sent k + waiting u k) → Agrees (renewed u) p
   renewed_agrees p tree disk queue =
       let f = facts (renewed u) order in
       record {
@@ -54,7 +44,7 @@ module _ (u : List ℤ) (order : in_order (renewed u) ≡ true) where
             (rw renewed_tree at (root_there (renewed u) f.root))
             (rw renewed_tree at (root_level (renewed u) f.root))
             ∙ disk;
-        queue = λ k e. queue k e ∙ ap (λ (q : List Request). p.sent k ++ q) (sym (renewed_queue k (rw tree e)));
+        queue = λ k e. queue k e ∙ ap (λ (w : ℕ). p.sent k + w) (sym (renewed_waiting k));
       }
 
   pub renewed_same : (t : List ℤ) (o p : Observer) (j : ℕ) → Same t u o p j → Same t (renewed u) o p j

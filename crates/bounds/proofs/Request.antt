@@ -1,9 +1,8 @@
--- An accepted request: it is asked and waits behind the others.
-use Prim.Native.Nat.{ℕ, ◌<◌}
-use mathlib.Core.Path.{◌≡◌, refl, sym, ap, ◌∙◌}
-use mathlib.Core.List.{List, [], ◌∷◌, ◌++◌, append_assoc}
+-- An accepted request: one more is asked and one more waits.
+use Prim.Native.Nat.{ℕ, suc, ◌<◌}
+use mathlib.Core.Path.{◌≡◌, refl, ap, ◌∙◌}
+use mathlib.Core.List.{List, []}
 use native.Mathlib.Omega.{arith}
-use native.Mathlib.Decide.{ℕ_discrete}
 use lib.IntN.{ℤ}
 use Rattle.numbers.specs.Whole.{plus}
 use Rattle.definitions.specs.Limits.{rate_at, balance_at, waiting_at, root, most_waiting}
@@ -13,13 +12,12 @@ use Rattle.definitions.proofs.Facts.{InOrder, facts}
 use Rattle.definitions.proofs.Edits.{Requested, requested_edit}
 use Rattle.calllaws.proofs.Nodes.{ready, most_waiting_law}
 use Rattle.definitions.proofs.Passed.{RequestPassed, request_passed}
-use Rattle.calllaws.proofs.Request.{request_keeps, before, requested_tree}
+use Rattle.calllaws.proofs.Request.{request_keeps, before, next_waiting, requested_tree}
 use Rattle.runs.specs.Runs.{request, leaves}
-use Rattle.bounds.specs.Observer.{Request, Observer, after_accepted}
+use Rattle.bounds.specs.Observer.{Observer, after_accepted}
 use Rattle.bounds.proofs.Simulation.{Agrees}
 use Rattle.bounds.proofs.Trees.{set_here, set_other}
-use Rattle.bounds.proofs.Changes.{Grows, Change, all_same, Others, other_grows, queues}
-use Rattle.bounds.proofs.Queue.{queue_of, queue_more}
+use Rattle.bounds.proofs.Changes.{Change, all_same, Others, queues}
 use Rattle.bounds.proofs.Renewing.{kept_order}
 
 pub request_change :
@@ -34,23 +32,12 @@ request_change t o node tag size a h =
       disk = ap plus (stays root rate_at (omega arith)) ∙ a.disk;
       queue =
           queues t u o p k others a
-          (λ e.
-          set_here k new o.asked k refl
-          ∙ ap (λ (l : List Request). l ++ last) (a.queue k e)
-          ∙ append_assoc (o.sent k) (queue_of t k) last
-          ∙ ap (λ (l : List Request). o.sent k ++ l) (sym (queue_more t u k passed.node room tag size more)));
+          (λ e. omega (arith, set_here k (suc (o.asked k)) o.asked k refl, next_waiting t u k tag size passed.node more, a.queue k e));
     })
     (λ j. record { sort = refl; level = refl; depth = refl; balance = stays j balance_at (omega arith) })
-    grows
   where
     k : ℕ
     k = plus node
-
-    last : List Request
-    last = record { tag = tag; size = plus size } ∷ []
-
-    new : List Request
-    new = o.asked k ++ last
 
     u : List ℤ
     u = requested t k tag size
@@ -72,13 +59,6 @@ request_change t o node tag size a h =
 
     others : Others t u o p k
     others = record { places = more.others; sort = λ j ne. refl; level = λ j ne. refl; depth = λ j ne. refl; asked = set_other k _ o.asked; sent = λ j ne. refl }
-
-    grows : (j : ℕ) → Grows o p j
-    grows j =
-        elim (ℕ_discrete j k) [
-          | yes e ↦ rw e (record { more = last; asked = set_here k new o.asked k refl; sent = refl })
-          | no ne ↦ other_grows t u o p k others j ne
-        ]
 
     stays : (j p : ℕ) → p < waiting_at → place u j p ≡ place t j p
     stays = before t u k tag size passed.node more

@@ -1,6 +1,6 @@
 -- An accepted set minute: balances and requests stay, and each node of the observer's tree gets the kind and share of the tree at
 -- the minute.
-use Prim.Native.Nat.{ℕ, ◌≤◌}
+use Prim.Native.Nat.{ℕ, ◌+◌, ◌≤◌}
 use mathlib.Core.Path.{◌≡◌, refl, sym, ap, ◌∙◌, fun_ext}
 use mathlib.Core.Bool.{true, false, not, cond}
 use mathlib.Core.List.{List, []}
@@ -12,8 +12,8 @@ use lib.IntN.{ℤ}
 use Rattle.numbers.specs.Whole.{plus}
 use Rattle.numbers.proofs.Tests.{by_test, true_false, cond_true, cond_false}
 use Rattle.numbers.proofs.Parts.{plus_pos}
-use Rattle.definitions.specs.Limits.{table_length, nodes, sort_at, kind_at, share_at, rate_at, balance_at, root}
-use Rattle.definitions.specs.Places.{place, rate as rate_of, balance}
+use Rattle.definitions.specs.Limits.{table_length, nodes, sort_at, kind_at, share_at, rate_at, balance_at, waiting_at, root}
+use Rattle.definitions.specs.Places.{place, rate as rate_of, balance, waiting}
 use Rattle.definitions.specs.Tree.{Tree, tree_of, there, is_client}
 use Rattle.definitions.specs.Rates.{renewed}
 use Rattle.definitions.specs.Order.{in_order}
@@ -27,7 +27,7 @@ use Rattle.hourlaws.proofs.Kept.{minute_below, suits, changed}
 use Rattle.runs.specs.Runs.{set_minute, leaves}
 use Rattle.bounds.specs.Observer.{Observer, with_shares, after_accepted}
 use Rattle.bounds.proofs.Simulation.{Agrees}
-use Rattle.bounds.proofs.Changes.{Change, all_same, grows_none, same_queues}
+use Rattle.bounds.proofs.Changes.{Change, all_same}
 use Rattle.bounds.proofs.Renewing.{renewed_agrees, renewed_same}
 
 -- Nobody is there beyond the table's end.
@@ -80,13 +80,12 @@ module _ (tree : Tree) (t u : List ℤ) (r : Reshared tree t nodes u) (s : Suits
 pub minute_change :
     (t : List ℤ) (o : Observer) (plan : List ℕ) (windows : List ℤ) (minute : ℤ) → Agrees t o → set_minute_refusal t plan windows minute ≡ 0
     → Change t (minute_table t (planned plan) windows (plus minute)) o (after_accepted o (set_minute plan windows minute) []) (λ c. leaves c (set_minute plan windows minute))
-unfolding minute_table after_accepted with_shares rate_of balance is_client leaves
+unfolding minute_table after_accepted with_shares rate_of balance waiting is_client leaves
 minute_change t o plan windows minute a h =
     all_same t (renewed u) o p _ refl
     (renewed_agrees u order p tree (ap plus (edited.rest root rate_at (omega arith) (omega arith) (omega arith)) ∙ a.disk)
-    (same_queues t u o a (λ j p least hp. edited.rest j p hp (omega arith) (omega arith))))
+    (λ j e. a.queue j e ∙ ap (λ (w : ℕ). o.sent j + w) (sym (ap plus (edited.rest j waiting_at (omega arith) (omega arith) (omega arith))))))
     (λ j. renewed_same u order t o p j (record { sort = refl; level = refl; depth = refl; balance = edited.rest j balance_at (omega arith) (omega arith) (omega arith) }))
-    (λ j. grows_none o p j refl refl)
   where
     given : Tree
     given = tree_at (tree_of (planned plan)) windows (plus minute)

@@ -12,12 +12,12 @@ use lib.IntN.{ℤ}
 use Rattle.numbers.specs.Whole.{plus, minus}
 use Rattle.numbers.proofs.Every.{head_holds, rest_hold}
 use Rattle.definitions.specs.Limits.{grain_scale}
-use Rattle.definitions.specs.Places.{balance, waiting}
+use Rattle.definitions.specs.Places.{balance}
 use Rattle.definitions.specs.Tree.{is_class, is_client}
 use Rattle.runs.specs.Runs.{Call, after, event_of, events, table_after_all}
-use Rattle.bounds.specs.Observer.{Observer, entries, observed, observed_all}
-use Rattle.bounds.specs.Counts.{rate_at, rates_over, grains_for_client, sum_over, dispatched_over, charged_over, waits_throughout, stays_throughout}
-use Rattle.bounds.proofs.Simulation.{Agrees, waits_there, idle_rate, tick_rate, ClientStep, Steps}
+use Rattle.bounds.specs.Observer.{Observer, observed, observed_all}
+use Rattle.bounds.specs.Counts.{rates_over, dispatched_over, charged_over, waits_throughout, stays_throughout}
+use Rattle.bounds.proofs.Simulation.{Agrees, Steps}
 
 pub agrees_all : Steps → (t : List ℤ) (o : Observer) (calls : List Call) → Agrees t o → Agrees (table_after_all t calls) (observed_all o (events t calls))
 unfolding table_after_all observed_all events
@@ -43,23 +43,6 @@ class_over laws t o (call ∷ calls) a c e h =
     let rest = class_over laws (after t call).table (observed o (event_of t call)) calls (laws t o call a).agrees c first.class (head_holds _ _ (rest_hold _ _ h)) in
     record { class = rest.class; level = rest.level ∙ first.level; depth = rest.depth ∙ first.depth; line = omega (arith, first.line, rest.line) }
 
--- What one call does to a client that has a request waiting after it: the balance before and the rate are at most the balance after and
--- what was dispatched; and its balance stays as it was with no rate, or ends below its depth.
-record ClientLine (t : List ℤ) (o : Observer) (call : Call) (k : ℕ) : Type 0 where
-  line : plus (balance t k) + rate_at o k (event_of t call) ≤ plus (balance (after t call).table k) + sum_over (grains_for_client k) (entries (event_of t call))
-  end :
-      ((rate_at o k (event_of t call) ≡ 0) × (plus (balance (after t call).table k) ≡ plus (balance t k)))
-      ⊎ (plus (balance (after t call).table k) < o.tree.depth k * grain_scale)
-
-client_line : (t : List ℤ) (o : Observer) (call : Call) (k : ℕ) → ClientStep t o call k → 0 < waiting (after t call).table k → ClientLine t o call k
-client_line t o call k step still =
-    ⊎_elim
-    (λ q.
-    let none = idle_rate o k (event_of t call) q.idle in
-    record { line = omega (arith, ap plus q.balance); end = inl (none, ap plus q.balance) })
-    (λ q. record { line = omega (arith, tick_rate o k (event_of t call) q.ticks, q.line still); end = inr (q.end still) })
-    step.way
-
 -- A waiting client over a stretch.
 pub record ClientOver (t : List ℤ) (o : Observer) (calls : List Call) (k : ℕ) : Type 0 where
   pub client : is_client o.tree k ≡ true
@@ -77,14 +60,12 @@ unfolding table_after_all observed_all events dispatched_over rates_over waits_t
 client_over laws t o [] a k e h = record { client = e; depth = refl; line = omega arith; end = inl (refl, refl) }
 client_over laws t o (call ∷ calls) a k e h =
     let rest = client_over laws (after t call).table (observed o (event_of t call)) calls (laws t o call a).agrees k e (head_holds _ _ (rest_hold _ _ h)) in
-    let still = waits_there (after t call).table (observed o (event_of t call)) (laws t o call a).agrees k rest.client (head_holds _ _ h) in
-    let step = (laws t o call a).client k (inr (record { client = rest.client; waits = still })) in
-    let first = client_line t o call k step still in
+    let first = (laws t o call a).client k rest.client (head_holds _ _ h) in
     record {
-      client = step.client;
-      depth = rest.depth ∙ step.depth;
+      client = first.client;
+      depth = rest.depth ∙ first.depth;
       line = omega (arith, first.line, rest.line);
-      end = ends rest.end first.end (ap (λ (d : ℕ). d * grain_scale) step.depth);
+      end = ends rest.end first.end (ap (λ (d : ℕ). d * grain_scale) first.depth);
     }
   where
     ends : {r₁ r₂ b₀ b₁ b₂ d d' : ℕ} → ((r₂ ≡ 0) × (b₂ ≡ b₁)) ⊎ (b₂ < d') → ((r₁ ≡ 0) × (b₁ ≡ b₀)) ⊎ (b₁ < d) → d' ≡ d → ((r₁ + r₂ ≡ 0) × (b₂ ≡ b₀)) ⊎ (b₂ < d)

@@ -1,4 +1,4 @@
--- Demand 3, and the times of (i). The opened table agrees with the observer, every call keeps that, and the laws of one call give the
+-- Demand 3. The opened table agrees with the observer, every call keeps that, and the laws of one call give the three
 -- claims over a stretch.
 use Prim.Native.Nat.{ℕ}
 use mathlib.Core.Path.{◌≡◌, refl}
@@ -13,11 +13,9 @@ use Rattle.runs.specs.Runs.{Call, join, leave, change_share, change_rate, set_mi
 use Rattle.bounds.specs.Observer.{Observer, start, observed_all}
 use Rattle.bounds.specs.Demand.{Bounds, Demand3}
 use Rattle.bounds.specs.Levels.{ByLevel}
-use Rattle.bounds.specs.Times.{InTime, Times}
 use Rattle.bounds.proofs.Simulation.{Agrees, Step, Steps}
 use Rattle.bounds.proofs.Telescope.{agrees_all}
 use Rattle.bounds.proofs.Stretch.{bounds_from, levels_from}
-use Rattle.bounds.proofs.Times.{in_time_from}
 use Rattle.bounds.proofs.Opened.{opened_agrees}
 use Rattle.bounds.proofs.Join.{join_change}
 use Rattle.bounds.proofs.Leave.{leave_change}
@@ -32,13 +30,13 @@ use Rattle.bounds.proofs.TickSteps.{tick_step}
 accepted_step : (t : List ℤ) (o : Observer) (call : Call) → Agrees t o → accepts (after t call).answer ≡ true → Step t o call
 unfolding after is_tick join_table join_answer leave_table leave_answer change_share_table change_share_answer change_rate_table change_rate_answer set_minute_table set_minute_answer request_table request_answer
 accepted_step t o (join node parent sort kind share depth port) a h =
-    quiet_step t o (join node parent sort kind share depth port) a _ _ _ refl refl h (join_change t o node parent sort kind share depth port a)
-accepted_step t o (leave node) a h = quiet_step t o (leave node) a _ _ _ refl refl h (leave_change t o node a)
-accepted_step t o (change_share node kind share) a h = quiet_step t o (change_share node kind share) a _ _ _ refl refl h (share_change t o node kind share a)
-accepted_step t o (change_rate rate) a h = quiet_step t o (change_rate rate) a _ _ _ refl refl h (rate_change t o rate a)
+    quiet_step t o (join node parent sort kind share depth port) _ _ _ refl refl h (join_change t o node parent sort kind share depth port a)
+accepted_step t o (leave node) a h = quiet_step t o (leave node) _ _ _ refl refl h (leave_change t o node a)
+accepted_step t o (change_share node kind share) a h = quiet_step t o (change_share node kind share) _ _ _ refl refl h (share_change t o node kind share a)
+accepted_step t o (change_rate rate) a h = quiet_step t o (change_rate rate) _ _ _ refl refl h (rate_change t o rate a)
 accepted_step t o (set_minute plan windows minute) a h =
-    quiet_step t o (set_minute plan windows minute) a _ _ _ refl refl h (minute_change t o plan windows minute a)
-accepted_step t o (request client tag size) a h = quiet_step t o (request client tag size) a _ _ _ refl refl h (request_change t o client tag size a)
+    quiet_step t o (set_minute plan windows minute) _ _ _ refl refl h (minute_change t o plan windows minute a)
+accepted_step t o (request client tag size) a h = quiet_step t o (request client tag size) _ _ _ refl refl h (request_change t o client tag size a)
 accepted_step t o (tick first second) a h = tick_step t o first second a h
 
 pub steps : Steps
@@ -58,10 +56,6 @@ pub by_level : ByLevel
 unfolding ByLevel
 by_level t rate depth before stretch h = levels_from steps _ _ (before_agrees t rate depth before h) stretch
 
-pub times : Times
-unfolding Times
-times t rate depth before later h = in_time_from steps _ _ later (before_agrees t rate depth before h)
-
 -- Demand 3 of one list of calls: the stretch may begin after any of them and have any number of them.
 pub every_stretch :
     (t : List ℤ) (rate depth : ℤ) (calls : List Call) (from count : ℕ) → open_refusal t rate depth ≡ 0
@@ -69,11 +63,3 @@ pub every_stretch :
     (events (table_after_all (open_table t rate depth) (take from calls)) (take count (drop from calls)))
 unfolding Demand3
 every_stretch t rate depth calls from count h = demand_3 t rate depth (take from calls) (take count (drop from calls)) h
-
--- The times of one list of calls: a request may wait after any of them, and any number of them may follow.
-pub every_wait :
-    (t : List ℤ) (rate depth : ℤ) (calls : List Call) (from count : ℕ) → open_refusal t rate depth ≡ 0
-    → InTime (observed_all (start rate depth) (events (open_table t rate depth) (take from calls)))
-    (events (table_after_all (open_table t rate depth) (take from calls)) (take count (drop from calls)))
-unfolding Times
-every_wait t rate depth calls from count h = times t rate depth (take from calls) (take count (drop from calls)) h

@@ -1,14 +1,15 @@
 -- The laws of one call for an accepted tick: each from what the tick shows to the observer and what it does to the table.
 use Prim.Native.Nat.{ℕ, ◌<◌}
-use mathlib.Core.Path.{◌≡◌, refl, sym, ap, ap₂, ◌∙◌}
+use mathlib.Core.Path.{◌≡◌, refl, sym, ap, ◌∙◌}
 use mathlib.Core.Bool.{true}
-use mathlib.Core.Logic.{inr, ⊎_elim}
-use mathlib.Core.List.{List, ◌++◌, append_assoc}
+use mathlib.Core.Logic.{inr}
+use mathlib.Core.List.{List}
+use native.Mathlib.Omega.{arith}
 use lib.IntN.{ℤ}
 use Rattle.numbers.proofs.Every.{head_fails}
 use Rattle.definitions.specs.Limits.{nodes, root}
 use Rattle.definitions.specs.Tree.{Tree, tree_of, there, is_class, is_client}
-use Rattle.definitions.specs.Places.{rate}
+use Rattle.definitions.specs.Places.{rate, waiting}
 use Rattle.definitions.specs.Rates.{rate_in}
 use Rattle.definitions.specs.Tick.{ticked}
 use Rattle.definitions.proofs.Facts.{InOrder, facts}
@@ -18,13 +19,11 @@ use Rattle.treelaws.proofs.Rounding.{rate_in_order_law}
 use Rattle.ticklaws.proofs.Frame.{frame_tree, frame_rate}
 use Rattle.ticklaws.proofs.Keeps.{tick_keeps, ticked_settled}
 use Rattle.runs.specs.Runs.{tick, after, leaves, accepts, event_of}
-use Rattle.bounds.specs.Observer.{Request, Observer, requests_for, observed}
-use Rattle.bounds.specs.Counts.{entry_grains, grains_for_client, grains_to_node, takes_out}
-use Rattle.bounds.proofs.Simulation.{Agrees, there_below, client_below, ClassStep, ClientStep, Step}
-use Rattle.bounds.proofs.Queue.{queue_of, oldest_grains}
-use Rattle.bounds.proofs.Decoded.{told}
-use Rattle.bounds.proofs.Ticked.{ticked_queues, ticked_fair, ticked_most}
-use Rattle.bounds.proofs.Waiting.{waiting_line, waiting_short, waiting_end}
+use Rattle.bounds.specs.Observer.{Observer, observed}
+use Rattle.bounds.specs.Counts.{entry_grains, grains_for_client, grains_to_node, waits, takes_out}
+use Rattle.bounds.proofs.Simulation.{Agrees, waits_more, there_below, ClassStep, ClientStep, Step}
+use Rattle.bounds.proofs.Ticked.{ticked_waits, ticked_fair, ticked_most}
+use Rattle.bounds.proofs.Waiting.{waiting_line, waiting_end}
 use Rattle.bounds.proofs.Shown.{Shown, shown}
 
 module _ (t : List ℤ) (o : Observer) (first second : List ℤ) (a : Agrees t o) (h : accepts (after t (tick first second)).answer ≡ true) where
@@ -46,13 +45,14 @@ module _ (t : List ℤ) (o : Observer) (first second : List ℤ) (a : Agrees t o
         tree = ap tree_of s.table ∙ frame_tree t (ticked t).table frame ∙ a.tree ∙ sym s.tree;
         disk = ap (λ v. rate v root) s.table ∙ frame_rate t (ticked t).table frame root ∙ a.disk ∙ sym s.disk;
         queue = λ k client.
-            let was : is_client o.tree k ≡ true = rw (← s.tree) client in
-            let es = requests_for k (told (ticked t).entries) in
-            s.asked k
-            ∙ a.queue k was
-            ∙ ap (λ (q : List Request). o.sent k ++ q) (sym (ticked_queues t f k (client_below t o a k was)))
-            ∙ sym (append_assoc (o.sent k) es (queue_of (ticked t).table k))
-            ∙ ap₂ (λ (l q : List Request). l ++ q) (sym (s.sent k)) (ap (λ (v : List ℤ). queue_of v k) (sym s.table));
+            omega (
+              arith,
+              s.asked k,
+              s.sent k,
+              a.queue k (rw (← s.tree) client),
+              ticked_waits t f k,
+              ap (λ v. waiting v k) s.table,
+            );
       }
 
   tick_class : (c : ℕ) → is_class o.tree c ≡ true → ClassStep t o (tick first second) c
@@ -66,23 +66,19 @@ module _ (t : List ℤ) (o : Observer) (first second : List ℤ) (a : Agrees t o
         line = rw (s.table, s.sums (grains_to_node o.tree c), s.rate c, rate_told c low here, ← a.tree) (ticked_most t f c low);
       }
 
-  tick_client : (k : ℕ) → is_client o.tree k ≡ true → ClientStep t o (tick first second) k
-  tick_client k client =
-      let here : is_client (tree_of t) k ≡ true = rw a.tree client in
-      let low = client_below t o a k client in
+  tick_client : (k : ℕ) → is_client (observed o (event_of t (tick first second))).tree k ≡ true → waits (observed o (event_of t (tick first second))) k ≡ true → ClientStep t o (tick first second) k
+  tick_client k client busy =
+      let here : is_client (tree_of t) k ≡ true = rw (a.tree, ← s.tree) client in
+      let low = there_below t k f.long (client_there (tree_of t) k here) in
+      let waited = waits_more (observed o (event_of t (tick first second))) k busy in
+      let still : 0 < waiting (ticked t).table k = rw (← s.table) (omega (arith, tick_agrees.queue k client)) in
       record {
-        client = client;
-        stays = rw s.tree client;
+        client = rw (← s.tree) client;
         depth = ap (λ (tree : Tree). tree.depth k) s.tree;
-        way =
-            inr
-            (record {
-              ticks = s.ticks;
-              queue = rw (s.requests k, s.table) (sym (ticked_queues t f k low));
-              line = rw (s.table, s.sums (grains_for_client k), rate_told k low (client_there (tree_of t) k here)) (waiting_line t f k low here);
-              short = rw s.table (λ still. rw (oldest_grains (ticked t).table k still) (waiting_short t f k low here still));
-              end = rw (s.table, ← a.tree) (waiting_end t f k low here);
-            });
+        line =
+            rw (s.table, s.sums (grains_for_client k), s.rate k, rate_told k low (client_there (tree_of t) k here))
+            (waiting_line t f k low here still);
+        end = inr (rw (s.table, ← a.tree) (waiting_end t f k low here still));
       }
 
   -- Every entry is charged to the root, and no class is taken out.
@@ -94,5 +90,5 @@ module _ (t : List ℤ) (o : Observer) (first second : List ℤ) (a : Agrees t o
         stays = head_fails _ _ refl;
         all = rw (s.sums (grains_to_node o.tree root), s.sums entry_grains, ← a.tree) (ticked_fair t f).root;
         class = λ c e stays. tick_class c e;
-        client = λ k busy. tick_client k (⊎_elim (λ was. was.client) (λ is. rw (← s.tree) is.client) busy);
+        client = tick_client;
       }

@@ -10,11 +10,11 @@ use Rattle.definitions.specs.Tree.{Tree}
 use Rattle.definitions.proofs.Edits.{SameNode, NodeIs}
 use Rattle.bounds.specs.Observer.{set_at, with_node, with_share}
 
-pub set_here : {A : Type 0} (k : ℕ) (v : A) (f : ℕ → A) (j : ℕ) → j ≡ k → set_at k v f j ≡ v
+pub set_here : (k v : ℕ) (f : ℕ → ℕ) (j : ℕ) → j ≡ k → set_at k v f j ≡ v
 unfolding set_at
 set_here k v f j e = cond_true (eqb j k) v (f j) (eq-eqb j k e)
 
-pub set_other : {A : Type 0} (k : ℕ) (v : A) (f : ℕ → A) (j : ℕ) → (j ≡ k → ⊥) → set_at k v f j ≡ f j
+pub set_other : (k v : ℕ) (f : ℕ → ℕ) (j : ℕ) → (j ≡ k → ⊥) → set_at k v f j ≡ f j
 unfolding set_at
 set_other k v f j ne = cond_false (eqb j k) v (f j) (ne_eqb j k ne)
 

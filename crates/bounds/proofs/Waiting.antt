@@ -1,6 +1,6 @@
 -- A client that waits after a tick. After step 2 its oldest request is not ready, so its balance is below that request's
 -- grains, which are at most its depth: step 3 does not cut it. After step 4 that request has no supplier, so its balance
--- is below its grains and below its depth again. In between it is charged for its own requests only.
+-- is below its depth again. In between it is charged for its own requests only.
 use Prim.Native.Nat.{ℕ, ◌+◌, ◌*◌, ◌≤◌, ◌<◌}
 use mathlib.Core.Path.{◌≡◌}
 use mathlib.Core.Bool.{true, false}
@@ -38,14 +38,10 @@ module _ (t u : List ℤ) (r : Reached t u) (k : ℕ) (hk : k < nodes) where
         one_is_zero (balance u k),
       )
 
-  -- With too little for its oldest request it stands below that request's grains, and so below its depth.
-  short_of : enough u (grains (size u k 0)) k ≡ false → plus (balance u k) < grains (size u k 0)
-  unfolding enough grains plus minus
-  short_of short = omega (arith, zarith, cost_bounds (size u k 0), one_is_zero (balance u k))
-
+  -- With too little for its oldest request it stands below its depth.
   short_below : 0 < waiting u k → enough u (grains (size u k 0)) k ≡ false → plus (balance u k) < (tree_of t).depth k * grain_scale
-  unfolding grains size
-  short_below waits short = omega (arith, most_cost _ _ (r.queues.size k hk 0 waits), short_of short)
+  unfolding enough grains size plus minus
+  short_below waits short = omega (arith, zarith, most_cost _ _ (r.queues.size k hk 0 waits), cost_bounds (size u k 0), one_is_zero (balance u k))
 
 module _ (t : List ℤ) (f : InOrder t) (k : ℕ) (hk : k < nodes) (client : is_client (tree_of t) k ≡ true) (waits : 0 < waiting (ticked t).table k) where
   -- After step 2.
@@ -75,15 +71,9 @@ module _ (t : List ℤ) (f : InOrder t) (k : ℕ) (hk : k < nodes) (client : is_
         client_floor t (ticked t).table (ticked_settled t f).reached k hk client,
       )
 
-  -- After step 4.
-  four_short : enough (ticked t).table (grains (size (ticked t).table k 0)) k ≡ false
-  unfolding at_or_above
-  four_short =
-      let u = (ticked t).table in
-      not_supplied u k waits (none_supplied t f k hk) k (way_first (tree_of u) ((tree_of u).level k) k)
-
-  pub waiting_short : plus (balance (ticked t).table k) < grains (size (ticked t).table k 0)
-  waiting_short = short_of t (ticked t).table (ticked_settled t f).reached k hk four_short
-
   pub waiting_end : plus (balance (ticked t).table k) < (tree_of t).depth k * grain_scale
-  waiting_end = short_below t (ticked t).table (ticked_settled t f).reached k hk waits four_short
+  unfolding at_or_above
+  waiting_end =
+      let u = (ticked t).table in
+      short_below t u (ticked_settled t f).reached k hk waits
+      (not_supplied u k waits (none_supplied t f k hk) k (way_first (tree_of u) ((tree_of u).level k) k))

@@ -1,12 +1,10 @@
--- Reading a plan as calls: an open and a join for each entry. So demand 3 and the times of (i) hold of what is called on a table that
--- was read from a plan.
+-- Reading a plan as calls: an open and a join for each entry. So demand 3 holds of what is called on a table that was read from a plan.
 use Rattle.std.specs.Prelude.{ℕ, zero, suc, ◌<◌, ◌≡◌, List, [], ◌∷◌, ◌++◌, ℤ, pos}
 use Rattle.definitions.specs.Calls.{open_refusal}
 use Rattle.treelaws.specs.Joins.{Join}
-use Rattle.runs.specs.Runs.{Call, join, Event, events, table_after_all}
-use Rattle.bounds.specs.Observer.{Observer, start, observed_all}
+use Rattle.runs.specs.Runs.{Call, join, events, table_after_all}
+use Rattle.bounds.specs.Observer.{start, observed_all}
 use Rattle.bounds.specs.Demand.{Bounds}
-use Rattle.bounds.specs.Times.{InTime}
 use Rattle.planformat.specs.Format.{Plan, plan_in}
 use Rattle.planlaws.specs.Reading.{join_of, entry_refusal, after_entries, opened_for, plan_refusal, plan_table}
 
@@ -28,17 +26,9 @@ pub record AsCalls (t : List ℤ) (s : List ℕ) : Type 0 where
   pub joining : (i : ℕ) → i < (plan_in s).count → entry_refusal (after_entries (opened_for t (plan_in s)) (plan_in s) i) ((plan_in s).entry i) ≡ 0
   pub table : plan_table t s ≡ table_after_all (opened_for t (plan_in s)) (joins_of (plan_in s))
 
--- A claim about a stretch, of a table that was read from a plan: reading counts as its open and its joins, and any calls may follow
--- before the stretch.
-unfoldable pub AfterReading : (Observer → List Event → Type 0) → Type 0
-AfterReading Claim =
-    (t : List ℤ) (s : List ℕ) (before stretch : List Call) → plan_refusal t s ≡ 0
-    → Claim (observed_all (start (pos (plan_in s).rate) (pos (plan_in s).depth)) (events (opened_for t (plan_in s)) (joins_of (plan_in s) ++ before)))
-    (events (table_after_all (plan_table t s) before) stretch)
-
--- Demand 3 and the times of such a table.
+-- Demand 3 of a table that was read from a plan: reading counts as its open and its joins, and any calls may follow before the stretch.
 unfoldable pub ReadDemand3 : Type 0
-ReadDemand3 = AfterReading Bounds
-
-unfoldable pub ReadTimes : Type 0
-ReadTimes = AfterReading InTime
+ReadDemand3 =
+    (t : List ℤ) (s : List ℕ) (before stretch : List Call) → plan_refusal t s ≡ 0
+    → Bounds (observed_all (start (pos (plan_in s).rate) (pos (plan_in s).depth)) (events (opened_for t (plan_in s)) (joins_of (plan_in s) ++ before)))
+    (events (table_after_all (plan_table t s) before) stretch)

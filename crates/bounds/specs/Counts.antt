@@ -1,6 +1,6 @@
 -- What demand 3 counts over a stretch of events that an observer o follows: rates, grains dispatched and charged, and who
 -- waits or stays throughout. Document 01, "What demand 3 counts".
-use Rattle.std.specs.Prelude.{ℕ, ◌+◌, Bool, true, not, cond, List, [], ◌∷◌, eqb, ltb, length}
+use Rattle.std.specs.Prelude.{ℕ, ◌+◌, Bool, true, not, cond, List, [], ◌∷◌, eqb, ltb}
 use Rattle.numbers.specs.Tests.{every}
 use Rattle.definitions.specs.Tree.{Tree, at_or_above}
 use Rattle.definitions.specs.Rates.{rate_in}
@@ -53,7 +53,7 @@ charged_over o x (e ∷ stretch) = sum_over (grains_to_node o.tree x) (entries e
 
 -- A client has a request waiting when, since its join, more requests were accepted for it than entries dispatched.
 unfoldable pub waits : Observer → ℕ → Bool
-waits o k = ltb (length (o.sent k)) (length (o.asked k))
+waits o k = ltb (o.sent k) (o.asked k)
 
 -- After each call of the stretch client k has a request waiting.
 unfoldable pub waits_throughout : Observer → ℕ → List Event → Bool

@@ -1,11 +1,11 @@
--- What a caller sees of controllers that break their promise, each just beyond one claim: of demand 3, a tick that lists nothing, one
--- that dispatches too much, and one that charges a class too much; of the times, requests that go late or in another order. Document 01, "Slips that the paper itself invites", and document 02,
--- (g) and (i). A request here asks for one token, which costs 8: a rate of 8000 is one request a tick, a depth of 8 is one request.
+-- What a caller sees of controllers that break their promise, each just beyond one claim of demand 3: a tick that lists nothing, one
+-- that dispatches too much, and one that charges a class too much. Document 01, "Slips that the paper itself invites", and document 02,
+-- (g). A request here asks for one token, which costs 8: a rate of 8000 is one request a tick, a depth of 8 is one request.
 use Rattle.std.specs.Prelude.{ℕ, zero, suc, List, [], ◌∷◌, ◌++◌, ℤ, pos}
 use Rattle.definitions.specs.Limits.{root, last_node, class, client, weighted, most_waiting, first_port, second_port}
 use Rattle.definitions.specs.Refusals.{Outcome, accepted, refused}
-use Rattle.runs.specs.Runs.{Call, join, leave, change_share, change_rate, request, tick, Event}
-use Rattle.bounds.specs.Observer.{Observer, start, observed, observed_all}
+use Rattle.runs.specs.Runs.{Call, join, leave, change_share, request, tick, Event}
+use Rattle.bounds.specs.Observer.{Observer, start, observed_all}
 
 -- A call without lists and its answer.
 unfoldable pub plain_event : Call → Outcome → Event
@@ -82,68 +82,3 @@ stretch_of seven_to_first = dispatches 1 2 7 0 ∷ []
 stretch_of seven_to_second = dispatches 1 2 0 7 ∷ []
 stretch_of low_class_overdrawn = overdrawn 3
 stretch_of high_class_overdrawn = overdrawn 1
-
--- What a caller sees of controllers that break the times of (i), each just beyond one of their two claims. Client 1 has asked for one
--- token with tag 1, and for one with tag 2: 8000 grains each.
-pub data LateFake : Type 0 where
-  -- At a rate of 8000 one tick lists nothing.
-  one_tick_late : LateFake
-  -- The first goes at the first tick, and the second is not among what goes at the second.
-  second_late : LateFake
-  -- At a rate of 3000 three ticks list nothing.
-  rounded_late : LateFake
-  -- A refused tick and one whose entry is of another client: the first has not gone at its only accepted tick.
-  another_served : LateFake
-  -- Both go at once, the second first; then the rate falls to 1000, and there is another tick.
-  exchanged : LateFake
-  -- The second goes and the first does not: it is overtaken, or lost.
-  overtaken : LateFake
-  -- The first goes twice.
-  twice : LateFake
-  -- Both go, and then one that nobody has asked for.
-  unasked : LateFake
-  -- The first goes with another size, of the same cost.
-  resized : LateFake
-
--- Client 1 joins on the second port, alone below a disk of a rate, and asks twice.
-unfoldable pub asks_twice : ℕ → Observer
-asks_twice rate =
-    observed_all (start (pos rate) (pos 16))
-    (joins 1 root client second_port
-    ∷ plain_event (request (pos 1) (pos 1) (pos 1)) (accepted (pos 1 ∷ []))
-    ∷ plain_event (request (pos 1) (pos 2) (pos 1)) (accepted (pos 2 ∷ []))
-    ∷ [])
-
--- An entry of a client with a tag and a size, from itself.
-unfoldable pub entry : (node tag size : ℕ) → List ℤ
-entry node tag size = pos node ∷ pos tag ∷ pos size ∷ pos node ∷ []
-
--- A tick that answers so many entries for the second list, and leaves them there.
-unfoldable pub sends : ℕ → List ℤ → Event
-sends n list = record { call = tick [] list; answer = accepted (pos 0 ∷ pos n ∷ []); first = []; second = list }
-
--- What the observer knows before the stretch.
-unfoldable pub late_observer : LateFake → Observer
-late_observer one_tick_late = asks_twice 8000
-late_observer second_late = asks_twice 8000
-late_observer rounded_late = asks_twice 3000
-late_observer another_served = asks_twice 8000
-late_observer exchanged = asks_twice 8000
-late_observer overtaken = observed (asks_twice 8000) (sends 1 (entry 1 2 1))
-late_observer twice = observed (asks_twice 8000) (sends 2 (entry 1 1 1 ++ entry 1 1 1))
-late_observer unasked = observed (asks_twice 8000) (sends 3 (entry 1 1 1 ++ entry 1 2 1 ++ entry 1 3 1))
-late_observer resized = observed (asks_twice 8000) (sends 1 (entry 1 1 2))
-
--- The stretch.
-unfoldable pub late_stretch : LateFake → List Event
-late_stretch one_tick_late = sends 0 [] ∷ []
-late_stretch second_late = sends 1 (entry 1 1 1) ∷ sends 0 (entry 1 2 1) ∷ []
-late_stretch rounded_late = sends 0 [] ∷ sends 0 [] ∷ sends 0 [] ∷ []
-late_stretch another_served =
-    record { call = tick [] []; answer = refused 13; first = []; second = entry 1 1 1 } ∷ sends 1 (entry 2 1 1) ∷ []
-late_stretch exchanged =
-    sends 2 (entry 1 2 1 ++ entry 1 1 1) ∷ plain_event (change_rate (pos 1000)) (accepted (pos 0 ∷ [])) ∷ sends 0 [] ∷ []
-late_stretch overtaken = []
-late_stretch twice = []
-late_stretch unasked = []
-late_stretch resized = []

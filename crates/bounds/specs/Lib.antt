@@ -2,6 +2,5 @@ pub mod Observer
 pub mod Counts
 pub mod Demand
 pub mod Levels
-pub mod Times
 pub mod Fakes
 pub mod AsCalls

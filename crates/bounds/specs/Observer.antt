@@ -1,7 +1,7 @@
--- What an observer knows from calls, answers and lists alone: the tree, the disk's rate, and for each client which requests
--- were accepted and which were dispatched since its join. Document 01, "What demand 3 counts", and document 02: the bounds cover
--- both lists together (g), set minute gives each node a kind and a share (h), and the requests tell what waits before which (i).
-use Rattle.std.specs.Prelude.{ℕ, zero, suc, cond, List, [], ◌∷◌, ◌++◌, get_or, drop, eqb, ℤ, pos}
+-- What an observer knows from calls, answers and lists alone: the tree, the disk's rate, and for each client how many
+-- requests were accepted and how many entries dispatched since its join. Document 01, "What demand 3 counts", and document 02:
+-- the bounds cover both lists together (g), and set minute gives each node a kind and a share (h).
+use Rattle.std.specs.Prelude.{ℕ, zero, suc, ◌+◌, cond, List, [], ◌∷◌, ◌++◌, get_or, drop, eqb, ℤ, pos}
 use Rattle.numbers.specs.Whole.{plus}
 use Rattle.definitions.specs.Limits.{root, class, whole_share, entry_length}
 use Rattle.definitions.specs.Tree.{Tree, tree_of, there}
@@ -11,18 +11,12 @@ use Rattle.hourlaws.specs.SetMinute.{planned}
 use Rattle.runs.specs.Runs.{Call, join, leave, change_share, change_rate, set_minute, request, tick, is_tick, Event}
 
 -- f, with v at k.
-unfoldable pub set_at : {A : Type 0} → ℕ → A → (ℕ → A) → ℕ → A
+unfoldable pub set_at : ℕ → ℕ → (ℕ → ℕ) → ℕ → ℕ
 set_at k v f j = cond (eqb j k) v (f j)
-
--- A request as its client gave it.
-pub record Request : Type 0 where
-  pub tag : ℤ
-  pub size : ℕ
 
 -- One dispatch of a tick's lists.
 pub record Entry : Type 0 where
   pub client : ℕ
-  pub tag : ℤ
   pub size : ℕ
   pub supplier : ℕ
 
@@ -30,12 +24,7 @@ pub record Entry : Type 0 where
 unfoldable pub entries_in : ℕ → List ℤ → List Entry
 entries_in zero list = []
 entries_in (suc n) list =
-    record {
-      client = plus (get_or list 0 (pos 0));
-      tag = get_or list 1 (pos 0);
-      size = plus (get_or list 2 (pos 0));
-      supplier = plus (get_or list 3 (pos 0));
-    }
+    record { client = plus (get_or list 0 (pos 0)); size = plus (get_or list 2 (pos 0)); supplier = plus (get_or list 3 (pos 0)) }
     ∷ entries_in n (drop entry_length list)
 
 -- An accepted tick dispatches as many entries of each list, from the front, as it answers: the first number for the first list,
@@ -49,17 +38,16 @@ dispatched_by (refused number) first second = []
 unfoldable pub entries : Event → List Entry
 entries e = cond (is_tick e.call) (dispatched_by e.answer e.first e.second) []
 
--- The requests that entries dispatch for client k, in their order.
-unfoldable pub requests_for : ℕ → List Entry → List Request
-requests_for k [] = []
-requests_for k (e ∷ list) = cond (eqb e.client k) (record { tag = e.tag; size = e.size } ∷ []) [] ++ requests_for k list
+-- How many entries were dispatched for client k.
+unfoldable pub entries_for : ℕ → List Entry → ℕ
+entries_for k [] = 0
+entries_for k (e ∷ list) = cond (eqb e.client k) 1 0 + entries_for k list
 
--- For each client the requests accepted and those dispatched since its join, oldest first.
 pub record Observer : Type 0 where
   pub tree : Tree
   pub disk : ℕ
-  pub asked : ℕ → List Request
-  pub sent : ℕ → List Request
+  pub asked : ℕ → ℕ
+  pub sent : ℕ → ℕ
 
 -- The tree starts as the root, with open's rate and depth.
 unfoldable pub start : ℤ → ℤ → Observer
@@ -75,8 +63,8 @@ start rate depth =
             depth = set_at root (plus depth) (λ k. 0);
           };
       disk = plus rate;
-      asked = λ k. [];
-      sent = λ k. [];
+      asked = λ k. 0;
+      sent = λ k. 0;
     }
 
 -- The tree with the record of node k as given; a node that left has zeros.
@@ -116,14 +104,14 @@ with_shares tree given =
 
 -- What an accepted call changes: join adds a node as given, with nothing asked and nothing sent; leave takes it out;
 -- change share gives it kind and share; change rate gives the root its rate; set minute gives each node the plan's kind and its share
--- at the minute; a request is asked behind the others; a tick sends the requests of its entries.
+-- at the minute; a request is one more asked; a tick sends its entries.
 unfoldable pub after_accepted : Observer → Call → List Entry → Observer
 after_accepted o (join node parent sort kind share depth port) list =
     record {
       tree = with_node o.tree (plus node) (plus sort) (plus parent) (suc (o.tree.level (plus parent))) (plus kind) (plus share) (plus depth);
       disk = o.disk;
-      asked = set_at (plus node) [] o.asked;
-      sent = set_at (plus node) [] o.sent;
+      asked = set_at (plus node) 0 o.asked;
+      sent = set_at (plus node) 0 o.sent;
     }
 after_accepted o (leave node) list =
     record { tree = with_node o.tree (plus node) 0 0 0 0 0 0; disk = o.disk; asked = o.asked; sent = o.sent }
@@ -133,14 +121,9 @@ after_accepted o (change_rate rate) list = record { tree = o.tree; disk = plus r
 after_accepted o (set_minute plan windows minute) list =
     record { tree = with_shares o.tree (tree_at (tree_of (planned plan)) windows (plus minute)); disk = o.disk; asked = o.asked; sent = o.sent }
 after_accepted o (request client tag size) list =
-    record {
-      tree = o.tree;
-      disk = o.disk;
-      asked = set_at (plus client) (o.asked (plus client) ++ record { tag = tag; size = plus size } ∷ []) o.asked;
-      sent = o.sent;
-    }
+    record { tree = o.tree; disk = o.disk; asked = set_at (plus client) (suc (o.asked (plus client))) o.asked; sent = o.sent }
 after_accepted o (tick first second) list =
-    record { tree = o.tree; disk = o.disk; asked = o.asked; sent = λ k. o.sent k ++ requests_for k list }
+    record { tree = o.tree; disk = o.disk; asked = o.asked; sent = λ k. o.sent k + entries_for k list }
 
 -- Refused calls leave all as it is.
 unfoldable pub after_answer : Observer → Call → Outcome → List Entry → Observer

@@ -1,5 +1,7 @@
 // The calls of documents 01 and 02 for hosts in C or Rust: one exported function for each. Numbers are i64, slices are pointer and
 // length. The answer is 0 or more where the call is accepted, else the negated number of the refusal.
+#![tactic(auto)]
+
 ghost use Rattle.std.specs.Prelude.{◌≡◌, pos, ◌-ℤ◌};
 ghost use Rattle.answers.specs.Answers.{number_of, told, told_compared};
 ghost use Rattle.definitions.specs.Calls.{open_answer, open_table, join_answer, join_table, leave_answer, leave_table, change_share_answer, change_share_table, change_rate_answer, change_rate_table, request_answer, request_table, look_answer, same_answer};

@@ -47,7 +47,7 @@ arrival_counted t f k hk i hi =
 -- The table u is t with one more request waiting at node k.
 module _ (t u : List ℤ) (k : ℕ) (tag size : ℤ) (hk : k < nodes) (more : Requested t u k tag size) where
   -- Places that the request does not take stay: all but the waiting count and the new request's own.
-  pub stays : (p : ℕ) → p < record_length → (p ≡ waiting_at → ⊥) → (queue_place (waiting t k) ≤ p → p < queue_place (waiting t k) + request_length → ⊥) → place u k p ≡ place t k p
+  stays : (p : ℕ) → p < record_length → (p ≡ waiting_at → ⊥) → (queue_place (waiting t k) ≤ p → p < queue_place (waiting t k) + request_length → ⊥) → place u k p ≡ place t k p
   stays p hp other apart =
       more.here p hp ∙ rw (ne_eqb p waiting_at other, ne_eqb p (queue_place (waiting t k) + arrival_at) (not_at arrival_at (omega arith)), ne_eqb p (queue_place (waiting t k) + size_at) (not_at size_at (omega arith)), ne_eqb p (queue_place (waiting t k) + tag_at) (not_at tag_at (omega arith)))
     where
@@ -84,12 +84,7 @@ module _ (t u : List ℤ) (k : ℕ) (tag size : ℤ) (hk : k < nodes) (more : Re
   unfolding waiting
   other_waiting j ne = ap plus (more.others j waiting_at ne (omega arith))
 
-  pub new_tag : waiting t k < most_waiting → place u k (queue_place (waiting t k) + tag_at) ≡ tag
-  new_tag w =
-      more.here (queue_place (waiting t k) + tag_at) (omega arith)
-      ∙ rw (ne_eqb (queue_place (waiting t k) + tag_at) waiting_at (omega arith), ne_eqb (queue_place (waiting t k) + tag_at) (queue_place (waiting t k) + arrival_at) (omega arith), ne_eqb (queue_place (waiting t k) + tag_at) (queue_place (waiting t k) + size_at) (omega arith), eq-eqb (queue_place (waiting t k) + tag_at) (queue_place (waiting t k) + tag_at) refl)
-
-  pub new_size : waiting t k < most_waiting → place u k (queue_place (waiting t k) + size_at) ≡ size
+  new_size : waiting t k < most_waiting → place u k (queue_place (waiting t k) + size_at) ≡ size
   new_size w =
       more.here (queue_place (waiting t k) + size_at) (omega arith)
       ∙ rw (ne_eqb (queue_place (waiting t k) + size_at) waiting_at (omega arith), ne_eqb (queue_place (waiting t k) + size_at) (queue_place (waiting t k) + arrival_at) (omega arith), eq-eqb (queue_place (waiting t k) + size_at) (queue_place (waiting t k) + size_at) refl)

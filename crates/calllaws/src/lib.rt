@@ -1,1 +1,2 @@
 // Every accepted call keeps a table in order.
+#![tactic(auto)]

@@ -1,1 +1,2 @@
 // The causes of every call, their numbers and their order, proved together in proofs/. No functions.
+#![tactic(auto)]

@@ -1,4 +1,6 @@
 // The cells of a part of the week, one for each node and each of the part's minutes, and the minutes at which shares can change.
+#![tactic(auto)]
+
 ghost use Rattle.std.specs.Prelude.{◌≡◌, false, ℕ, ◌+◌, ◌*◌, ◌-◌, ◌≤◌, ◌<◌, min, length, get_or, eqb};
 ghost use Rattle.numbers.specs.Below.{all_below};
 ghost use Rattle.definitions.specs.Limits.{nodes};
@@ -52,7 +54,7 @@ pub fn cell_at(k: usize, j: usize) -> usize
 }
 
 // The cells of the minutes that window i covers: from .. to - 1.
-#[derive(Drop)]
+#[derive(Clone, Copy)]
 struct Cover {
     from: usize,
     to: usize,

@@ -1,4 +1,6 @@
 // Same: whether two tables show the same tree and disk rate.
+#![tactic(auto)]
+
 ghost use Rattle.std.specs.Prelude.{◌≡◌, ◌<◌, length};
 ghost use Rattle.numbers.specs.Whole.{same_ℤ};
 ghost use Rattle.numbers.specs.Below.{all_below};

@@ -1,4 +1,6 @@
 // What a request costs, from its size: in tokens, in grains, and whether a client's depth has room for it.
+#![tactic(auto)]
+
 ghost use Rattle.std.specs.Prelude.{◌≡◌, ◌≤◌, ltb};
 ghost use Rattle.definitions.specs.Limits.{greatest_depth};
 ghost use Rattle.definitions.specs.Cost.{cost, size_within};

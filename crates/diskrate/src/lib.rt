@@ -1,4 +1,6 @@
 // Change rate.
+#![tactic(auto)]
+
 ghost use Rattle.std.specs.Prelude.{◌≡◌, true, ◌≤◌, ltb};
 ghost use Rattle.definitions.specs.Limits.{root};
 ghost use Rattle.definitions.specs.Tree.{tree_of};

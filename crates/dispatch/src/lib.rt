@@ -1,4 +1,6 @@
 // One dispatch: the entry is written to the list of the client's port, the supplier charged and the request taken out.
+#![tactic(auto)]
+
 ghost use Rattle.std.specs.Prelude.{◌≡◌, ◌+◌, ◌*◌, ◌<◌, ◌≤◌, length};
 ghost use Rattle.definitions.specs.Limits.{nodes, entry_length, first_port, second_port};
 ghost use Rattle.definitions.specs.Places.{waiting, port};

@@ -1,4 +1,6 @@
 // The rate of a child from its class's. Document 01, "Rates", and document 02, (f).
+#![tactic(auto)]
+
 ghost use Rattle.std.specs.Prelude.{◌≡◌, false, ◌≤◌};
 ghost use Rattle.definitions.specs.Limits.{whole_share, greatest_rate};
 ghost use Rattle.definitions.specs.Tree.{tree_of, is_stated};
@@ -9,7 +11,7 @@ use sums::UnderClass;
 use table::{Table, tree};
 
 // What the rate of a fixed or weighted child is part of: it is `whole` x share / `parts`, rounded down.
-#[derive(Drop)]
+#[derive(Clone, Copy)]
 pub struct Division {
     pub whole: u64,
     pub parts: u64,

@@ -1,4 +1,6 @@
 // The draws of a load. Document 02, (d).
+#![tactic(auto)]
+
 ghost use Rattle.std.specs.Prelude.{◌≡◌, ◌*◌, ◌%◌, ◌^◌, ◌<◌};
 ghost use Rattle.draws.specs.Draws.{next_state, upper};
 

@@ -8,8 +8,7 @@ use Rattle.lateredges.proofs.Edges.{later_edges_hold}
 use Rattle.statededges.proofs.Edges.{stated_edges_hold}
 use Rattle.portedges.proofs.Edges.{port_edges_hold}
 use Rattle.houredges.proofs.Edges.{hour_edges_hold}
-use Rattle.timeedges.proofs.Edges.{time_edges_hold}
-use Rattle.edges.specs.Edges.{Edge, paper, thirds, nothing_left, nothing_left_of_thirds, above_whole, alone, one_asks, both_ask, debt, sizes, depths, ninth, list_lengths, later, of_stated, of_ports, of_hours, of_times, scenario}
+use Rattle.edges.specs.Edges.{Edge, paper, thirds, nothing_left, nothing_left_of_thirds, above_whole, alone, one_asks, both_ask, debt, sizes, depths, ninth, list_lengths, later, of_stated, of_ports, of_hours, scenario}
 
 -- The scenarios of document 01's edges. Those that a must-fail edit changes stand first, since the test ends at the first that fails.
 marked : List Scenario
@@ -53,4 +52,3 @@ edges_hold (later edge) = later_edges_hold edge
 edges_hold (of_stated edge) = stated_edges_hold edge
 edges_hold (of_ports edge) = port_edges_hold edge
 edges_hold (of_hours edge) = hour_edges_hold edge
-edges_hold (of_times edge) = time_edges_hold edge

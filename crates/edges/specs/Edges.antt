@@ -9,7 +9,6 @@ use Rattle.lateredges.specs.Edges.{LaterEdge, later_scenario}
 use Rattle.statededges.specs.Edges.{StatedEdge, stated_scenario}
 use Rattle.portedges.specs.Edges.{PortEdge, port_scenario}
 use Rattle.houredges.specs.Edges.{HourEdge, hour_scenario}
-use Rattle.timeedges.specs.Edges.{TimeEdge, time_scenario}
 use Rattle.scenarios.specs.Scenario.{Scenario, disk, join, request, look, tick, dispatch, ◌gives◌, ◌lists◌, ◌refuses◌, set_balance, times, number, seen}
 
 -- The edges by name: document 01's in its order, then those of the requests.
@@ -19,7 +18,6 @@ pub data Edge : Type 0 where
   of_stated : StatedEdge → Edge
   of_ports : PortEdge → Edge
   of_hours : HourEdge → Edge
-  of_times : TimeEdge → Edge
 
 unfoldable pub scenario : Edge → Scenario
 -- "Disk 1000; class 1 fixed 5000: rate 500. Under it fixed 4000: 200; weights 4 and 6: 120 and 180." The class loses nothing,
@@ -170,4 +168,3 @@ scenario (later edge) = later_scenario edge
 scenario (of_stated edge) = stated_scenario edge
 scenario (of_ports edge) = port_scenario edge
 scenario (of_hours edge) = hour_scenario edge
-scenario (of_times edge) = time_scenario edge

@@ -1,5 +1,7 @@
 // The entries of a plan joined in turn, and whether they stand in order. Document 01, "Same tree, and the plan
 // file", and document 02, (f) and (g).
+#![tactic(auto)]
+
 ghost use Rattle.std.specs.Prelude.{◌≡◌, true, ℕ, ◌+◌, ◌*◌, ◌^◌, ◌≤◌, ◌<◌, length, pos};
 ghost use Rattle.definitions.specs.Limits.{table_length, nodes, first_port, last_level};
 ghost use Rattle.definitions.specs.Tree.{tree_of};

@@ -1,4 +1,6 @@
 // Where the parts of a plan stand, whether its bytes are well formed, and its nodes.
+#![tactic(auto)]
+
 ghost use Rattle.std.specs.Prelude.{◌≡◌, ◌+◌, ◌*◌, ◌≤◌, ◌<◌, eqb, length};
 ghost use Rattle.numbers.specs.Below.{all_below};
 ghost use Rattle.planformat.specs.Bytes.{byte_values, four_values, byte_at};

@@ -1,4 +1,6 @@
 // Join: a class or a client under a class.
+#![tactic(auto)]
+
 ghost use Rattle.std.specs.Prelude.{◌≡◌, ◌≤◌};
 ghost use Rattle.definitions.specs.Refusals.{last_refusal};
 ghost use Rattle.answers.specs.Answers.{told};

@@ -1,5 +1,7 @@
 // The bytes of a plan file: their figures, the integers that they make, and a node's body. Document 01, "Same tree, and the plan file",
 // and document 02, (f).
+#![tactic(auto)]
+
 pub use planformat::{Edition, Node, Share, Sort};
 use table::Table;
 
@@ -7,7 +9,7 @@ pub mod bodies;
 pub mod bytes;
 
 // The figures of a plan's bytes.
-#[derive(Drop)]
+#[derive(Clone, Copy)]
 pub struct Format {}
 
 impl Format {
@@ -53,7 +55,7 @@ impl Format {
 }
 
 // The kinds of a body.
-#[derive(Drop)]
+#[derive(Clone, Copy)]
 pub struct Kind {}
 
 impl Kind {

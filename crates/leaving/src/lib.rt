@@ -1,4 +1,6 @@
 // Leave: a node goes, and its record is zero.
+#![tactic(auto)]
+
 ghost use Rattle.std.specs.Prelude.{◌≡◌, [], ◌∷◌, true, not, ◌||◌, ◌≤◌, ◌<◌, ltb, length, pos};
 ghost use Rattle.std.specs.Int.Signed.{lt_z};
 ghost use Rattle.numbers.specs.Whole.{within_ℤ};

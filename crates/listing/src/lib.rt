@@ -1,4 +1,6 @@
 // The nodes of a table in the order of its plan: by level, then by number; and what the plan says of a node.
+#![tactic(auto)]
+
 ghost use Rattle.std.specs.Prelude.{◌≡◌, cond, not, ◌≤◌, ◌<◌, length, take};
 ghost use Rattle.definitions.specs.Limits.{table_length, nodes};
 ghost use Rattle.definitions.specs.Tree.{tree_of, there, is_stated, test_if};
@@ -14,7 +16,7 @@ use table::Table;
 const STANDINGS: usize = Table::NODES * (Table::LAST_LEVEL as usize + 1);
 
 // Nodes in order, and how many.
-#[derive(Drop)]
+#[derive(Clone, Copy)]
 pub struct Listing {
     pub nodes: [u64; Table::NODES],
     pub count: usize,

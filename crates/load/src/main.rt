@@ -1,5 +1,7 @@
 // Prints the dispatches of a load that can be repeated, a line for each: tick, client, tag, size, supplier. Standard input has the
 // seed, the number of ticks and a plan. Document 02, (d).
+#![tactic(auto)]
+
 ghost use Rattle.std.specs.Prelude.{◌≡◌, false, ◌≤◌};
 ghost use Rattle.loadformat.specs.Parts.{opening, ticks_allowed, part_of};
 
@@ -7,7 +9,7 @@ use libc::{STDERR_FILENO, STDIN_FILENO, STDOUT_FILENO};
 use table::Table;
 
 // Up to which tick the text was handed on to be written, and whether writing failed.
-#[derive(Drop)]
+#[derive(Clone, Copy)]
 struct Sent {
     tick: u64,
     failed: bool,

@@ -1,5 +1,7 @@
 // The lines of one tick of a load. Document 02, (d). A function `put_..` puts bytes into a text from place a on and answers the place
 // behind them.
+#![tactic(auto)]
+
 ghost use Rattle.std.specs.Prelude.{◌≡◌, ◌+◌, ◌*◌, ◌<◌, ◌≤◌, length, get_or, pos};
 ghost use Rattle.definitions.specs.Limits.{entry_length};
 ghost use Rattle.definitions.specs.Tick.{ticked};

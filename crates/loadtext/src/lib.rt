@@ -1,5 +1,7 @@
 // The text of a load, in parts. Document 02, (d). A function `put_..` puts bytes into a text from the start on, or behind those of the
 // part so far, and answers how far the load is then.
+#![tactic(auto)]
+
 ghost use Rattle.std.specs.Prelude.{◌≡◌, ◌+◌, ◌*◌, ◌^◌, ◌<◌, ◌≤◌, length};
 ghost use Rattle.io.specs.Counts.{IsPrefixLen};
 ghost use Rattle.definitions.specs.Limits.{entry_length};

@@ -1,4 +1,6 @@
 // Look: the rate, balance and waiting count of a node, and the grains of its rate that nobody gets.
+#![tactic(auto)]
+
 ghost use Rattle.std.specs.Prelude.{◌≡◌, true, ◌≤◌, ◌<◌};
 ghost use Rattle.definitions.specs.Limits.{nodes};
 ghost use Rattle.definitions.specs.Order.{in_order};

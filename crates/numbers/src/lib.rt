@@ -1,4 +1,6 @@
 // Whole numbers for the account table: the natural and the negative part of an i64, sums and differences.
+#![tactic(auto)]
+
 ghost use Rattle.std.specs.Prelude.{◌≡◌, ◌+◌, ◌^◌, ◌<◌, ◌≤◌, pos, ◌+ℤ◌, ◌-ℤ◌};
 ghost use Rattle.std.specs.Int.Signed.{le_z};
 ghost use Rattle.numbers.specs.Whole.{plus, minus, same_ℤ, within_ℤ};

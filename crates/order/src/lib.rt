@@ -1,5 +1,7 @@
 // Whether a table is in order: the test of document 01, "The table", made in stages. Each stage makes the next one safe
 // to compute.
+#![tactic(auto)]
+
 ghost use Rattle.std.specs.Prelude.{◌≡◌};
 ghost use Rattle.definitions.specs.Order.{in_order};
 

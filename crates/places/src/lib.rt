@@ -1,4 +1,6 @@
 // Tests of places by themselves: numbers within limits, numbers that are zero, the header, the root and a node's own record.
+#![tactic(auto)]
+
 ghost use Rattle.std.specs.Prelude.{◌≡◌, ◌&&◌, ◌+◌, ◌-◌, ◌<◌, ◌≤◌, ◌^◌, length, pos};
 ghost use Rattle.numbers.specs.Whole.{minus, same_ℤ, within_ℤ};
 ghost use Rattle.definitions.specs.Limits.{table_length, record_length, nodes, most_waiting};

@@ -1,5 +1,7 @@
 // Plan files: reading and writing them, and the check for the cabinet's firmware. Document 01, "Same tree, and the plan
 // file".
+#![tactic(auto)]
+
 ghost use Rattle.std.specs.Prelude.{◌≡◌};
 ghost use Rattle.planlaws.specs.Reading.{check_answer};
 

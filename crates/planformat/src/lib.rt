@@ -1,14 +1,15 @@
 // The types of the code that the format of a plan speaks of; the format itself is defined in specs/.
+#![tactic(auto)]
 
 // The editions of a plan.
-#[derive(Drop)]
+#[derive(Clone, Copy)]
 pub enum Edition {
     First,
     Second,
 }
 
 // A share of a class's rate, or a rate that is stated.
-#[derive(Drop)]
+#[derive(Clone, Copy)]
 pub enum Share {
     Fixed(u64),
     Weighted(u64),
@@ -16,14 +17,14 @@ pub enum Share {
 }
 
 // A class or a client, with its share.
-#[derive(Drop)]
+#[derive(Clone, Copy)]
 pub enum Sort {
     Class(Share),
     Client(Share),
 }
 
 // What a plan says of one node.
-#[derive(Drop)]
+#[derive(Clone, Copy)]
 pub struct Node {
     pub number: u64,
     pub parent: u64,

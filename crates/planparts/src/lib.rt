@@ -1,4 +1,6 @@
 // The parts of a plan of an edition, written into a buffer that holds it.
+#![tactic(auto)]
+
 ghost use Rattle.std.specs.Prelude.{◌≡◌, ◌≤◌, ◌<◌, length};
 ghost use Rattle.definitions.specs.Limits.{table_length};
 ghost use Rattle.planformat.specs.Bytes.{bytes_below};

@@ -1,4 +1,6 @@
 // Bytes of a plan written into a buffer.
+#![tactic(auto)]
+
 ghost use Rattle.std.specs.Prelude.{◌≡◌, [], ◌∷◌, ◌++◌, ◌+◌, ◌≤◌, ◌<◌, length};
 ghost use Rattle.planformat.specs.Bytes.{byte_values, bytes2, bytes4};
 ghost use Rattle.planformat.specs.Format.{head_length, entry_length, body_length, share_length, start_of, mark_bytes, share_bytes};

@@ -1,4 +1,6 @@
 // The waiting requests: their sizes and arrival numbers.
+#![tactic(auto)]
+
 ghost use Rattle.std.specs.Prelude.{◌≡◌, ℕ, ◌+◌, ◌-◌, ◌<◌, ◌≤◌, ◌||◌, length, eqb, ltb};
 ghost use Rattle.numbers.specs.Below.{all_below};
 ghost use Rattle.definitions.specs.Limits.{table_length, nodes, greatest_depth, most_waiting};

@@ -1,5 +1,7 @@
 // Prints, for a plan on standard input, a line for each node in rising number: node, sort, rate. A refused plan prints one
 // line with the number of the refusal. Document 01, "Same tree, and the plan file".
+#![tactic(auto)]
+
 ghost use Rattle.std.specs.Prelude.{◌≡◌};
 ghost use Rattle.report.specs.Text.{report_of};
 

@@ -1,4 +1,5 @@
 // Whether the rates are right: each against its class's as it stands, by multiplication. No rate is worked out.
+#![tactic(auto)]
 
 ghost use Rattle.std.specs.Prelude.{◌≡◌, ◌*◌, ◌/◌, ◌<◌, ◌≤◌, eqb};
 ghost use Rattle.definitions.specs.Limits.{nodes, whole_share, greatest_rate};

@@ -1,4 +1,6 @@
 // Reading a plan opens a table and joins the entries in turn. Document 01, "Same tree, and the plan file", and document 02, (f).
+#![tactic(auto)]
+
 ghost use Rattle.std.specs.Prelude.{◌≡◌, ◌+◌, ◌≤◌, ◌<◌, length, get_or, pos};
 ghost use Rattle.definitions.specs.Limits.{table_length};
 ghost use Rattle.definitions.specs.Refusals.{last_refusal};

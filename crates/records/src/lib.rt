@@ -1,4 +1,6 @@
 // Each record with its parent's: what a node's record is held to beyond the limits of its places.
+#![tactic(auto)]
+
 ghost use Rattle.std.specs.Prelude.{◌≡◌, suc, ◌<◌, ◌≤◌, length, eqb};
 ghost use Rattle.definitions.specs.Limits.{table_length, nodes, greatest_depth};
 ghost use Rattle.definitions.specs.Tree.{tree_of, is_class, test_if};

@@ -1,4 +1,6 @@
 // The renewal of the rates below a class. Document 02, (e).
+#![tactic(auto)]
+
 ghost use Rattle.std.specs.Prelude.{◌≡◌, ◌+◌, ◌*◌, ◌<◌, length};
 ghost use Rattle.definitions.specs.Limits.{table_length, nodes};
 ghost use Rattle.definitions.specs.Tree.{tree_of};

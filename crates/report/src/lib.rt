@@ -1,5 +1,7 @@
 // The text that is printed for a plan. Document 01, "Same tree, and the plan file". A function `put_..` puts bytes into a
 // text from place a on, or from the start on, and answers the place behind them.
+#![tactic(auto)]
+
 ghost use Rattle.std.specs.Prelude.{◌≡◌, ◌+◌, ◌<◌, ◌≤◌, length};
 ghost use Rattle.io.specs.Counts.{IsPrefixLen};
 ghost use Rattle.definitions.specs.Limits.{table_length, nodes};

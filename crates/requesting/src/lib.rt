@@ -1,4 +1,6 @@
 // Request: one more waiting request at a client.
+#![tactic(auto)]
+
 ghost use Rattle.std.specs.Prelude.{◌≡◌, true, ◌+◌, ◌<◌, ◌≤◌, ◌^◌, length, pos};
 ghost use Rattle.definitions.specs.Limits.{table_length, nodes, most_waiting, tag_at, size_at, arrival_at};
 ghost use Rattle.definitions.specs.Places.{put, queue_place, count, waiting};

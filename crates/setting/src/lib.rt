@@ -1,4 +1,6 @@
 // Set minute: the kinds of a plan and the shares that a timetable gives at a minute. Document 02, (h).
+#![tactic(auto)]
+
 ghost use Rattle.std.specs.Prelude.{◌≡◌, true, not, [], ◌∷◌, ℕ, ◌≤◌, ◌<◌, length, get_or, pos};
 ghost use Rattle.numbers.specs.Whole.{within_ℤ};
 ghost use Rattle.numbers.specs.Below.{all_below};

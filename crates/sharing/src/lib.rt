@@ -1,4 +1,6 @@
 // Change share.
+#![tactic(auto)]
+
 ghost use Rattle.std.specs.Prelude.{◌≡◌, true, ◌≤◌, ◌<◌, pos, length};
 ghost use Rattle.definitions.specs.Limits.{table_length, nodes, root, greatest_rate};
 ghost use Rattle.definitions.specs.Tree.{tree_of, there};

@@ -1,1 +1,2 @@
 // The edges of stated rates, proved together in proofs/. No functions.
+#![tactic(auto)]

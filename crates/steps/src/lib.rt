@@ -1,4 +1,6 @@
 // The four steps of a tick.
+#![tactic(auto)]
+
 ghost use Rattle.std.specs.Prelude.{◌≡◌, true, [], ◌+◌, ◌*◌, ◌<◌, ◌≤◌, length};
 ghost use Rattle.definitions.specs.Limits.{nodes, entry_length, first_port, second_port};
 ghost use Rattle.definitions.specs.Places.{port};

@@ -1,4 +1,6 @@
 // Sums over the children of a class.
+#![tactic(auto)]
+
 ghost use Rattle.std.specs.Prelude.{◌≡◌, cond, ◌+◌, ◌-◌, ◌^◌, ◌≤◌, ◌<◌, min, length, get_or, set, eqb, ltb};
 ghost use Rattle.definitions.specs.Limits.{table_length, nodes, root, kinds, fixed, weighted, stated, whole_share, greatest_rate};
 ghost use Rattle.definitions.specs.Tree.{tree_of, child_of, count_if, sum_under};
@@ -9,7 +11,7 @@ ghost use Rattle.sums.specs.Sums.{term, Summable, SumsBelow, Shareable, share_su
 use table::{Table, tree};
 
 // What is summed. Shares are those of one kind; credits are the natural parts of the balances, debts the negative parts.
-#[derive(Drop)]
+#[derive(Clone, Copy)]
 pub enum Summand {
     Shares(u64),
     Depths,
@@ -19,7 +21,7 @@ pub enum Summand {
 }
 
 // The sums of the shares under one class, by kind.
-#[derive(Drop)]
+#[derive(Clone, Copy)]
 pub struct UnderClass {
     pub fixed: u64,
     pub weights: u64,

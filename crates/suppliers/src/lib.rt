@@ -1,4 +1,6 @@
 // Who supplies a request, and which request goes next.
+#![tactic(auto)]
+
 ghost use Rattle.std.specs.Prelude.{◌≡◌, ◌||◌, ◌<◌, ◌^◌, length, eqb};
 ghost use Rattle.definitions.specs.Limits.{table_length, nodes};
 ghost use Rattle.definitions.specs.Tick.{enough, supply, nobody, better};
@@ -9,7 +11,7 @@ use definitions::Supply;
 use table::Table;
 
 // What step 4 dispatches next: a client's oldest request from its supplier, or nothing.
-#[derive(Drop)]
+#[derive(Clone, Copy)]
 pub enum Next {
     Client { client: usize, supplier: usize },
     Nothing,

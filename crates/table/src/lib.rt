@@ -1,4 +1,6 @@
 // The account table: a lent slice of 2,568 signed numbers, its limits and places, and open.
+#![tactic(auto)]
+
 ghost use Rattle.std.specs.Prelude.{◌≡◌, ◌+◌, ◌*◌, ◌<◌, ◌≤◌, ◌^◌, length, pos};
 ghost use Rattle.numbers.specs.Whole.{plus, minus, same_ℤ};
 ghost use Rattle.definitions.specs.Limits.{table_length, header_length, record_length, nodes, depth_at, share_limit, port_limit, greatest_depth, grain_scale};
@@ -13,13 +15,13 @@ pub mod queue;
 pub mod tree;
 
 // How many there are at the first port and at the second.
-#[derive(Drop)]
+#[derive(Clone, Copy)]
 pub struct PortCounts {
     pub first: usize,
     pub second: usize,
 }
 
-#[derive(Drop)]
+#[derive(Clone, Copy)]
 pub struct Table {}
 
 impl Table {

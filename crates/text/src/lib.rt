@@ -1,4 +1,6 @@
 // Pieces of a text, each put from place a on, and the line of a refusal. The answer is the place behind it.
+#![tactic(auto)]
+
 ghost use Rattle.std.specs.Prelude.{◌+◌, ◌≤◌, length};
 ghost use Rattle.text.specs.Appended.{Appended};
 ghost use Rattle.text.specs.Text.{most_digits, longest_refused, decimal, refused_line};

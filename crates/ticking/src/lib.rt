@@ -1,4 +1,6 @@
 // Tick: balances grow, and waiting requests go.
+#![tactic(auto)]
+
 ghost use Rattle.std.specs.Prelude.{◌≡◌, true, ◌≤◌};
 ghost use Rattle.definitions.specs.Limits.{first_port, second_port};
 ghost use Rattle.definitions.specs.Order.{in_order};

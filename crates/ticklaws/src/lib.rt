@@ -1,1 +1,2 @@
 // Laws of the tick.
+#![tactic(auto)]

@@ -1,1 +1,2 @@
 // Laws of the definitions of the table.
+#![tactic(auto)]

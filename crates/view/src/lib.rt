@@ -1,6 +1,8 @@
 // The view of a plan. Document 01, "Same tree, and the plan file", and document 02, (f): a plan of either edition has its
 // contents first, then the bodies. Few functions are over the view, and each leaves the work to `parts`, which takes plain
 // bytes. `listed_at` and `body_of` take plain bytes too, and serve all other callers.
+#![tactic(auto)]
+
 ghost use Rattle.std.specs.Prelude.{◌≡◌, true, ◌<◌};
 ghost use Rattle.planformat.specs.Format.{edition_in, count_in, formed};
 ghost use Rattle.view.specs.Views.{Views, EntryAt, BodyAt};
@@ -11,28 +13,28 @@ mod parts;
 use layout::{Edition, Sort};
 
 // What an entry says: a node and its parent. Where its body stands follows from the edition and the count of entries.
-#[derive(Drop)]
+#[derive(Clone, Copy)]
 pub struct Entry {
     pub number: u64,
     pub parent: u64,
 }
 
 // What a body says: a class or a client with its share, and the depth.
-#[derive(Drop)]
+#[derive(Clone, Copy)]
 pub struct Body {
     pub sort: Sort,
     pub depth: u64,
 }
 
 // An entry with its body.
-#[derive(Drop)]
+#[derive(Clone, Copy)]
 pub struct Listed {
     pub entry: Entry,
     pub body: Body,
 }
 
 // The body of a node; or the plan does not list the node; or the bytes are no plan.
-#[derive(Drop)]
+#[derive(Clone, Copy)]
 pub enum Found {
     Body(Body),
     NotListed,
@@ -40,7 +42,7 @@ pub enum Found {
 }
 
 // A plan's bytes, their edition, and how many entries they have.
-#[derive(Drop)]
+#[derive(Clone, Copy)]
 pub struct View<'a> {
     pub bytes: &'a [u8],
     pub edition: Edition,

@@ -1,4 +1,6 @@
 // The shares of a timetable at every minute of the week. Document 02, (h).
+#![tactic(auto)]
+
 ghost use Rattle.std.specs.Prelude.{◌≡◌, ℕ, ◌+◌, ◌*◌, ◌≤◌, ◌<◌, length, get_or, leb};
 ghost use Rattle.numbers.specs.Below.{all_below};
 ghost use Rattle.definitions.specs.Limits.{table_length, nodes, kinds};
@@ -13,7 +15,7 @@ use table::Table;
 
 // What the week shows: whether no two windows of a node overlap, whether the fixed shares are at most 10,000 under each class at
 // every minute, and whether the stated rates are at most the disk's.
-#[derive(Drop)]
+#[derive(Clone, Copy)]
 pub struct Week {
     pub apart: bool,
     pub fixed: bool,
@@ -21,7 +23,7 @@ pub struct Week {
 }
 
 // Whether the fixed shares are at most 10,000 under each class, and whether the stated rates are at most the disk's.
-#[derive(Drop)]
+#[derive(Clone, Copy)]
 struct Within {
     fixed: bool,
     stated: bool,

@@ -1,4 +1,6 @@
 // The windows of a timetable: four numbers each, node, start minute, end minute and share. Document 02, (h).
+#![tactic(auto)]
+
 ghost use Rattle.std.specs.Prelude.{◌≡◌, cond, ℕ, ◌+◌, ◌*◌, ◌<◌, length, get_or};
 ghost use Rattle.numbers.specs.Whole.{plus, within_ℤ};
 ghost use Rattle.numbers.specs.Below.{all_below};

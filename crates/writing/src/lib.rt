@@ -1,4 +1,6 @@
 // Writing the plan of a table. Document 01, "Same tree, and the plan file", and document 02, (f).
+#![tactic(auto)]
+
 ghost use Rattle.std.specs.Prelude.{◌≡◌};
 ghost use Rattle.definitions.specs.Order.{in_order};
 ghost use Rattle.answers.specs.Answers.{told};

@@ -1,1 +1,0 @@
-// The edges of how long a request waits, proved together in proofs/. No functions.
