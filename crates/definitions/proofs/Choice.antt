@@ -42,14 +42,14 @@ climbed t amount steps (suc l) k h =
     by_test (enough t amount k)
     (λ e. rw e (record { up = 0; count = omega arith; within = omega arith; node = refl; has = e; first = λ n l. absurd (omega arith) }))
     (λ e.
-    let c = climbed t amount _ l ((tree_of t).parent k) (rw e at h) in
+    let c = climbed t amount (steps + 1) l ((tree_of t).parent k) (rw e at h) in
     rw e (record {
       up = suc c.up;
       count = omega (arith, c.count);
       within = omega (arith, c.within);
       node = c.node;
       has = c.has;
-      first = λ n. elim n [ zero ↦ λ l. e | suc m ↦ λ l. c.first m (omega arith) ];
+      first = λ n. elim n as (λ n. n < suc c.up → enough t amount (node_above (tree_of t) n k) ≡ false) [ zero ↦ λ l. e | suc m ↦ λ l. c.first m (omega arith) ];
     }))
 
 pub has_supplier : (t : List ℤ) (k : ℕ) → supplied t k ≡ true → HasSupplier t k

@@ -3,7 +3,7 @@ use mathlib.Core.Path.{◌≡◌, refl, sym, ap, ◌∙◌}
 use mathlib.Core.Bool.{Bool, true, false, ◌&&◌, and-true as and-with-true}
 use mathlib.Core.List.{List, [], ◌∷◌}
 use Rattle.numbers.specs.Tests.{every}
-use Rattle.numbers.proofs.Tests.{and-true, and_left, and_right}
+use Rattle.numbers.proofs.Tests.{and_true, and_left, and_right}
 
 pub head_holds : (b : Bool) (bs : List Bool) → every (b ∷ bs) ≡ true → b ≡ true
 unfolding every
@@ -19,7 +19,7 @@ none_left = refl
 
 pub holds_with : (b : Bool) (bs : List Bool) → b ≡ true → every bs ≡ true → every (b ∷ bs) ≡ true
 unfolding every
-holds_with b bs h hs = and-true b (every bs) h hs
+holds_with b bs h hs = and_true b (every bs) h hs
 
 pub every_two : (a b : Bool) → every (a ∷ b ∷ []) ≡ (a && b)
 unfolding every

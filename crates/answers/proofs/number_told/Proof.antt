@@ -8,11 +8,11 @@ use Rattle.answers.proofs.number_told.Statement.{statement}
 use Rattle.answers.proofs.number_told.Tie as tie
 
 -- The number of the refusal is the one that the answer tells.
-refused : tie.Need-returns-2
+refused : tie.Need-returns-in-Refused
 unfolding number_told told
 refused c =
     let e = c.number_of.ensures in
-    (e.0 ∙ sym (ap (λ (a : Answer). number_told (told a)) c.before.before.answer.given.1), e.1)
+    (e.0 ∙ sym (ap (λ (a : Answer). number_told (told a)) c.before.before.answer-1.given.1), e.1)
 
 pub number_told_spec : {M : Type 1} → statement M
 unfolding number_told told

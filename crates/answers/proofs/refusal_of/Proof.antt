@@ -17,9 +17,9 @@ unfolding NoneOf
 above zero x least none = least
 above (suc n) x least none = let low = above n x least none.0 in let apart = none.1 in omega arith
 
-last : tie.Need-returns-17
+last : tie.Need-returns-in_default
 unfolding NoneOf
-last c = omega (arith, above (last_refusal - 1) _ c.before.requires.0 c.match.rest)
+last c = omega (arith, above (last_refusal - 1) _ c.before.requires.0 c.in_default.rest)
 
 pub refusal_of_spec : {M : Type 1} → statement M
 refusal_of_spec =

@@ -20,10 +20,10 @@ fits c =
     let high : minus r ≤ 2 ^ 63 = omega (arith, one_is_zero r, sub_parts z (pos c.args.by), parts_fit z c.ranges.z, c.requires) in
     fits_parts r low high
 
-cast_result : tie.Need-overflow-cast-result
+cast_result : tie.Need-overflow_cast-result
 cast_result c = search rules
 
-sub_result : tie.Need-overflow-sub-result
+sub_result : tie.Need-overflow_sub-result
 sub_result c = rw (to_z-of_z w64 c.args.z c.ranges.z, to_z_pos w64 c.args.by c.requires.1) (fits c)
 
 returns : tie.Need-returns

@@ -27,20 +27,20 @@ unfolding plus
 itself (pos n) h = refl
 itself (negsuc n) h = absurd (true≢false h)
 
-cast_result : tie.Need-overflow-cast-result
+cast_result : tie.Need-overflow_cast-result
 cast_result c =
     let z = c.before.args.z in
     let f = c.before.ranges.z in
-    rw (to_z-of_z w64 z f) (fits z f (rw (to_z-of_z w64 z f) at c.if1.false))
+    rw (to_z-of_z w64 z f) (fits z f (rw (to_z-of_z w64 z f) at c.if-z-lt0.false))
 
-returns : tie.Need-returns
-returns c = none c.before.args.z (rw (to_z-of_z w64 c.before.args.z c.before.ranges.z) at c.if1.true)
+returns : tie.Need-returns-then-z-lt0
+returns c = none c.before.args.z (rw (to_z-of_z w64 c.before.args.z c.before.ranges.z) at c.if-z-lt0.true)
 
-returns_2 : tie.Need-returns-2
+returns_2 : tie.Need-returns-else-z-lt0
 returns_2 c =
     let z = c.before.args.z in
     let f = c.before.ranges.z in
-    rw (to_z-of_z w64 z f) (itself z (rw (to_z-of_z w64 z f) at c.if1.false))
+    rw (to_z-of_z w64 z f) (itself z (rw (to_z-of_z w64 z f) at c.if-z-lt0.false))
 
 pub natural_spec : {M : Type 1} → statement M
 natural_spec = tie.close (tie.spec cast_result returns returns_2)

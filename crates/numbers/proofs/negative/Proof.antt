@@ -33,20 +33,20 @@ module _ (z : ℤ) (f : SFits w64 z) (h : lt_z z (pos 0) ≡ true) where
       (omega (arith, parts_fit z f, size))
       (omega (arith, zarith, one_is_zero (pos 0 -ℤ (z +ℤ pos 1)), add_parts z (pos 1), sub_parts (pos 0) (z +ℤ pos 1)))
 
-below : (c : tie.Then1) → lt_z c.before.args.z (pos 0) ≡ true
-below c = rw (to_z-of_z w64 c.before.args.z c.before.ranges.z) at c.if1.true
+below : (c : tie.Then-z-lt0) → lt_z c.before.args.z (pos 0) ≡ true
+below c = rw (to_z-of_z w64 c.before.args.z c.before.ranges.z) at c.if-z-lt0.true
 
 -- z + 1 and -(z + 1) as the machine has them.
-next_fits : (c : tie.Then1) → SFits w64 (c.before.args.z +ℤ pos 1)
+next_fits : (c : tie.Then-z-lt0) → SFits w64 (c.before.args.z +ℤ pos 1)
 next_fits c = next c.before.args.z c.before.ranges.z (below c)
 
-turned_fits : (c : tie.Then1) → SFits w64 (pos 0 -ℤ (c.before.args.z +ℤ pos 1))
+turned_fits : (c : tie.Then-z-lt0) → SFits w64 (pos 0 -ℤ (c.before.args.z +ℤ pos 1))
 turned_fits c = turned c.before.args.z c.before.ranges.z (below c)
 
-add_natural : tie.Need-overflow-add-natural
+add_natural : tie.Need-overflow_add-z
 add_natural c = rw (to_z-of_z w64 c.before.args.z c.before.ranges.z) (next_fits c)
 
-sub_natural : tie.Need-overflow-sub-natural
+sub_natural : tie.Need-overflow_sub-z
 sub_natural c =
     rw (to_z-of_z w64 c.before.args.z c.before.ranges.z, to_z-of_z w64 _ (next_fits c)) (turned_fits c)
 
@@ -59,17 +59,17 @@ part c =
     let f = c.before.before.ranges.z in
     omega (arith, size z f (below c.before), rw (to_z-of_z w64 z f, to_z-of_z w64 _ (next_fits c.before), to_z-of_z w64 _ (turned_fits c.before)) at c.natural.ensures)
 
-add_result : tie.Need-overflow-add-result
+add_result : tie.Need-overflow_add-result
 add_result c = omega (arith, part c, parts_fit c.before.before.args.z c.before.before.ranges.z)
 
-returns : tie.Need-returns
+returns : tie.Need-returns-then-z-lt0
 returns c = part c
 
-returns_2 : tie.Need-returns-2
+returns_2 : tie.Need-returns-else-z-lt0
 unfolding plus minus
 returns_2 c =
     let z = c.before.args.z in
-    let h : lt_z z (pos 0) ≡ false = rw (to_z-of_z w64 z c.before.ranges.z) at c.if1.false in
+    let h : lt_z z (pos 0) ≡ false = rw (to_z-of_z w64 z c.before.ranges.z) at c.if-z-lt0.false in
     omega (arith, zarith, one_is_zero z)
 
 pub negative_spec : {M : Type 1} → statement M

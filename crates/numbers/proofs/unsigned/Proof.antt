@@ -21,7 +21,7 @@ unfolding plus minus
 itself (pos n) h = refl
 itself (negsuc n) h = absurd (omega arith)
 
-cast_result : tie.Need-overflow-cast-result
+cast_result : tie.Need-overflow_cast-result
 cast_result c = let z = c.args.z in rw (to_z-of_z w64 z c.ranges.z) (fits z c.ranges.z c.requires)
 
 returns : tie.Need-returns
