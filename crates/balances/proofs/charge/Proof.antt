@@ -47,7 +47,7 @@ natural_requires_2 c κs = (c.loop-level.invariant.1.long, c.loop-level.invarian
 lower_requires : tie.Need-lower-requires invariant_loop decreases_loop
 lower_requires c κs =
     let at = (at c).loop-level in
-    (at.inv.1.long, at.inv.0, chargeable_here _ _ _ _ at.inv.1 _ at.inv.0, omega arith)
+    (at.invariant.1.long, at.invariant.0, chargeable_here _ _ _ _ at.invariant.1 _ at.invariant.0, omega arith)
 
 sub_level : tie.Need-overflow_sub-level invariant_loop decreases_loop
 sub_level c = omega arith
@@ -64,11 +64,11 @@ loop_again c =
     let parent = charged.natural-parent.ensures in
     let low = c.lower.ensures in
     let more : 0 < at.loop-level.level = omega (arith, charged.loop-level-test.true) in (
-      omega (arith, parent, chargeable_parent _ _ _ _ start.pre.0 at.loop-level.inv.1 _ at.loop-level.inv.0),
-      subst (Chargeable _ start.args.amount (at.loop-level.level - 1)) (sym low) (chargeable_next _ _ _ _ at.loop-level.inv.1 more _ at.loop-level.inv.0),
+      omega (arith, parent, chargeable_parent _ _ _ _ start.requires.0 at.loop-level.invariant.1 _ at.loop-level.invariant.0),
+      subst (Chargeable _ start.args.amount (at.loop-level.level - 1)) (sym low) (chargeable_next _ _ _ _ at.loop-level.invariant.1 more _ at.loop-level.invariant.0),
       ap₂ (λ (u : List ℤ) (k : ℕ). charge u start.args.amount (at.loop-level.level - 1) k) low parent
           ∙ sym (charge_above at.loop-level.table start.args.amount at.loop-level.level at.loop-level.node more)
-          ∙ at.loop-level.inv.2,
+          ∙ at.loop-level.invariant.2,
     )
 
 lower_requires_2 : tie.Need-lower-requires-2 invariant_loop decreases_loop
@@ -84,7 +84,7 @@ returns c =
     let at = (at_end c.before).loop-level in
     c.lower-2.ensures
     ∙ sym (charge_last at.table _ at.level at.node (omega arith))
-    ∙ at.inv.2
+    ∙ at.invariant.2
 
 pub charge_spec : {M : Type 1} → statement M
 charge_spec =

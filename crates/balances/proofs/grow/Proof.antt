@@ -36,7 +36,7 @@ loop_less c = omega arith
 loop_again : tie.Need-loop-k-preserved invariant_loop decreases_loop
 loop_again c =
     let at = (at c.before).loop-k in
-    turns_next at.inv (omega arith) _ c.grow_node.auto.0 c.grow_node.ensures
+    turns_next at.invariant (omega arith) _ c.grow_node.auto.table c.grow_node.ensures
 
 same_length : tie.Need-shape_of-table invariant_loop decreases_loop
 same_length c = omega arith

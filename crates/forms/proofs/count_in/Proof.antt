@@ -20,7 +20,7 @@ returns : tie.Need-returns
 unfolding count_in
 returns c =
     let start = c in
-    c.byte.ensures.0 ∙ ap (λ (n : ℕ). byte_at start.args.s.now (n + count_at)) (c.start_of_lem.ensures.0 ∙ ap start_of start.requires.0)
+    c.byte.ensures.0 ∙ ap (λ (n : ℕ). byte_at start.args.s.now (n + count_at)) (c.start_of.ensures.0 ∙ ap start_of start.requires.0)
 
 pub count_in_spec : {M : Type 1} → statement M
 count_in_spec = tie.close (tie.spec start_of_requires add_byte byte_requires returns)

@@ -24,8 +24,8 @@ abbrev start : tie.After-edition_in-edition → tie.Start
 start c = c.before.before
 
 -- The head's start in the edition of the bytes.
-head : (c : tie.After-start_of) → c.start_of_lem.result ≡ start_of (edition_in (start (met c)).args.s.now)
-head c = c.start_of_lem.ensures.0 ∙ ap start_of (met c).edition_in-edition.ensures
+head : (c : tie.After-start_of) → c.start_of.result ≡ start_of (edition_in (start (met c)).args.s.now)
+head c = c.start_of.ensures.0 ∙ ap start_of (met c).edition_in-edition.ensures
 
 edition_in_requires : tie.Need-edition_in-edition-requires
 edition_in_requires c κs = search rules
@@ -34,7 +34,7 @@ start_of_requires : tie.Need-start_of-requires
 start_of_requires c κs = search rules
 
 add_if1 : tie.Need-overflow_add-start_of
-add_if1 c = omega (arith, c.start_of_lem.ensures.1)
+add_if1 c = omega (arith, c.start_of.ensures.1)
 
 returns : tie.Need-returns-then-s-start_of
 returns c = not_formed _ (λ f. omega (arith, head c.before, f.long))
@@ -42,7 +42,7 @@ returns c = not_formed _ (λ f. omega (arith, head c.before, f.long))
 count_in_requires : tie.Need-count_in-n-requires
 count_in_requires c κs =
     let placed = c in
-    ((met placed.before).edition_in-edition.ensures, omega (arith, placed.start_of_lem.ensures.0))
+    ((met placed.before).edition_in-edition.ensures, omega (arith, placed.start_of.ensures.0))
 
 returns_2 : tie.Need-returns-then-n-gt-LAST_COUNT
 returns_2 c = not_formed _ (λ f. omega (arith, c.count_in-n.ensures, f.count))
@@ -51,7 +51,7 @@ plan_length_requires : tie.Need-plan_length-requires
 plan_length_requires c κs = omega arith
 
 -- The length that the edition and the count ask for.
-asked : (c : tie.After-plan_length) → let counted = c.before in let s = (start (met counted.before)).args.s.now in c.plan_length.result ≡ plan_length (edition_in s) (count_in s)
+asked : (c : tie.After-plan_length) → let counted = c.before.before in let s = (start (met counted.before.before)).args.s.now in c.plan_length.result ≡ plan_length (edition_in s) (count_in s)
 asked c =
     let counted = c in
     c.plan_length.ensures ∙ ap₂ plan_length (met counted.before.before.before.before).edition_in-edition.ensures counted.count_in-n.ensures

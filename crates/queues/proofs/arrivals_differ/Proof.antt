@@ -35,8 +35,8 @@ arrival_requires c κs = omega (arith, c.requires.2 c.args.k c.requires.1)
 differs_marked_requires : tie.Need-differs_marked-ok-requires invariant_loop decreases_loop
 differs_marked_requires c κs =
     let here = at c in
-    let pre = here.pre in
-    (pre.0, omega arith, pre.2, here.loop-i.inv.2.below)
+    let pre = here.requires in
+    (pre.0, omega arith, pre.2, here.loop-i.invariant.2.below)
 
 mark_of_requires : tie.Need-mark_of-requires invariant_loop decreases_loop
 mark_of_requires c κs = search rules
@@ -58,8 +58,8 @@ loop_again c =
     let number = read.arrival-a.ensures in
     let same = ap (λ (a : ℕ). all_below args.k (differs_at args.table.now a)) number in (
       omega arith,
-      all_grows _ _ _ _ at.inv.1 (c.differs_marked-ok.ensures ∙ same),
-      marking_next _ _ _ _ _ c.mark_of.ensures.1 (c.mark_of.ensures.0 ∙ ap mark_of number) at.inv.2,
+      all_grows _ _ _ _ at.invariant.1 (c.differs_marked-ok.ensures ∙ same),
+      marking_next _ _ _ _ _ c.mark_of.ensures.1 (c.mark_of.ensures.0 ∙ ap mark_of number) at.invariant.2,
     )
 
 returns : tie.Need-returns invariant_loop decreases_loop

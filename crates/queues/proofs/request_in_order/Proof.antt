@@ -58,7 +58,7 @@ returns c =
     let size = (sized c).get-size in
     let depth = (sized c).natural-depth in
     joined_as
-    (same_tests ((sized c).within-fits.ensures ∙ ap₂ size_within depth.ensures (to_z-of_z w64 _ (sfits_of size.ok) ∙ size.ensures))
+    (same_tests ((sized c).within-fits.ensures ∙ ap₂ size_within depth.ensures (to_z-of_z w64 _ (sfits_of size.type_inv) ∙ size.ensures))
     (same_tests (c.place_within-number.ensures ∙ same_high _ c.count.ensures)
     (last_test c.rising-rising.ensures)))
 

@@ -137,12 +137,12 @@ module _ {M : Type 1} {𝓤 : Ura M} (𝓛 : Logic 𝓤) (mem : Memory → SProp
   abbrev to_of : (OfBytes 𝓛 mem run).Ghost
   to_of = (((κ, tt), (q, tt), tt, (s, tt), (v ∷ [], tt)), tt)
 
-  goes_of : ent 𝓤 (on_entry 𝓛 listed_at.signature (κ, tt) (q, tt) a at) (sep 𝓤 ((OfBytes 𝓛 mem run).pre to_of) (sem 𝓛 Own))
+  goes_of : ent 𝓤 (on_entry 𝓛 listed_at.signature (κ, tt) (q, tt) a at) (sep 𝓤 ((OfBytes 𝓛 mem run).requires to_of) (sem 𝓛 Own))
   goes_of =
       qed 𝓛 ((‵ (flft κ q) ⊛ ‵ ftrue) ∷ ‵ (owns (ShrSlice (named 0) κ u8 ∷ usize ∷ []) a at) ∷ []) ∵
       move ! (1 ∷ []) $ fsplit ! $ move ! (1 ∷ []) $ drop ! $ use1 𝓛 (‵ Own ⊛ ‵ Own) ((shr_slice_copy 𝓛 (named 0) κ u8).twice s (v ∷ [])) $ split ! $
       nothing ! $ move ! (1 ∷ 0 ∷ []) $ fjoin ! $ move ! (2 ∷ 0 ∷ []) $
-      use2 𝓛 (raw ((OfBytes 𝓛 mem run).pre to_of)) (qed 𝓛 ((‵ (flft κ q) ⊛ ‵ ftrue) ∷ ‵ (owns (ShrSlice (named 0) κ u8 ∷ []) (s, tt) (v ∷ [], tt)) ∷ []) ∵ says ! right $ frame ! $ done !) $ frame ! $ done !
+      use2 𝓛 (raw ((OfBytes 𝓛 mem run).requires to_of)) (qed 𝓛 ((‵ (flft κ q) ⊛ ‵ ftrue) ∷ ‵ (owns (ShrSlice (named 0) κ u8 ∷ []) (s, tt) (v ∷ [], tt)) ∷ []) ∵ says ! right $ frame ! $ done !) $ frame ! $ done !
 
   of_said : (r : View) → ent 𝓤 (ensured 𝓛 of.ended (of.clauses 𝓛 mem run) (κ, tt) (s, tt) tt r) (fact 𝓤 (Made r))
   of_said r = ex_e 𝓤 _ (λ ws. snd∗ 𝓤 (sem 𝓛 (lasts of.ended (κ, tt) (s, tt) ws)) (fact 𝓤 (Made r)))
@@ -152,7 +152,7 @@ module _ {M : Type 1} {𝓤 : Ura M} (𝓛 : Logic 𝓤) (mem : Memory → SProp
     abbrev to_part : (Hands 𝓤 R P 𝓛).Ghost
     to_part = (((κ, tt), (q, tt), tt, (r, (i, tt)), (u ∷ [], (vint w64 i ∷ [], tt))), tt)
 
-    goes_part : Made r → ent 𝓤 (⋆ 𝓛 (‵ (OwnView r u) ∷ (‵ (flft κ q) ⊛ ‵ ftrue) ∷ [])) ((Hands 𝓤 R P 𝓛).pre to_part)
+    goes_part : Made r → ent 𝓤 (⋆ 𝓛 (‵ (OwnView r u) ∷ (‵ (flft κ q) ⊛ ‵ ftrue) ∷ [])) ((Hands 𝓤 R P 𝓛).requires to_part)
     goes_part e =
         qed 𝓛 (‵ (OwnView r u) ∷ (‵ (flft κ q) ⊛ ‵ ftrue) ∷ []) ∵ says ! (shown r e) $ move ! (1 ∷ []) $ frame ! $
         nothing ! $ owned ! usize (Is usize) (uint_Makes 𝓛 w64) i _ (refl, i_fits) $ fjoin ! $ move ! (1 ∷ 0 ∷ []) $ fjoin ! $ done !
@@ -176,7 +176,7 @@ module _ {M : Type 1} {𝓤 : Ura M} (𝓛 : Logic 𝓤) (mem : Memory → SProp
         alloc1 ! (λ l₀. alloc1 ! (λ l₁. alloc1 ! (λ l₂. alloc1 ! (λ l₃. alloc1 ! (λ l₄. alloc1 ! (λ l₅. alloc1 ! (λ l₆. alloc1 ! (λ l₇. alloc0 ! $ params1 ! $
         pass1 ! (init ! 12 refl ((shr_slice_Lawful 𝓛 (named 0) κ u8).typed s (v ∷ []) p).0) $ pass1 ! (init ! 10 refl (tt, record { fits = i_fits })) $ pass0 ! $
         -- [_7; …; _6; …; _5; …; _4; …; _3; …; _2; …; _1; …; room for _0; …; the token and what is passed owns]
-        move ! (16 ∷ []) $ use1 𝓛 (raw ((OfBytes 𝓛 mem run).pre to_of) ⊛ ‵ Own) goes_of $ split ! $
+        move ! (16 ∷ []) $ use1 𝓛 (raw ((OfBytes 𝓛 mem run).requires to_of) ⊛ ‵ Own) goes_of $ split ! $
         calls_at ! fm (OfBytes 𝓛 mem run) Known-of to_of (and_then ! (load ! (from ! (stop !)) (look ! 14 refl)) (no_more !)) (λ u.
         use1 𝓛 (later (some (λ (r : View). ((‵ (flft κ q) ⊛ ‵ ftrue) ⊛ ‵ (OwnView r u)) ⊛ raw (ensured 𝓛 of.ended (of.clauses 𝓛 mem run) (κ, tt) (s, tt) tt r)))) (id⊢ 𝓤 _) $ await ! tt $ pick ! (λ r.
         split ! $ move ! (1 ∷ []) $ use1 𝓛 (raw (fact 𝓤 (Made r))) (of_said r) $ heard ! (Made r) (λ e. split ! $ move ! (1 ∷ []) $
@@ -185,7 +185,7 @@ module _ {M : Type 1} {𝓤 : Ura M} (𝓛 : Logic 𝓤) (mem : Memory → SProp
         land ! (from ! (stop !)) (init ! 11 refl ((LL.lawful (T.the_type αᵉ) (T'.the_laws αᵉ) 𝓛).typed r _ is).0) $
         assigns ! (of_opd ! (load ! (from ! (stop !)) (look ! 11 refl))) (from ! (stop !)) (init ! 5 refl ((LL.lawful (T.the_type αᵉ) (T'.the_laws αᵉ) 𝓛).typed r _ is).0) $
         use1 𝓛 (‵ (OwnView r u) ⊛ ‵ (OwnView r u)) ((LL.copy (T.the_type (named_lft 1 0 tt (κ, tt))) (T'.the_copy (named_lft 1 0 tt (κ, tt))) 𝓛).twice r (u ∷ [])) $ split ! $
-        move ! (0 ∷ 2 ∷ []) $ use2 𝓛 (raw ((EntryOf 𝓛).pre (to_part E.the_row EntryAt r u))) (goes_part E.the_row EntryAt r u e) $
+        move ! (0 ∷ 2 ∷ []) $ use2 𝓛 (raw ((EntryOf 𝓛).requires (to_part E.the_row EntryAt r u))) (goes_part E.the_row EntryAt r u e) $
         calls_at ! fm (EntryOf 𝓛) known_entry (to_part E.the_row EntryAt r u) (and_then ! (load ! (from ! (stop !)) (look ! 5 refl)) (and_then ! (load ! (from ! (stop !)) (look ! 13 refl)) (no_more !))) (λ u₁.
         use1 𝓛 (later (some (λ (x : Entry). ((‵ (flft κ q) ⊛ ‵ ftrue) ⊛ ‵ ((E.the_row).own_val x (u₁ ∷ []))) ⊛ raw (ensured 𝓛 (handing E.the_row) (handed 𝓤 E.the_row EntryAt) (κ, tt) (r, (i, tt)) tt x)))) (id⊢ 𝓤 _) $ await ! tt $ pick ! (λ x.
         split ! $ move ! (1 ∷ []) $ use1 𝓛 (raw (fact 𝓤 (EntryAt r.bytes.now i x))) (part_said E.the_row EntryAt r u x) $ heard ! (EntryAt r.bytes.now i x) (λ e₁. split ! $ move ! (1 ∷ []) $
@@ -194,7 +194,7 @@ module _ {M : Type 1} {𝓤 : Ura M} (𝓛 : Logic 𝓤) (mem : Memory → SProp
         land ! (from ! (stop !)) (init ! 10 refl ((LL.lawful E.the_type E'.the_laws 𝓛).typed x _ is₁).0) $
         rewrite ! 10 (λ (w : Val). ‵ (fat full_share E'.mir l₄ 0 w)) (ap only (LL.tells E.the_type E'.the_laws x _ is₁)) refl $ rewrite ! 0 (λ (us : List Val). ‵ ((E.the_row).own_val x us)) (LL.tells E.the_type E'.the_laws x _ is₁) refl $
         assigns ! (of_opd ! (load ! (from ! (stop !)) (look ! 12 refl))) (from ! (stop !)) (init ! 4 refl ((LL.lawful (T.the_type αᵉ) (T'.the_laws αᵉ) 𝓛).typed r _ is).0) $
-        move ! (2 ∷ 1 ∷ []) $ use2 𝓛 (raw ((BodyOf 𝓛).pre (to_part Bd.the_row BodyAt r u))) (goes_part Bd.the_row BodyAt r u e) $
+        move ! (2 ∷ 1 ∷ []) $ use2 𝓛 (raw ((BodyOf 𝓛).requires (to_part Bd.the_row BodyAt r u))) (goes_part Bd.the_row BodyAt r u e) $
         calls_at ! fm (BodyOf 𝓛) known_body (to_part Bd.the_row BodyAt r u) (and_then ! (load ! (from ! (stop !)) (look ! 3 refl)) (and_then ! (load ! (from ! (stop !)) (look ! 13 refl)) (no_more !))) (λ u₂.
         use1 𝓛 (later (some (λ (y : Body). ((‵ (flft κ q) ⊛ ‵ ftrue) ⊛ ‵ ((Bd.the_row).own_val y (u₂ ∷ []))) ⊛ raw (ensured 𝓛 (handing Bd.the_row) (handed 𝓤 Bd.the_row BodyAt) (κ, tt) (r, (i, tt)) tt y)))) (id⊢ 𝓤 _) $ await ! tt $ pick ! (λ y.
         split ! $ move ! (1 ∷ []) $ use1 𝓛 (raw (fact 𝓤 (BodyAt r.bytes.now i y))) (part_said Bd.the_row BodyAt r u y) $ heard ! (BodyAt r.bytes.now i y) (λ e₂. split ! $ move ! (1 ∷ []) $

@@ -104,12 +104,12 @@ module _ {M : Type 1} {𝓤 : Ura M} (𝓛 : Logic 𝓤) (mem : Memory → SProp
   to_edition = (((κ, tt), (q, tt), tt, (s, tt), at), tt)
 
   -- what s owns gives what the callee asks, and is kept
-  goes_edition : ent 𝓤 (on_entry 𝓛 of.signature (κ, tt) (q, tt) (s, tt) at) (sep 𝓤 ((EditionIn 𝓛 mem run).pre to_edition) (sem 𝓛 Own))
+  goes_edition : ent 𝓤 (on_entry 𝓛 of.signature (κ, tt) (q, tt) (s, tt) at) (sep 𝓤 ((EditionIn 𝓛 mem run).requires to_edition) (sem 𝓛 Own))
   goes_edition =
       qed 𝓛 ((‵ (flft κ q) ⊛ ‵ ftrue) ∷ ‵ (owns (ShrSlice (named 0) κ u8 ∷ []) (s, tt) at) ∷ []) ∵
       move ! (1 ∷ []) $ fsplit ! $ use1 𝓛 (‵ Own ⊛ ‵ Own) ((shr_slice_copy 𝓛 (named 0) κ u8).twice s (v ∷ [])) $ split ! $
       move ! (0 ∷ 2 ∷ []) $ fjoin ! $ move ! (2 ∷ 0 ∷ []) $
-      use2 𝓛 (raw ((EditionIn 𝓛 mem run).pre to_edition)) (qed 𝓛 ((‵ (flft κ q) ⊛ ‵ ftrue) ∷ ‵ (owns (ShrSlice (named 0) κ u8 ∷ []) (s, tt) at) ∷ []) ∵ join ! $ frame ! $ done !) $ frame ! $ done !
+      use2 𝓛 (raw ((EditionIn 𝓛 mem run).requires to_edition)) (qed 𝓛 ((‵ (flft κ q) ⊛ ‵ ftrue) ∷ ‵ (owns (ShrSlice (named 0) κ u8 ∷ []) (s, tt) at) ∷ []) ∵ join ! $ frame ! $ done !) $ frame ! $ done !
 
   edition_said : (e : Edition) → ent 𝓤 (ensured 𝓛 edition_in_law.ended (edition_in_law.clauses 𝓛 mem run) (κ, tt) (s, tt) tt e) (fact 𝓤 (e ≡ edition_in s.now))
   edition_said e = ex_e 𝓤 _ (λ ws. snd∗ 𝓤 (sem 𝓛 (lasts edition_in_law.ended (κ, tt) (s, tt) ws)) (fact 𝓤 (e ≡ edition_in s.now)))
@@ -122,15 +122,15 @@ module _ {M : Type 1} {𝓤 : Ura M} (𝓛 : Logic 𝓤) (mem : Memory → SProp
     abbrev to_count : (CountIn 𝓛 mem run).Ghost
     to_count = (((κ, tt), (q, tt), tt, (s, (e, tt)), at_count), tt)
 
-    asked : e ≡ edition_in s.now → ent 𝓤 (on_entry 𝓛 count_in_law.signature (κ, tt) (q, tt) (s, (e, tt)) at_count) ((CountIn 𝓛 mem run).pre to_count)
+    asked : e ≡ edition_in s.now → ent 𝓤 (on_entry 𝓛 count_in_law.signature (κ, tt) (q, tt) (s, (e, tt)) at_count) ((CountIn 𝓛 mem run).requires to_count)
     asked same = qed 𝓛 ((‵ (flft κ q) ⊛ ‵ ftrue) ∷ ‵ (owns (ShrSlice (named 0) κ u8 ∷ Ed.the_row ∷ []) (s, (e, tt)) at_count) ∷ []) ∵ says ! (headed s.now e right same) $ frame ! $ done !
 
-    goes_count : e ≡ edition_in s.now → ent 𝓤 (⋆ 𝓛 ((‵ (flft κ q) ⊛ ‵ ftrue) ∷ ‵ Own ∷ [])) (sep 𝓤 ((CountIn 𝓛 mem run).pre to_count) (sem 𝓛 Own))
+    goes_count : e ≡ edition_in s.now → ent 𝓤 (⋆ 𝓛 ((‵ (flft κ q) ⊛ ‵ ftrue) ∷ ‵ Own ∷ [])) (sep 𝓤 ((CountIn 𝓛 mem run).requires to_count) (sem 𝓛 Own))
     goes_count same =
         qed 𝓛 ((‵ (flft κ q) ⊛ ‵ ftrue) ∷ ‵ Own ∷ []) ∵
         move ! (1 ∷ []) $ use1 𝓛 (‵ Own ⊛ ‵ Own) ((shr_slice_copy 𝓛 (named 0) κ u8).twice s (v ∷ [])) $ split ! $
         nothing ! $ owned ! Ed.the_row (Is Ed.the_row) (EL.makes Ed.the_type Ed'.the_plain 𝓛) e _ (edition_is e) $ fjoin ! $ move ! (1 ∷ 0 ∷ []) $ fjoin ! $
-        move ! (2 ∷ 0 ∷ []) $ use2 𝓛 (raw ((CountIn 𝓛 mem run).pre to_count)) (asked same) $ frame ! $ done !
+        move ! (2 ∷ 0 ∷ []) $ use2 𝓛 (raw ((CountIn 𝓛 mem run).requires to_count)) (asked same) $ frame ! $ done !
 
     count_said : (n : ℕ) → ent 𝓤 (ensured 𝓛 count_in_law.ended (count_in_law.clauses 𝓛 mem run) (κ, tt) (s, (e, tt)) tt n) (fact 𝓤 (n ≡ count_in s.now))
     count_said n = ex_e 𝓤 _ (λ ws. snd∗ 𝓤 (sem 𝓛 (lasts count_in_law.ended (κ, tt) (s, (e, tt)) ws)) (fact 𝓤 (n ≡ count_in s.now)))
@@ -150,14 +150,14 @@ module _ {M : Type 1} {𝓤 : Ura M} (𝓛 : Logic 𝓤) (mem : Memory → SProp
         qed 𝓛 (raw (on_entry 𝓛 of.signature (κ, tt) (q, tt) (s, tt) at) ∷ []) ∵ enter ! C Λ code.function (v ∷ []) _ $
         alloc1 ! (λ l₀. alloc1 ! (λ l₁. alloc1 ! (λ l₂. alloc1 ! (λ l₃. alloc0 ! $ params1 ! $ pass1 ! (init ! 4 refl ((shr_slice_Lawful 𝓛 (named 0) κ u8).typed s (v ∷ []) p).0) $ pass0 ! $
         -- [_3; …; _2; …; _1; …; room for _0; …; the token and what s owns]
-        move ! (8 ∷ []) $ use1 𝓛 (raw ((EditionIn 𝓛 mem run).pre to_edition) ⊛ ‵ Own) goes_edition $ split ! $
+        move ! (8 ∷ []) $ use1 𝓛 (raw ((EditionIn 𝓛 mem run).requires to_edition) ⊛ ‵ Own) goes_edition $ split ! $
         calls_at ! fm (EditionIn 𝓛 mem run) known_edition to_edition (and_then ! (load ! (from ! (stop !)) (look ! 6 refl)) (no_more !)) (λ u.
         use1 𝓛 (later (some (λ (e : Edition). ((‵ (flft κ q) ⊛ ‵ ftrue) ⊛ ‵ ((Ed.the_row).own_val e (u ∷ []))) ⊛ raw (ensured 𝓛 edition_in_law.ended (edition_in_law.clauses 𝓛 mem run) (κ, tt) (s, tt) tt e)))) (id⊢ 𝓤 _) $ await ! tt $ pick ! (λ e.
         split ! $ move ! (1 ∷ []) $ use1 𝓛 (raw (fact 𝓤 (e ≡ edition_in s.now))) (edition_said e) $ heard ! (e ≡ edition_in s.now) (λ same. split ! $ move ! (1 ∷ []) $
         -- [the edition; the token; what s owns; _3; …; room for _2; …; _1; …; room for _0; …]
         peeks ! Ed.the_row (Is Ed.the_row) (shows 𝓛 Ed.the_row) e (u ∷ []) (λ is. drop ! $
         land ! (from ! (stop !)) (init ! 4 refl ((EL.lawful Ed.the_type Ed'.the_laws 𝓛 tt).typed e _ is).0) $ rewrite ! 4 (λ (w : Val). ‵ (fat full_share Ed'.mir l₂ 0 w)) (ap only (EL.tells Ed.the_type Ed'.the_laws e _ is)) refl $
-        use2 𝓛 (raw ((CountIn 𝓛 mem run).pre (to_count e)) ⊛ ‵ Own) (goes_count e same) $ split ! $
+        use2 𝓛 (raw ((CountIn 𝓛 mem run).requires (to_count e)) ⊛ ‵ Own) (goes_count e same) $ split ! $
         calls_at ! fm (CountIn 𝓛 mem run) known_count (to_count e) (and_then ! (load ! (from ! (stop !)) (look ! 6 refl)) (and_then ! (load ! (from ! (stop !)) (look ! 4 refl)) (no_more !))) (λ u₁.
         use1 𝓛 (later (some (λ (n : ℕ). ((‵ (flft κ q) ⊛ ‵ ftrue) ⊛ ‵ (usize.own_val n (u₁ ∷ []))) ⊛ raw (ensured 𝓛 count_in_law.ended (count_in_law.clauses 𝓛 mem run) (κ, tt) (s, (e, tt)) tt n)))) (id⊢ 𝓤 _) $ await ! tt $ pick ! (λ n.
         split ! $ move ! (1 ∷ []) $ use1 𝓛 (raw (fact 𝓤 (n ≡ count_in s.now))) (count_said e n) $ heard ! (n ≡ count_in s.now) (λ counted. split ! $ move ! (1 ∷ []) $
