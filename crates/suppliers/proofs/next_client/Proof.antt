@@ -92,8 +92,8 @@ clients_less_3 c = omega arith
 
 -- What the test has met: the best so far, the supplier that was found and the arrival number.
 met :
-    (c : tie.After-goes_first invariant_clients decreases_clients) → let here = at (counted (searched c)) in let best = here.clients in let found = c.before.before.in-Node.node.given.0 in
-    Met here.args.table.now best.k best.best best.supplier best.least best.lowest found.0 found.1.0 c.natural-arrival.result
+    (c : tie.After-goes_first invariant_clients decreases_clients) → let here = at (counted (searched c)) in let best = here.clients in let found = c.in-Node in
+    Met here.args.table.now best.k best.best best.supplier best.least best.lowest found.node found.steps c.natural-arrival.result
 unfolding arrival
 met c =
     record {
@@ -125,7 +125,7 @@ clients_again_4 c =
     let t = here.args.table.now in
     let goes =
     taken _ _ _ _ _ _ _ _ _ (met c.before) _ c.goes_first.ensures c.if-not-goes_first.false
-    (λ e. (searched c.before).if-natural-eq0.left (count.natural.ensures ∙ e))
+    (λ e. (searched c.before).if-natural-eq0.false (count.natural.ensures ∙ e))
     in
     (omega arith, omega arith, turned at.k (choice t) nobody at.best at.k at.invariant.2 (sym goes), held_next _ _ _ _ _ _ _ _ _ (met c.before))
 
