@@ -140,7 +140,7 @@ is_part_requires c κs =
     let s = start (first known.before.before.before) in
     let p = placed (first known.before.before.before) in
     let own = rate_le _ s.requires.0 _ s.requires.3 (here (first known.before.before.before)) in (
-      omega (arith, rate_read (shared known.before.before.before), own),
+      omega (arith, rate_read (shared known.before.before.before).before, own),
       omega (
         arith,
         share_read (shared known.before.before.before),
@@ -162,7 +162,7 @@ returns_3 c =
     let t = s.args.table.now in
     let k = s.args.k in
     c.is_part.ensures
-    ∙ ap₂ eqb (rate_read (shared known.before.before.before.before))
+    ∙ ap₂ eqb (rate_read (shared known.before.before.before.before).before)
     (ap (λ (s : ℕ). by.division_of-by.result.whole * s / by.division_of-by.result.parts) (share_read (shared known.before.before.before.before))
     ∙ sym by.division_of-by.ensures.rate
     ∙ ap (λ (r : ℕ). child_rate (tree_of t) r k) (class_rate_law by.before.before.before))
