@@ -15,18 +15,18 @@ use Rattle.admission.proofs.depths_above.Tie as tie
 natural_requires : tie.Need-natural-requires
 natural_requires c κs = let j = c.requires.judged in (j.long, omega arith, omega arith)
 
-sum_under_requires : tie.Need-sum-under-requires
-sum_under_requires c κs = let j = c.before.requires.judged in (j.long, in_order_summable Depths _ (facts _ j.order))
+sum_under_requires : tie.Need-sum_under-requires
+sum_under_requires c κs = let j = c.requires.judged in (j.long, in_order_summable Depths _ (facts _ j.order))
 
-add_result : tie.Need-overflow-add-result
+add_result : tie.Need-overflow_add-result
 unfolding term
-add_result c = let pre = c.before.before.before.requires in omega (arith, small_sum _ _ pre, pre.judged.limits.depth)
+add_result c = let pre = c.requires in omega (arith, small_sum _ _ pre, pre.judged.limits.depth)
 
 returns : tie.Need-returns
 unfolding term tree_of
 returns c =
-    let start = c.before.before.before in
-    ap₂ (λ (own sum : ℕ). ltb own (sum + start.args.new.depth)) c.before.before.natural.ensures c.before.sum-under.ensures
+    let start = c in
+    ap₂ (λ (own sum : ℕ). ltb own (sum + start.args.new.depth)) c.natural.ensures c.sum_under.ensures
     ∙ sym (depths_with _ _ start.requires)
 
 pub depths_above_spec : {M : Type 1} → statement M

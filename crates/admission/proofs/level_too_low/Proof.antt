@@ -11,7 +11,7 @@ use Rattle.admission.proofs.level_too_low.Tie as tie
 
 returns : tie.Need-returns
 unfolding tree_of
-returns c = joined_as (same_tests refl (last_test (ap (λ (n : ℕ). eqb n last_class_level) c.natural.ensures)))
+returns c = joined_as (same_tests refl (last_test (ap (λ (n : ℕ). eqb n last_class_level) c.natural-at_end.ensures)))
 
 pub level_too_low_spec : {M : Type 1} → statement M
 level_too_low_spec = tie.close (tie.spec (λ c κs. search rules) returns)

@@ -9,13 +9,13 @@ use Rattle.admission.proofs.Sums.{shares_with}
 use Rattle.admission.proofs.shares_above.Statement.{statement}
 use Rattle.admission.proofs.shares_above.Tie as tie
 
-shares_above_requires : tie.Need-shares-above-requires
+shares_above_requires : tie.Need-shares_above-requires
 shares_above_requires c κs =
     let f = facts _ c.requires.judged.order in
     (f.long, in_order_summable (Shares fixed) _ f, omega arith, c.requires.judged.limits.share)
 
 returns : tie.Need-returns
-returns c = c.shares-above.ensures ∙ sym (shares_with _ _ c.before.requires)
+returns c = c.shares_above.ensures ∙ sym (shares_with _ _ c.requires)
 
 pub shares_above_spec : {M : Type 1} → statement M
 shares_above_spec = tie.close (tie.spec shares_above_requires returns)

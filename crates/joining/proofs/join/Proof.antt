@@ -29,31 +29,31 @@ abbrev join : tie.Start → Join
 join s = asked s.args.node s.args.parent s.args.sort s.args.kind s.args.share s.args.depth s.args.port
 
 -- The number is that of the definition.
-number : (c : tie.After-join-refusal) → let s = c.before.before in c.join-refusal.result ≡ refusal_of s.args.table.now (join s)
+number : (c : tie.After-join_refusal-number) → let s = c.before in c.join_refusal-number.result ≡ refusal_of s.args.table.now (join s)
 number c =
-    let s = c.before.before.ranges in
-    rw (to_z-of_z w64 _ s.node, to_z-of_z w64 _ s.parent, to_z-of_z w64 _ s.sort, to_z-of_z w64 _ s.kind, to_z-of_z w64 _ s.share, to_z-of_z w64 _ s.depth, to_z-of_z w64 _ s.port) at c.join-refusal.ensures.0
+    let s = c.ranges in
+    rw (to_z-of_z w64 _ s.node, to_z-of_z w64 _ s.parent, to_z-of_z w64 _ s.sort, to_z-of_z w64 _ s.kind, to_z-of_z w64 _ s.share, to_z-of_z w64 _ s.depth, to_z-of_z w64 _ s.port) at c.join_refusal-number.ensures.0
 
-accepted : (c : tie.Else1) → let s = c.before.before.before in refusal_of s.args.table.now (join s) ≡ 0
-accepted c = sym (number c.before) ∙ c.if1.false
+accepted : (c : tie.Else-number-ne0) → let s = c.before.before in refusal_of s.args.table.now (join s) ≡ 0
+accepted c = sym (number c.before) ∙ c.if-number-ne0.false
 
-abbrev accepts : tie.After-new-node → tie.Else1
+abbrev accepts : tie.After-new_node → tie.Else-number-ne0
 accepts c = c.before.before
 
-abbrev start : tie.Else1 → tie.Start
-start c = c.before.before.before
+abbrev start : tie.Else-number-ne0 → tie.Start
+start c = c.before.before
 
-natural : (c : tie.After-new-node) → Natural c.new-node.result (join (start (accepts c)))
+natural : (c : tie.After-new_node) → Natural c.new_node.result (join (start (accepts c)))
 natural c =
     let s = (start (accepts c)).ranges in
-    rw (to_z-of_z w64 _ s.node, to_z-of_z w64 _ s.parent, to_z-of_z w64 _ s.sort, to_z-of_z w64 _ s.kind, to_z-of_z w64 _ s.share, to_z-of_z w64 _ s.depth, to_z-of_z w64 _ s.port) at c.new-node.ensures
+    rw (to_z-of_z w64 _ s.node, to_z-of_z w64 _ s.parent, to_z-of_z w64 _ s.sort, to_z-of_z w64 _ s.kind, to_z-of_z w64 _ s.share, to_z-of_z w64 _ s.depth, to_z-of_z w64 _ s.port) at c.new_node.ensures
 
 -- What is written.
-written : (c : tie.After-write-node) → let s = start (accepts c.before) in c.write-node.new.0 ≡ joined_by s.args.table.now (join s)
+written : (c : tie.After-write_node) → let s = start (accepts c.before) in c.write_node.new.table ≡ joined_by s.args.table.now (join s)
 written c =
-    c.write-node.ensures ∙ ap (joined_by _) (as_asked _ _ (natural c.before) (accepted_limits _ _ (accepted (accepts c.before))))
+    c.write_node.ensures ∙ ap (joined_by _) (as_asked _ _ (natural c.before) (accepted_limits _ _ (accepted (accepts c.before))))
 
-in_order_law : (c : tie.Else1) → let s = start c in in_order (renewed (joined_by s.args.table.now (join s))) ≡ true
+in_order_law : (c : tie.Else-number-ne0) → let s = start c in in_order (renewed (joined_by s.args.table.now (join s))) ≡ true
 unfolding refusal_of joined_by join_table
 in_order_law c = subst (λ (u : List ℤ). in_order u ≡ true) (kept_new _ _ _ (accepted c)) (join_keeps _ _ _ _ _ _ _ _ (accepted c))
 
@@ -62,35 +62,35 @@ parent : (c : tie.After-natural) → c.natural.result ≡ plus (start (accepts c
 parent c = natural_of c.natural.ensures (start (accepts c.before.before.before.before)).ranges.parent
 
 -- Renewing below it renews everything.
-renews : (c : tie.Else1) → let s = start c in RenewsAll (joined_by s.args.table.now (join s)) (plus s.args.parent)
+renews : (c : tie.Else-number-ne0) → let s = start c in RenewsAll (joined_by s.args.table.now (join s)) (plus s.args.parent)
 unfolding refusal_of joined_by
 renews c = join_renews_below _ _ _ _ _ _ _ _ (accepted c)
 
-returns : tie.Need-returns
+returns : tie.Need-returns-then-number-ne0
 unfolding refusal_of join_answer join_table
 returns c = (
   c.answered.ensures ∙ ap (λ (n : ℕ). outcome n done) (number c.before.before),
-  sym (kept_old _ _ _ (λ e. c.before.if1.true (number c.before.before ∙ e))),
+  sym (kept_old _ _ _ (λ e. c.if-number-ne0.true (number c.before.before ∙ e))),
 )
 
-write_node_requires : tie.Need-write-node-requires
+write_node_requires : tie.Need-write_node-requires
 write_node_requires c κs = writable _ _ _ (natural c) (accepted (accepts c))
 
-renew_below_requires : tie.Need-renew-below-requires
+renew_below_requires : tie.Need-renew_below-requires
 renew_below_requires c κs =
-    let w = c.before.before.before in
-    let acceptance = accepts w.before in
-    rw (written w, parent c) (let r = renews acceptance in rated_before _ _ (in_order_law acceptance) r.low r.there r.small)
+    let w = c in
+    let acceptance = accepts w.before.before.before.before in
+    rw (written w.before.before.before, parent c) (let r = renews acceptance in rated_before _ _ (in_order_law acceptance) r.low r.there r.small)
 
-returns_2 : tie.Need-returns-2
+returns_2 : tie.Need-returns
 unfolding told refusal_of joined_by join_answer join_table
 returns_2 c =
-    let renewal = c.before in
-    let known = renewal.before in
-    let w = known.before.before.before in
-    let acceptance = accepts w.before in
+    let renewal = c in
+    let known = renewal in
+    let w = known in
+    let acceptance = accepts w.before.before.before.before.before.before in
     let zero = accepted acceptance in
-    (sym (outcome_accepted _ _ zero), renewal.renew-below.ensures ∙ ap₂ renewed_below (written w) (parent known) ∙ (renews acceptance).all ∙ sym (kept_new _ _ _ zero))
+    (sym (outcome_accepted _ _ zero), renewal.renew_below.ensures ∙ ap₂ renewed_below (written w.before.before.before.before.before) (parent known.before.before) ∙ (renews acceptance).all ∙ sym (kept_new _ _ _ zero))
 
 pub join_spec : {M : Type 1} → statement M
 join_spec =

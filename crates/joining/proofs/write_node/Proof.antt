@@ -21,35 +21,35 @@ use Rattle.joining.proofs.write_node.Tie as tie
 unwritten : (k p : ℕ) {s u : List ℤ} {v : ℤ} → s ≡ put u k p v → place u k p ≡ v → s ≡ u
 unwritten k p {u = u} e h = e ∙ ap (put u k p) (sym h) ∙ put_same u k p
 
-add_level : tie.Need-overflow-add-level
+add_level : tie.Need-overflow_add-level
 unfolding tree_of
 add_level c = omega arith
 
-put_natural_requires_4 : tie.Need-put-natural-requires-4
+put_natural_requires_4 : tie.Need-put_natural-requires-4
 unfolding tree_of
 put_natural_requires_4 c κs = omega arith
 
 returns : tie.Need-returns
 unfolding joined_by joined join_of tree_of plus
 returns c =
-    let port = c.before in
-    let depth = port.before.before.before in
-    let share = depth.before.before.before in
-    let kind = share.before.before.before in
-    let level = kind.before.before.before in
-    let parent = level.before.before.before in
-    let sort = parent.before.before.before in
-    let balance = sort.before.before.before in
-    let own = balance.before.before in
-    let k = own.before.before.args.new.node in
-    put_then k port_at port.put-natural8.ensures refl
-    (put_then k depth_at depth.put-natural7.ensures refl
-    (put_then k share_at share.put-natural6.ensures refl
-    (put_then k kind_at kind.put-natural5.ensures refl
-    (put_then k level_at level.put-natural4.ensures (ap pos (add-one _ ∙ ap suc own.natural.ensures))
-    (put_then k parent_at parent.put-natural3.ensures refl
-    (put_then k sort_at sort.put-natural2.ensures refl
-    (unwritten k balance_at balance.put-natural.ensures own.before.before.requires.balance)))))))
+    let port = c in
+    let depth = port in
+    let share = depth in
+    let kind = share in
+    let level = kind in
+    let parent = level in
+    let sort = parent in
+    let balance = sort in
+    let own = balance in
+    let k = own.args.new.node in
+    put_then k port_at port.put_natural-8.ensures refl
+    (put_then k depth_at depth.put_natural-7.ensures refl
+    (put_then k share_at share.put_natural-6.ensures refl
+    (put_then k kind_at kind.put_natural-5.ensures refl
+    (put_then k level_at level.put_natural-4.ensures (ap pos (add-one _ ∙ ap suc own.natural-level.ensures))
+    (put_then k parent_at parent.put_natural-3.ensures refl
+    (put_then k sort_at sort.put_natural-2.ensures refl
+    (unwritten k balance_at balance.put_natural.ensures own.requires.balance)))))))
 
 pub write_node_spec : {M : Type 1} → statement M
 write_node_spec =

@@ -10,7 +10,7 @@ use Rattle.leaving.proofs.is_busy.Tie as tie
 
 returns : tie.Need-returns
 unfolding waiting
-returns c = ap₂ (λ (empty : Bool) (n : ℕ). not empty || ltb 0 n) c.before.childless.ensures c.natural.ensures
+returns c = ap₂ (λ (empty : Bool) (n : ℕ). not empty || ltb 0 n) c.childless-has_children.ensures c.natural-has_requests.ensures
 
 pub is_busy_spec : {M : Type 1} → statement M
 is_busy_spec = tie.close (tie.spec (λ c κs. search rules) (λ c κs. search rules) returns)

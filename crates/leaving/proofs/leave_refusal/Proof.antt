@@ -1,6 +1,6 @@
 -- `leaving::leave_refusal` meets its contract: a node within its limits is the natural number by which the rest of the causes
 -- goes.
-use mathlib.Core.Path.{◌≡◌, ap, ◌∙◌}
+use mathlib.Core.Path.{◌≡◌, ap, ◌∙◌, sym}
 use mathlib.Core.Bool.{true}
 use native.Mathlib.Omega.{arith}
 use lib.IntN.{pos}
@@ -12,26 +12,26 @@ use Rattle.definitions.proofs.Refusals.{causes, found, holds, number_of_law}
 use Rattle.leaving.proofs.leave_refusal.Statement.{statement}
 use Rattle.leaving.proofs.leave_refusal.Tie as tie
 
-abbrev start : tie.Else2 → tie.Start
+abbrev start : tie.Else-not-within → tie.Start
 start c = c.before.before.before.before
 
 fits : (c : tie.After-within) → let s = c.before.before.before in c.within.result ≡ within_ℤ 0 last_node s.args.node
-fits c = c.within.ensures ∙ ap (within_ℤ 0 last_node) (to_z-of_z c.before.before.before.ranges.node)
+fits c = c.within.ensures ∙ ap (within_ℤ 0 last_node) (to_z-of_z c.ranges.node)
 
-within : (c : tie.Else2) → within_ℤ 0 last_node (start c).args.node ≡ true
-within c = holds (fits c.before) c.if2.false
+within : (c : tie.Else-not-within) → within_ℤ 0 last_node (start c).args.node ≡ true
+within c = (sym (fits c.before) ∙ c.if-not-within.false)
 
 -- The number that the code goes on with is the node.
 same : (c : tie.After-natural) → pos c.natural.result ≡ (start c.before).args.node
 same c = number_of_law 0 last_node c.natural.ensures (start c.before).ranges.node (within c.before)
 
-tree_refusal_requires : tie.Need-tree-refusal-requires
+tree_refusal_requires : tie.Need-tree_refusal-requires
 tree_refusal_requires c κs =
-    let first = c.before.before.before in
-    (holds first.before.in_order.ensures first.if1.false, rw (same c) (within c.before))
+    let first = c in
+    ((sym first.in_order.ensures ∙ first.if-not-in_order.false), rw (same c) (within c.before))
 
-returns_3 : tie.Need-returns-3
-returns_3 c = let e = c.tree-refusal.ensures in (e.0 ∙ ap (leave_refusal _) (same c.before), e.1)
+returns_3 : tie.Need-returns
+returns_3 c = let e = c.tree_refusal.ensures in (e.0 ∙ ap (leave_refusal _) (same c.before), e.1)
 
 pub leave_refusal_spec : {M : Type 1} → statement M
 unfolding leave_refusal

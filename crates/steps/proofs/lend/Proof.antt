@@ -50,15 +50,15 @@ enum_told : tie.Need-enum_told-1 invariant_loop decreases_loop
 enum_told c = search rules
 
 -- The client and the supplier of a turn.
-goes : (c : tie.In-Client invariant_loop decreases_loop) → let told = c.in-Client.client.given.0 in Goes (at (chosen c)).loop-client.table told.0 told.1.0
+goes : (c : tie.In-Client invariant_loop decreases_loop) → let told = c.in-Client.client.given.0 in Goes (at (chosen c)).loop-client.table told.client told.supplier
 goes c = client_answer _ _ _ (sym c.in-Client.is ∙ (chosen c).next_client.ensures)
 
-turn : (c : tie.In-Client invariant_loop decreases_loop) → let told = c.in-Client.client.given.0 in Turn Lending lending (at (chosen c)).loop-client.table told.0 told.1.0
+turn : (c : tie.In-Client invariant_loop decreases_loop) → let told = c.in-Client.client.given.0 in Turn Lending lending (at (chosen c)).loop-client.table told.client told.supplier
 turn c = lending_turn _ (at (chosen c)).loop-client.invariant.3.on _ _ (goes c)
 
 dispatch_requires : tie.Need-dispatch-written-requires invariant_loop decreases_loop
 dispatch_requires c κs =
-    let told : tie.In-Client invariant_loop decreases_loop = c in
+    let told : tie.In-Client invariant_loop decreases_loop = c.before.before.before in
     let going = (at (chosen told)).loop-client.invariant.3 in
     let f = found _ going.on _ _ (goes told) in (
       lending_within _ going.on,

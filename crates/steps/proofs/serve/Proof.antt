@@ -45,7 +45,7 @@ turn c = let here = at c in serving_turn here.args.k here.loop-table.table here.
 
 dispatch_requires : tie.Need-dispatch-written-requires invariant_loop decreases_loop
 dispatch_requires c κs =
-    let then : tie.In-loop-table invariant_loop decreases_loop = c in
+    let then : tie.In-loop-table invariant_loop decreases_loop = c.before.before.before in
     let here = at then in
     let hk = here.requires.1 in
     let going = here.loop-table.invariant.3 in (

@@ -13,78 +13,78 @@ use Rattle.week.proofs.Sums.{cells_shareable}
 use Rattle.week.proofs.add_node.Statement.{statement}
 use Rattle.week.proofs.add_node.Tie as tie
 
-abbrev start : tie.Else1 → tie.Start
+abbrev start : tie.Else-not-there → tie.Start
 start c = c.before.before
 
 -- The node is there, its parent is a node's number, and its kind one of the three.
-here : (c : tie.Else1) → there (tree_of (start c).args.plan.now) (start c).args.k ≡ true
-here c = sym c.before.there.ensures ∙ not-false _ c.if1.false
+here : (c : tie.Else-not-there) → there (tree_of (start c).args.plan.now) (start c).args.k ≡ true
+here c = sym c.there.ensures ∙ c.if-not-there.false
 
-parent : (c : tie.After-natural) → c.natural.result < nodes
+parent : (c : tie.After-natural-c) → c.natural-c.result < nodes
 unfolding tree_of
-parent c = let pre = (start c.before).requires in omega (arith, c.natural.ensures, pre.0.parent _ pre.4 (here c.before) (λ e. omega arith))
+parent c = let pre = (start c.before).requires in omega (arith, c.natural-c.ensures, pre.0.parent _ pre.4 (here c.before) (λ e. omega arith))
 
-kind : (c : tie.After-natural2) → c.natural2.result < kinds
+kind : (c : tie.After-natural-kind) → c.natural-kind.result < kinds
 unfolding tree_of
-kind c = let pre = (start c.before.before).requires in omega (arith, c.natural2.ensures, pre.0.kind _ pre.4 (here c.before.before) (λ e. omega arith))
+kind c = let pre = (start c.before.before).requires in omega (arith, c.natural-kind.ensures, pre.0.kind _ pre.4 (here c.before.before) (λ e. omega arith))
 
 there_requires : tie.Need-there-requires
 there_requires c κs = search rules
 
-returns : tie.Need-returns
+returns : tie.Need-returns-then-not-there
 unfolding cell_tree there
-returns c = share_sums_same _ _ _ (sym c.before.there.ensures ∙ not-true _ c.if1.true) c.before.before.requires.5
+returns c = share_sums_same _ _ _ (sym c.there.ensures ∙ c.if-not-there.true) c.requires.5
 
-natural_requires : tie.Need-natural-requires
+natural_requires : tie.Need-natural-c-requires
 natural_requires c κs = search rules
 
-natural_requires_2 : tie.Need-natural-requires-2
+natural_requires_2 : tie.Need-natural-kind-requires
 natural_requires_2 c κs = search rules
 
-sum_at_requires : tie.Need-sum-at-requires
+sum_at_requires : tie.Need-sum_at-at-requires
 sum_at_requires c κs = (parent c.before, kind c)
 
-mul_sums : tie.Need-overflow-mul-sums
+mul_sums : tie.Need-offset_bounds-sums-at
 mul_sums c = search rules
 
-element_copy_out_sums : tie.Need-element-copy-out-sums
-element_copy_out_sums c = c.sum-at.ensures.1
+element_copy_out_sums : tie.Need-bounds-sums-at
+element_copy_out_sums c = c.sum_at-at.ensures.1
 
-share_at_requires : tie.Need-share-at-requires
+share_at_requires : tie.Need-share_at-requires
 share_at_requires c κs =
-    let pre = (start c.before.before.before.before).requires in
+    let pre = (start c.before.before.before.before.before).requires in
     (pre.0.long, pre.2, pre.4)
 
 -- Back from where the share is found to where its kind is read.
-abbrev known : tie.After-share-at → tie.After-natural2
-known c = c.before.before.before
+abbrev known : tie.After-share_at → tie.After-natural-kind
+known c = c.before.before.before.before
 
-add_sums : tie.Need-overflow-add-sums
+add_sums : tie.Need-overflow_add-sums
 unfolding cell_tree there
 add_sums c =
     let d = known c in
     let s = start d.before.before in
     let tree = cell_tree (tree_of s.args.plan.now) s.args.part.now s.args.j in
-    let fit = cells_shareable s.args.plan.now s.args.part.now s.args.j s.pre.0 s.pre.1 s.pre.2 in
+    let fit = cells_shareable s.args.plan.now s.args.part.now s.args.j s.requires.0 s.requires.1 s.requires.2 in
     omega (
       arith,
-      c.share-at.ensures,
-      fit.small _ s.pre.4 (here d.before.before) (λ e. omega arith),
-      share_sums_small tree fit s.args.k (omega arith) _ s.pre.5 _ _ _ (parent d.before) (kind d) c.before.before.sum-at.ensures.0,
+      c.share_at.ensures,
+      fit.small _ s.requires.4 (here d.before.before) (λ e. omega arith),
+      share_sums_small tree fit s.args.k (omega arith) _ s.requires.5 _ _ _ (parent d.before) (kind d) c.sum_at-at.ensures.0,
     )
 
-mul_sums_2 : tie.Need-overflow-mul-sums-2
+mul_sums_2 : tie.Need-offset_bounds-sums-at-2
 mul_sums_2 c = search rules
 
-element_write_sums : tie.Need-element-write-sums
-element_write_sums c = c.before.before.sum-at.ensures.1
+element_write_sums : tie.Need-bounds-sums-at-2
+element_write_sums c = c.sum_at-at.ensures.1
 
-returns_2 : tie.Need-returns-2
+returns_2 : tie.Need-returns
 unfolding cell_tree there tree_of
 returns_2 c =
     let d = known c in
     let s = start d.before.before in
-    share_sums_next (cell_tree (tree_of s.args.plan.now) s.args.part.now s.args.j) _ _ _ _ _ _ (here d.before.before) (λ e. omega arith) (sym d.before.natural.ensures) (parent d.before) (sym d.natural2.ensures) (kind d) c.before.before.sum-at.ensures.0 c.share-at.ensures s.pre.5
+    share_sums_next (cell_tree (tree_of s.args.plan.now) s.args.part.now s.args.j) _ _ _ _ _ _ (here d.before.before) (λ e. omega arith) (sym d.natural-c.ensures) (parent d.before) (sym d.natural-kind.ensures) (kind d) c.sum_at-at.ensures.0 c.share_at.ensures s.requires.5
 
 pub add_node_spec : {M : Type 1} → statement M
 add_node_spec =

@@ -6,21 +6,21 @@ use Rattle.week.proofs.Sums.{sums_judge}
 use Rattle.week.proofs.judge_minute.Statement.{statement}
 use Rattle.week.proofs.judge_minute.Tie as tie
 
-add_nodes_requires : tie.Need-add-nodes-requires
-add_nodes_requires c κs = let pre = c.before.requires in (pre.0, pre.1, pre.2, share_sums_start _)
+add_nodes_requires : tie.Need-add_nodes-requires
+add_nodes_requires c κs = let pre = c.requires in (pre.0, pre.1, pre.2, share_sums_start _)
 
-sums_within_requires : tie.Need-sums-within-requires
+sums_within_requires : tie.Need-sums_within-fixed-requires
 sums_within_requires c κs = search rules
 
-sums_within_requires_2 : tie.Need-sums-within-requires-2
+sums_within_requires_2 : tie.Need-sums_within-stated-requires
 sums_within_requires_2 c κs = search rules
 
 returns : tie.Need-returns
 returns c =
-    let sums = c.before.before.before.before.add-nodes.ensures in
+    let sums = c.add_nodes.ensures in
     record {
-      fixed = c.before.before.sums-within.ensures ∙ sums_judge _ _ _ _ sums (omega arith);
-      stated = c.sums-within2.ensures ∙ sums_judge _ _ _ _ sums (omega arith);
+      fixed = c.sums_within-fixed.ensures ∙ sums_judge _ _ _ _ sums (omega arith);
+      stated = c.sums_within-stated.ensures ∙ sums_judge _ _ _ _ sums (omega arith);
     }
 
 pub judge_minute_spec : {M : Type 1} → statement M

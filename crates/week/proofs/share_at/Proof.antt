@@ -9,33 +9,33 @@ use Rattle.week.specs.Week.{cell_share}
 use Rattle.week.proofs.share_at.Statement.{statement}
 use Rattle.week.proofs.share_at.Tie as tie
 
-cell_at_requires : tie.Need-cell-at-requires
+cell_at_requires : tie.Need-cell_at-requires
 cell_at_requires c κs = search rules
 
-mul_cell : tie.Need-overflow-mul-cell
+mul_cell : tie.Need-offset_bounds-part-cell_at
 mul_cell c = search rules
 
-element_copy_out_cell : tie.Need-element-copy-out-cell
+element_copy_out_cell : tie.Need-bounds-part-cell_at
 element_copy_out_cell c = search rules
 
-natural_requires : tie.Need-natural-requires
+natural_requires : tie.Need-natural-share-requires
 natural_requires c κs = search rules
 
-returns : tie.Need-returns
+returns : tie.Need-returns-then-cell-eq0
 unfolding cell_share tree_of
 returns c =
-    let read = c.before.before in
-    read.before.natural.ensures ∙ sym (cond_true _ _ _ (rw read.Cell-at.ensures at (eq-eqb _ 0 c.if1.true)))
+    let read = c in
+    read.natural-share.ensures ∙ sym (cond_true _ _ _ (rw read.Cell-at.ensures at (eq-eqb _ 0 c.if-cell-eq0.true)))
 
-sub_result : tie.Need-overflow-sub-result
+sub_result : tie.Need-overflow_sub-result
 sub_result c = search rules
 
-returns_2 : tie.Need-returns-2
+returns_2 : tie.Need-returns
 unfolding cell_share
 returns_2 c =
-    let args = c.before.before.before.before.args in
-    let at = c.before.before.Cell-at.ensures in
-    ap (λ (i : ℕ). get_or args.part.now i 0 - 1) at ∙ sym (cond_false _ _ _ (rw at at (ne_eqb _ 0 c.if1.false)))
+    let args = c.args in
+    let at = c.Cell-at.ensures in
+    ap (λ (i : ℕ). get_or args.part.now i 0 - 1) at ∙ sym (cond_false _ _ _ (rw at at (ne_eqb _ 0 c.if-cell-eq0.false)))
 
 pub share_at_spec : {M : Type 1} → statement M
 share_at_spec =
