@@ -25,46 +25,46 @@ use Rattle.diskrate.proofs.change_rate.Statement.{statement}
 use Rattle.diskrate.proofs.change_rate.Tie as tie
 
 -- The number is that of the definition.
-number : (c : tie.After-change-rate-refusal) → let s = c.before.before in c.change-rate-refusal.result ≡ change_rate_refusal s.args.table.now s.args.rate
-number c = let s = c.before.before in rw (to_z-of_z w64 s.args.rate s.ranges.rate) at c.change-rate-refusal.ensures.0
+number : (c : tie.After-change_rate_refusal-cause) → let s = c.before in c.change_rate_refusal-cause.result ≡ change_rate_refusal s.args.table.now s.args.rate
+number c = let s = c in rw (to_z-of_z w64 s.args.rate s.ranges.rate) at c.change_rate_refusal-cause.ensures.0
 
-accepted : (c : tie.Else1) → let s = c.before.before.before in change_rate_refusal s.args.table.now s.args.rate ≡ 0
-accepted c = sym (number c.before) ∙ c.if1.false
+accepted : (c : tie.Else-cause-ne0) → let s = c.before.before in change_rate_refusal s.args.table.now s.args.rate ≡ 0
+accepted c = sym (number c.before) ∙ c.if-cause-ne0.false
 
-abbrev accepts : tie.After-put → tie.Else1
+abbrev accepts : tie.After-put → tie.Else-cause-ne0
 accepts c = c.before.before
 
 -- What is written.
 written : (c : tie.After-put) → let s = (accepts c).before.before.before in c.put.new.0 ≡ put s.args.table.now root rate_at s.args.rate
-written c = let s = (accepts c).before.before.before in rw (to_z-of_z w64 s.args.rate s.fits.rate) at c.put.ensures
+written c = let s = (accepts c) in rw (to_z-of_z w64 s.args.rate s.ranges.rate) at c.put.ensures
 
-in_order_law : (c : tie.Else1) → let s = c.before.before.before in in_order (renewed (put s.args.table.now root rate_at s.args.rate)) ≡ true
+in_order_law : (c : tie.Else-cause-ne0) → let s = c.before.before in in_order (renewed (put s.args.table.now root rate_at s.args.rate)) ≡ true
 unfolding change_rate_table
 in_order_law c = subst (λ (u : List ℤ). in_order u ≡ true) (kept_new _ _ _ (accepted c)) (change_rate_keeps _ _ (accepted c))
 
-returns : tie.Need-returns
+returns : tie.Need-returns-then-cause-ne0
 unfolding change_rate_answer change_rate_table
 returns c = (
   c.answered.ensures ∙ ap (λ (n : ℕ). outcome n done) (number c.before.before),
-  sym (kept_old _ _ _ (λ e. c.before.if1.true (number c.before.before ∙ e))),
+  sym (kept_old _ _ _ (λ e. c.if-cause-ne0.true (number c.before.before ∙ e))),
 )
 
 put_requires : tie.Need-put-requires
 put_requires c κs = (long _ (change_rate_passed _ _ (accepted c.before)).order, omega arith, omega arith)
 
-renew_below_requires : tie.Need-renew-below-requires
+renew_below_requires : tie.Need-renew_below-requires
 renew_below_requires c κs =
-    let w = c.before.before in
-    let r = change_rate_renews_below _ _ (accepted (accepts w)) in
-    rw (written w) (rated_before _ _ (in_order_law (accepts w)) r.low r.there r.small)
+    let w = c in
+    let r = change_rate_renews_below _ _ (accepted (accepts w.before.before)) in
+    rw (written w.before.before) (rated_before _ _ (in_order_law (accepts w.before.before)) r.low r.there r.small)
 
-returns_2 : tie.Need-returns-2
+returns_2 : tie.Need-returns
 unfolding told change_rate_answer change_rate_table
 returns_2 c =
-    let renewal = c.before in
-    let w = renewal.before.before.before in
-    let zero = accepted (accepts w) in
-    (sym (outcome_accepted _ _ zero), renewal.renew-below.ensures ∙ ap (λ (u : List ℤ). renewed_below u root) (written w) ∙ (change_rate_renews_below _ _ zero).all ∙ sym (kept_new _ _ _ zero))
+    let renewal = c in
+    let w = renewal in
+    let zero = accepted (accepts w.before.before.before.before) in
+    (sym (outcome_accepted _ _ zero), renewal.renew_below.ensures ∙ ap (λ (u : List ℤ). renewed_below u root) (written w.before.before.before.before) ∙ (change_rate_renews_below _ _ zero).all ∙ sym (kept_new _ _ _ zero))
 
 pub change_rate_spec : {M : Type 1} → statement M
 change_rate_spec =

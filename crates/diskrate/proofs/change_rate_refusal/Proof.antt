@@ -19,24 +19,24 @@ use Rattle.calllaws.proofs.ChangeRate.{stated_rerated}
 use Rattle.diskrate.proofs.change_rate_refusal.Statement.{statement}
 use Rattle.diskrate.proofs.change_rate_refusal.Tie as tie
 
-fits : (c : tie.After-within) → c.within.result ≡ within_ℤ 1 greatest_rate c.before.before.before.args.rate
-fits c = c.within.ensures ∙ ap (within_ℤ 1 greatest_rate) (to_z-of_z c.before.before.before.ranges.rate)
+fits : (c : tie.After-within) → c.within.result ≡ within_ℤ 1 greatest_rate c.args.rate
+fits c = c.within.ensures ∙ ap (within_ℤ 1 greatest_rate) (to_z-of_z c.ranges.rate)
 
 -- From the second test back to the start.
-abbrev start : tie.Else2 → tie.Start
+abbrev start : tie.Else-not-within → tie.Start
 start c = c.before.before.before.before
 
-order : (c : tie.Else2) → in_order (start c).args.table.now ≡ true
-order c = let first = c.before.before in holds first.before.in_order.ensures first.if1.false
+order : (c : tie.Else-not-within) → in_order (start c).args.table.now ≡ true
+order c = let first = c in (sym first.in_order.ensures ∙ first.if-not-in_order.false)
 
 -- The third test is cause 16.
-stated : (c : tie.After-stated-above) → let s = start c.before.before in c.stated-above.result ≡ stated_wrong (put s.args.table.now root rate_at s.args.rate)
+stated : (c : tie.After-stated_above) → let s = start c.before.before in c.stated_above.result ≡ stated_wrong (put s.args.table.now root rate_at s.args.rate)
 stated c =
-    let second = c.before.before in
-    let s = start second in
-    c.stated-above.ensures
-    ∙ ap (λ (r : ℕ). ltb r (stated_sum (tree_of s.args.table.now) root)) (natural_of c.before.natural.ensures s.fits.rate)
-    ∙ sym (stated_rerated s.args.table.now s.args.rate (facts _ (order second)))
+    let second = c in
+    let s = start second.before.before in
+    c.stated_above.ensures
+    ∙ ap (λ (r : ℕ). ltb r (stated_sum (tree_of s.args.table.now) root)) (natural_of c.natural.ensures s.ranges.rate)
+    ∙ sym (stated_rerated s.args.table.now s.args.rate (facts _ (order second.before.before)))
 
 pub change_rate_refusal_spec : {M : Type 1} → statement M
 unfolding change_rate_refusal

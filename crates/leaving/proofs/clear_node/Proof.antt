@@ -35,7 +35,7 @@ loop_again : tie.Need-loop-p-preserved invariant_loop decreases_loop
 loop_again c =
     let written = c in
     let at = written.loop-p in
-    turns_next at.invariant (omega arith) _ written.put.auto.0 written.put.ensures
+    turns_next at.invariant (omega arith) _ written.put.auto.table written.put.ensures
 
 same_length : tie.Need-shape_of-table invariant_loop decreases_loop
 same_length c = omega arith

@@ -26,10 +26,10 @@ use Rattle.leaving.proofs.leave.Statement.{statement}
 use Rattle.leaving.proofs.leave.Tie as tie
 
 -- The number is that of the definition.
-number : (c : tie.After-leave_refusal-number) → let s = c.before.before in c.leave_refusal-number.result ≡ leave_refusal s.args.table.now s.args.node
+number : (c : tie.After-leave_refusal-number) → let s = c.before in c.leave_refusal-number.result ≡ leave_refusal s.args.table.now s.args.node
 number c = let s = c in rw (to_z-of_z w64 s.args.node s.ranges.node) at c.leave_refusal-number.ensures.0
 
-accepted : (c : tie.Else-number-ne0) → let s = c.before.before.before in leave_refusal s.args.table.now s.args.node ≡ 0
+accepted : (c : tie.Else-number-ne0) → let s = c.before.before in leave_refusal s.args.table.now s.args.node ≡ 0
 accepted c = sym (number c.before) ∙ c.if-number-ne0.false
 
 abbrev accepts : tie.After-natural-k → tie.Else-number-ne0
@@ -50,7 +50,7 @@ unfolding tree_of
 parent c = rw (node (node_of c)) at c.natural-parent.ensures
 
 -- What is written.
-written : (c : tie.After-clear_node) → let s = start (accepts (node_of c.before.before)) in c.clear_node.new.0 ≡ cleared s.args.table.now (plus s.args.node)
+written : (c : tie.After-clear_node) → let s = start (accepts (node_of c.before.before)) in c.clear_node.new.table ≡ cleared s.args.table.now (plus s.args.node)
 written c = rw (node (node_of c.before.before)) at c.clear_node.ensures
 
 in_order_law : (c : tie.Else-number-ne0) → let s = start c in in_order (renewed (cleared s.args.table.now (plus s.args.node))) ≡ true

@@ -34,59 +34,59 @@ use Rattle.sharing.proofs.change_share.Statement.{statement}
 use Rattle.sharing.proofs.change_share.Tie as tie
 
 -- The number is that of the definition.
-number : (c : tie.After-change-share-refusal) → let s = c.before.before in c.change-share-refusal.result ≡ change_share_refusal s.args.table.now s.args.node s.args.kind s.args.share
-number c = let s = c.before.before in rw (to_z-of_z w64 s.args.node s.ranges.node, to_z-of_z w64 s.args.kind s.ranges.kind, to_z-of_z w64 s.args.share s.ranges.share) at c.change-share-refusal.ensures.0
+number : (c : tie.After-change_share_refusal-number) → let s = c.before in c.change_share_refusal-number.result ≡ change_share_refusal s.args.table.now s.args.node s.args.kind s.args.share
+number c = let s = c in rw (to_z-of_z w64 s.args.node s.ranges.node, to_z-of_z w64 s.args.kind s.ranges.kind, to_z-of_z w64 s.args.share s.ranges.share) at c.change_share_refusal-number.ensures.0
 
-accepted : (c : tie.Else1) → let s = c.before.before.before in change_share_refusal s.args.table.now s.args.node s.args.kind s.args.share ≡ 0
-accepted c = sym (number c.before) ∙ c.if1.false
+accepted : (c : tie.Else-number-ne0) → let s = c.before.before in change_share_refusal s.args.table.now s.args.node s.args.kind s.args.share ≡ 0
+accepted c = sym (number c.before) ∙ c.if-number-ne0.false
 
-abbrev accepts : tie.After-natural → tie.Else1
+abbrev accepts : tie.After-natural-k → tie.Else-number-ne0
 accepts c = c.before
 
-abbrev start : tie.Else1 → tie.Start
-start c = c.before.before.before
+abbrev start : tie.Else-number-ne0 → tie.Start
+start c = c.before.before
 
-node : (c : tie.After-natural) → c.natural.result ≡ plus (start (accepts c)).args.node
-node c = natural_of c.natural.ensures (start (accepts c)).ranges.node
+node : (c : tie.After-natural-k) → c.natural-k.result ≡ plus (start (accepts c)).args.node
+node c = natural_of c.natural-k.ensures (start (accepts c)).ranges.node
 
 -- From where the parent is read back to the node.
-abbrev node_of : tie.After-natural2 → tie.After-natural
-node_of c = c.before.before
+abbrev node_of : tie.After-natural-parent → tie.After-natural-k
+node_of c = c.before
 
-parent : (c : tie.After-natural2) → let s = start (accepts (node_of c)) in c.natural2.result ≡ (tree_of s.args.table.now).parent (plus s.args.node)
+parent : (c : tie.After-natural-parent) → let s = start (accepts (node_of c)) in c.natural-parent.result ≡ (tree_of s.args.table.now).parent (plus s.args.node)
 unfolding tree_of
-parent c = rw (node (node_of c)) at c.natural2.ensures
+parent c = rw (node (node_of c)) at c.natural-parent.ensures
 
 -- What is written.
-written : (c : tie.After-write-share) → let s = start (accepts (node_of c.before.before)) in c.write-share.new.0 ≡ reshared s.args.table.now (plus s.args.node) s.args.kind s.args.share
+written : (c : tie.After-write_share) → let s = start (accepts (node_of c.before.before)) in c.write_share.new.table ≡ reshared s.args.table.now (plus s.args.node) s.args.kind s.args.share
 written c =
     let known = node_of c.before.before in
     let s = start (accepts known) in
-    rw (node known, to_z-of_z w64 s.args.kind s.fits.kind, to_z-of_z w64 s.args.share s.fits.share) at c.write-share.ensures
+    rw (node known, to_z-of_z w64 s.args.kind s.ranges.kind, to_z-of_z w64 s.args.share s.ranges.share) at c.write_share.ensures
 
-in_order_law : (c : tie.Else1) → let s = start c in in_order (renewed (reshared s.args.table.now (plus s.args.node) s.args.kind s.args.share)) ≡ true
+in_order_law : (c : tie.Else-number-ne0) → let s = start c in in_order (renewed (reshared s.args.table.now (plus s.args.node) s.args.kind s.args.share)) ≡ true
 unfolding change_share_table
 in_order_law c = subst (λ (u : List ℤ). in_order u ≡ true) (kept_new _ _ _ (accepted c)) (change_share_keeps _ _ _ _ (accepted c))
 
 -- Renewing below the parent renews everything.
-renews : (c : tie.Else1) → let s = start c in RenewsAll (reshared s.args.table.now (plus s.args.node) s.args.kind s.args.share) ((tree_of s.args.table.now).parent (plus s.args.node))
+renews : (c : tie.Else-number-ne0) → let s = start c in RenewsAll (reshared s.args.table.now (plus s.args.node) s.args.kind s.args.share) ((tree_of s.args.table.now).parent (plus s.args.node))
 renews c = change_share_renews_below _ _ _ _ (accepted c)
 
-returns : tie.Need-returns
+returns : tie.Need-returns-then-number-ne0
 unfolding change_share_answer change_share_table
 returns c = (
   c.answered.ensures ∙ ap (λ (n : ℕ). outcome n done) (number c.before.before),
-  sym (kept_old _ _ _ (λ e. c.before.if1.true (number c.before.before ∙ e))),
+  sym (kept_old _ _ _ (λ e. c.if-number-ne0.true (number c.before.before ∙ e))),
 )
 
-natural_requires_2 : tie.Need-natural-requires-2
-natural_requires_2 c κs = let p = change_share_passed _ _ _ _ (accepted (accepts c.before)) in (long _ p.order, omega (arith, node c.before, p.node), omega arith)
+natural_requires_2 : tie.Need-natural-parent-requires
+natural_requires_2 c κs = let p = change_share_passed _ _ _ _ (accepted (accepts c)) in (long _ p.order, omega (arith, node c, p.node), omega arith)
 
-write_share_requires : tie.Need-write-share-requires
+write_share_requires : tie.Need-write_share-requires
 write_share_requires c κs = let p = change_share_passed _ _ _ _ (accepted (accepts (node_of c.before))) in (long _ p.order, omega (arith, node (node_of c.before), p.node))
 
 -- Any node that is there can be renewed below, the parent and the node itself.
-rated_at : (c : tie.After-write-share) (x : ℕ) → x < nodes → there (tree_of (start (accepts (node_of c.before.before))).args.table.now) x ≡ true → Rated c.write-share.new.0 x
+rated_at : (c : tie.After-write_share) (x : ℕ) → x < nodes → there (tree_of (start (accepts (node_of c.before.before))).args.table.now) x ≡ true → Rated c.write_share.new.table x
 unfolding rate
 rated_at c x low here =
     let acceptance = accepts (node_of c.before.before) in
@@ -99,29 +99,29 @@ rated_at c x low here =
     (same_there _ _ x (rest sort_at (omega arith) (omega arith) (omega arith)) ∙ here)
     (omega (arith, rate_small _ f x low, ap plus (rest rate_at (omega arith) (omega arith) (omega arith)))))
 
-renew_below_requires : tie.Need-renew-below-requires
+renew_below_requires : tie.Need-renew_below-requires
 renew_below_requires c κs =
-    let w = c.before.before in
-    let read = w.before.before in
-    let known = node_of read in
+    let w = c in
+    let read = w in
+    let known = node_of read.before.before.before.before in
     let t = (start (accepts known)).args.table.now in
     let passed = change_share_passed _ _ _ _ (accepted (accepts known)) in
     let f = facts _ passed.order in
-    let k : known.natural.result < nodes = omega (arith, node known, passed.node) in
-    let k_there : there (tree_of t) known.natural.result ≡ true = subst (λ (x : ℕ). there (tree_of t) x ≡ true) (sym (node known)) passed.there in
+    let k : known.natural-k.result < nodes = omega (arith, node known, passed.node) in
+    let k_there : there (tree_of t) known.natural-k.result ≡ true = subst (λ (x : ℕ). there (tree_of t) x ≡ true) (sym (node known)) passed.there in
     let class : is_class (tree_of t) ((tree_of t).parent (plus (start (accepts known)).args.node)) ≡ true = (f.child _ passed.node passed.there passed.below).class in
-    let p : read.natural2.result < nodes = omega (arith, parent read, (renews (accepts known)).low) in
-    let p_there : there (tree_of t) read.natural2.result ≡ true = subst (λ (x : ℕ). there (tree_of t) x ≡ true) (sym (parent read)) (class_there _ _ class) in
-    rated_at w _ (omega (arith, k, p)) (search (k_there, p_there))
+    let p : read.natural-parent.result < nodes = omega (arith, parent read.before.before.before.before, (renews (accepts known)).low) in
+    let p_there : there (tree_of t) read.natural-parent.result ≡ true = subst (λ (x : ℕ). there (tree_of t) x ≡ true) (sym (parent read.before.before.before.before)) (class_there _ _ class) in
+    rated_at w.before.before _ (omega (arith, k, p)) (search (k_there, p_there))
 
-returns_2 : tie.Need-returns-2
+returns_2 : tie.Need-returns
 unfolding told change_share_answer change_share_table
 returns_2 c =
-    let renewal = c.before in
-    let w = renewal.before.before.before in
-    let acceptance = accepts (node_of w.before.before) in
+    let renewal = c in
+    let w = renewal in
+    let acceptance = accepts (node_of w.before.before.before.before.before.before) in
     let zero = accepted acceptance in
-    (sym (outcome_accepted _ _ zero), renewal.renew-below.ensures ∙ ap₂ renewed_below (written w) (parent w.before.before) ∙ (renews acceptance).all ∙ sym (kept_new _ _ _ zero))
+    (sym (outcome_accepted _ _ zero), renewal.renew_below.ensures ∙ ap₂ renewed_below (written w.before.before.before.before) (parent w.before.before.before.before.before.before) ∙ (renews acceptance).all ∙ sym (kept_new _ _ _ zero))
 
 pub change_share_spec : {M : Type 1} → statement M
 change_share_spec =

@@ -1,6 +1,6 @@
 -- `sharing::change_share_refusal` meets its contract: node, kind and share within their limits are the natural numbers by
 -- which the rest of the causes goes.
-use mathlib.Core.Path.{◌≡◌}
+use mathlib.Core.Path.{◌≡◌, sym, ◌∙◌}
 use mathlib.Core.Bool.{true}
 use native.Mathlib.Omega.{arith}
 use lib.IntN.{pos}
@@ -14,39 +14,39 @@ use Rattle.definitions.proofs.Refusals.{causes, found, holds, number_of_law}
 use Rattle.sharing.proofs.change_share_refusal.Statement.{statement}
 use Rattle.sharing.proofs.change_share_refusal.Tie as tie
 
-abbrev start : tie.Else2 → tie.Start
+abbrev start : tie.Else-not-change_share_limits → tie.Start
 start c = c.before.before.before.before
 
-fits : (c : tie.After-change-share-limits) → let a = c.before.before.before.args in c.change-share-limits.result ≡ change_share_limits a.node a.kind a.share
+fits : (c : tie.After-change_share_limits) → let a = c.args in c.change_share_limits.result ≡ change_share_limits a.node a.kind a.share
 fits c =
-    let s = c.before.before.before.ranges in
-    rw (to_z-of_z w64 _ s.node, to_z-of_z w64 _ s.kind, to_z-of_z w64 _ s.share) at c.change-share-limits.ensures
+    let s = c.ranges in
+    rw (to_z-of_z w64 _ s.node, to_z-of_z w64 _ s.kind, to_z-of_z w64 _ s.share) at c.change_share_limits.ensures
 
-within : (c : tie.Else2) → let a = (start c).args in change_share_limits a.node a.kind a.share ≡ true
-within c = holds (fits c.before) c.if2.false
+within : (c : tie.Else-not-change_share_limits) → let a = (start c).args in change_share_limits a.node a.kind a.share ≡ true
+within c = (sym (fits c.before) ∙ c.if-not-change_share_limits.false)
 
 -- The numbers that the code goes on with are the arguments.
-same : (c : tie.After-natural3) → let a = (start c.before.before.before).args in (pos c.before.before.natural.result ≡ a.node) × (pos c.before.natural2.result ≡ a.kind) × (pos c.natural3.result ≡ a.share)
+same : (c : tie.After-natural-3) → let a = (start c.before.before.before).args in (pos c.natural.result ≡ a.node) × (pos c.natural-2.result ≡ a.kind) × (pos c.natural-3.result ≡ a.share)
 unfolding change_share_limits
 same c =
-    let second = c.before.before.before in
-    let s = (start second).ranges in
-    let l1 = within second in
+    let second = c in
+    let s = (start second.before.before.before).ranges in
+    let l1 = within second.before.before.before in
     let l2 = rest_hold _ _ l1 in (
-      number_of_law 0 last_node c.before.before.natural.ensures s.node (head_holds _ _ l1),
-      number_of_law fixed stated c.before.natural2.ensures s.kind (head_holds _ _ l2),
-      number_of_law 1 (share_limit (plus (start second).args.kind)) c.natural3.ensures s.share (head_holds _ _ (rest_hold _ _ l2)),
+      number_of_law 0 last_node c.natural.ensures s.node (head_holds _ _ l1),
+      number_of_law fixed stated c.natural-2.ensures s.kind (head_holds _ _ l2),
+      number_of_law 1 (share_limit (plus (start second.before.before.before).args.kind)) c.natural-3.ensures s.share (head_holds _ _ (rest_hold _ _ l2)),
     )
 
-tree_refusal_requires : tie.Need-tree-refusal-requires
+tree_refusal_requires : tie.Need-tree_refusal-requires
 tree_refusal_requires c κs =
-    let second = c.before.before.before in
-    let first = second.before.before in
-    (holds first.before.in_order.ensures first.if1.false, rw ((same c).0, (same c).1, (same c).2) (within second))
+    let second = c in
+    let first = second in
+    ((sym first.in_order.ensures ∙ first.if-not-in_order.false), rw ((same c).0, (same c).1, (same c).2) (within second.before.before.before))
 
-returns_3 : tie.Need-returns-3
+returns_3 : tie.Need-returns
 returns_3 c =
-    let e = c.tree-refusal.ensures in
+    let e = c.tree_refusal.ensures in
     let p = same c.before in
     (rw (p.0, p.1, p.2) at e.0, e.1)
 

@@ -1,7 +1,7 @@
 -- `sharing::tree_refusal` meets its contract: each test is what its cause says. `search` goes through the causes by the tests
 -- that the code made on the way.
 use Prim.Native.Nat.{ℕ, ◌≤◌, ◌<◌}
-use mathlib.Core.Path.{◌≡◌}
+use mathlib.Core.Path.{◌≡◌, sym, ◌∙◌}
 use mathlib.Core.Bool.{true}
 use native.Mathlib.Omega.{arith}
 use lib.IntN.{pos}
@@ -28,18 +28,18 @@ small k kind share h = omega (arith, (within_parts 1 (share_limit kind) (pos sha
 there_requires : tie.Need-there-requires
 there_requires c κs = (long _ c.requires.0, low _ _ _ c.requires.1)
 
-shares_above_requires : tie.Need-shares-above-requires
+shares_above_requires : tie.Need-shares_above-requires
 shares_above_requires c κs =
-    let first = c.before in
-    let pre = first.before.before.requires in
-    (pre.0, low _ _ _ pre.1, holds first.before.there.ensures first.if1.false, c.if2.false, small _ _ _ pre.1)
+    let first = c in
+    let pre = first.requires in
+    (pre.0, low _ _ _ pre.1, (sym first.there.ensures ∙ first.if-not-there.false), c.if-k-eq0.false, small _ _ _ pre.1)
 
-stated_wrong_requires : tie.Need-stated-wrong-requires
+stated_wrong_requires : tie.Need-stated_wrong-requires
 stated_wrong_requires c κs =
-    let second = c.before.before in
-    let first = second.before in
-    let pre = first.before.before.requires in
-    (pre.0, low _ _ _ pre.1, holds first.before.there.ensures first.if1.false, second.if2.false, small _ _ _ pre.1)
+    let second = c in
+    let first = second in
+    let pre = first.requires in
+    (pre.0, low _ _ _ pre.1, (sym first.there.ensures ∙ first.if-not-there.false), second.if-k-eq0.false, small _ _ _ pre.1)
 
 pub tree_refusal_spec : {M : Type 1} → statement M
 unfolding change_share_refusal change_share_limits plus

@@ -11,10 +11,10 @@ use Rattle.sharing.proofs.write_share.Tie as tie
 returns : tie.Need-returns
 unfolding reshared
 returns c =
-    let share = c.before in
-    let kind = share.before.before.before in
-    let s = kind.before.before in
-    put_then s.args.k share_at share.put2.ensures (to_z-of_z s.ranges.share)
+    let share = c in
+    let kind = share in
+    let s = kind in
+    put_then s.args.k share_at share.put-2.ensures (to_z-of_z s.ranges.share)
     (put_then s.args.k kind_at kind.put.ensures (to_z-of_z s.ranges.kind) refl)
 
 pub write_share_spec : {M : Type 1} → statement M

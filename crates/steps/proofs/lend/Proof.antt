@@ -50,10 +50,10 @@ enum_told : tie.Need-enum_told-1 invariant_loop decreases_loop
 enum_told c = search rules
 
 -- The client and the supplier of a turn.
-goes : (c : tie.In-Client invariant_loop decreases_loop) → let told = c.in-Client.client.given.0 in Goes (at (chosen c)).loop-client.table told.client told.supplier
+goes : (c : tie.In-Client invariant_loop decreases_loop) → let told = c.in-Client in Goes (at (chosen c)).loop-client.table told.client told.supplier
 goes c = client_answer _ _ _ (sym c.in-Client.is ∙ (chosen c).next_client.ensures)
 
-turn : (c : tie.In-Client invariant_loop decreases_loop) → let told = c.in-Client.client.given.0 in Turn Lending lending (at (chosen c)).loop-client.table told.client told.supplier
+turn : (c : tie.In-Client invariant_loop decreases_loop) → let told = c.in-Client in Turn Lending lending (at (chosen c)).loop-client.table told.client told.supplier
 turn c = lending_turn _ (at (chosen c)).loop-client.invariant.3.on _ _ (goes c)
 
 dispatch_requires : tie.Need-dispatch-written-requires invariant_loop decreases_loop
@@ -79,7 +79,7 @@ loop_again c =
       done.auto.table ∙ at.invariant.0,
       done.auto.first ∙ at.invariant.1,
       done.auto.second ∙ at.invariant.2,
-      going_next Lending _ _ _ _ _ at.table at.first at.second at.written _ _ at.invariant.3 (turn (turned (made c))) _ _ _ _ done.ensures done.auto.1 done.auto.2,
+      going_next Lending _ _ _ _ _ at.table at.first at.second at.written _ _ at.invariant.3 (turn (turned (made c))) _ _ _ _ done.ensures done.auto.first done.auto.second,
     )
 
 same_length : tie.Need-shape_of-table invariant_loop decreases_loop
