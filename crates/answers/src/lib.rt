@@ -163,6 +163,7 @@ pub fn number_of(why: Refusal) -> u64
 }
 
 // The number of the refusal in an answer, or 0.
+#[tactic(auto, unfolding(crate::specs::Answers::told, definitions::specs::Refusals::number_told))]
 pub fn number_told(answer: Answer) -> u64
     ensures number { result ≡ number_told (told answer) }
     ensures small { result ≤ last_refusal }

@@ -1,5 +1,5 @@
 -- The supplier of a request stands on the way up from its client; where there is none, no node on the way has enough balance.
-use Prim.Native.Nat.{ℕ, zero, suc, ◌<◌}
+use Prim.Native.Nat.{ℕ, zero, suc, ◌<◌, ◌+◌}
 use mathlib.Core.Path.{◌≡◌, refl}
 use mathlib.Core.Bool.{true, false}
 use mathlib.Core.List.{List}
@@ -27,7 +27,7 @@ none_on_way t amount n (suc l) k h j on =
     (λ e.
     way_cases (tree_of t) l k j on
     (λ d. rw d e)
-    (none_on_way t amount _ l ((tree_of t).parent k) (rw e at h) j))
+    (none_on_way t amount (n + 1) l ((tree_of t).parent k) (rw e at h) j))
 
 -- A client that waits with no supplier: no node at or above it has enough balance.
 pub not_supplied : (t : List ℤ) (k : ℕ) → 0 < waiting t k → supplied t k ≡ false → (j : ℕ) → at_or_above (tree_of t) k j ≡ true → enough t (grains (size t k 0)) j ≡ false

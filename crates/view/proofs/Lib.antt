@@ -1,4 +1,3 @@
 pub mod Viewed
 pub mod Listing
-pub mod Handed
 pub mod Sample

@@ -13,78 +13,78 @@ use Rattle.balances.proofs.Charged.{Chargeable, chargeable_first, chargeable_nex
 use Rattle.balances.proofs.charge.Statement.{statement}
 use Rattle.balances.proofs.charge.Tie as tie
 
-abbrev invariant_loop : tie.invariant-loop
+abbrev invariant_loop : tie.invariant-loop-level
 invariant_loop table₀ amount s level₀ node₀ table level node =
     (node < nodes) × (Chargeable (tree_of table₀) amount level table)
     × (charge table amount level node ≡ charge table₀ amount ((tree_of table₀).level s) s)
 
-abbrev decreases_loop : tie.decreases-loop
+abbrev decreases_loop : tie.decreases-loop-level
 decreases_loop table₀ amount s level₀ node₀ table level node = level
 
 -- Back to the loop, from the charge in a turn and from the last one.
-abbrev at : tie.After-lower-arg invariant_loop decreases_loop → tie.At-loop invariant_loop decreases_loop
-at c = c.before.before.before.before
+abbrev at : tie.After-lower-arg-1 invariant_loop decreases_loop → tie.At-loop-level invariant_loop decreases_loop
+at c = c.before.before.before
 
-abbrev at_end : tie.After-lower2 invariant_loop decreases_loop → tie.At-loop invariant_loop decreases_loop
+abbrev at_end : tie.After-lower-2 invariant_loop decreases_loop → tie.At-loop-level invariant_loop decreases_loop
 at_end c = c.before.before.before
 
-natural_requires : tie.Need-natural-requires invariant_loop decreases_loop
+natural_requires : tie.Need-natural-level-requires invariant_loop decreases_loop
 natural_requires c κs = search rules
 
-loop_holds : tie.Need-loop-init invariant_loop decreases_loop
+loop_holds : tie.Need-loop-level-init invariant_loop decreases_loop
 unfolding tree_of
 loop_holds c =
-    let start = c.before.before in
-    let same : c.natural.result ≡ (tree_of start.args.table.now).level start.args.s = c.natural.ensures in (
+    let start = c in
+    let same : c.natural-level.result ≡ (tree_of start.args.table.now).level start.args.s = c.natural-level.ensures in (
       start.requires.1,
       chargeable_first _ start.requires.0 _ _ start.requires.2 (omega (arith, start.requires.0.level _ start.requires.1)),
       ap (λ (l : ℕ). charge start.args.table.now start.args.amount l start.args.s) same,
     )
 
-natural_requires_2 : tie.Need-natural-requires-2 invariant_loop decreases_loop
-natural_requires_2 c κs = (c.before.before.loop.invariant.1.long, c.before.before.loop.invariant.0, omega arith)
+natural_requires_2 : tie.Need-natural-parent-requires invariant_loop decreases_loop
+natural_requires_2 c κs = (c.loop-level.invariant.1.long, c.loop-level.invariant.0, omega arith)
 
 lower_requires : tie.Need-lower-requires invariant_loop decreases_loop
 lower_requires c κs =
-    let at = (at c).loop in
-    (at.inv.1.long, at.inv.0, chargeable_here _ _ _ _ at.inv.1 _ at.inv.0, omega arith)
+    let at = (at c).loop-level in
+    (at.invariant.1.long, at.invariant.0, chargeable_here _ _ _ _ at.invariant.1 _ at.invariant.0, omega arith)
 
-sub_level : tie.Need-overflow-sub-level invariant_loop decreases_loop
+sub_level : tie.Need-overflow_sub-level invariant_loop decreases_loop
 sub_level c = omega arith
 
-loop_less : tie.Need-loop-smaller invariant_loop decreases_loop
+loop_less : tie.Need-loop-level-smaller invariant_loop decreases_loop
 loop_less c = omega arith
 
-loop_again : tie.Need-loop-preserved invariant_loop decreases_loop
+loop_again : tie.Need-loop-level-preserved invariant_loop decreases_loop
 unfolding tree_of
 loop_again c =
-    let charged = c.before.before in
-    let at = at charged in
-    let start = at.before.before.before in
-    let parent = charged.before.natural2.ensures in
-    let low = c.before.lower.ensures in
-    let more : 0 < at.loop.level = omega (arith, charged.before.before.before.loop-test.true) in (
-      omega (arith, parent, chargeable_parent _ _ _ _ start.pre.0 at.loop.inv.1 _ at.loop.inv.0),
-      subst (Chargeable _ start.args.amount (at.loop.level - 1)) (sym low) (chargeable_next _ _ _ _ at.loop.inv.1 more _ at.loop.inv.0),
-      ap₂ (λ (u : List ℤ) (k : ℕ). charge u start.args.amount (at.loop.level - 1) k) low parent
-          ∙ sym (charge_above at.loop.table start.args.amount at.loop.level at.loop.node more)
-          ∙ at.loop.inv.2,
+    let charged = c in
+    let at = at charged.before.before in
+    let start = at in
+    let parent = charged.natural-parent.ensures in
+    let low = c.lower.ensures in
+    let more : 0 < at.loop-level.level = omega (arith, charged.loop-level-test.true) in (
+      omega (arith, parent, chargeable_parent _ _ _ _ start.requires.0 at.loop-level.invariant.1 _ at.loop-level.invariant.0),
+      subst (Chargeable _ start.args.amount (at.loop-level.level - 1)) (sym low) (chargeable_next _ _ _ _ at.loop-level.invariant.1 more _ at.loop-level.invariant.0),
+      ap₂ (λ (u : List ℤ) (k : ℕ). charge u start.args.amount (at.loop-level.level - 1) k) low parent
+          ∙ sym (charge_above at.loop-level.table start.args.amount at.loop-level.level at.loop-level.node more)
+          ∙ at.loop-level.invariant.2,
     )
 
 lower_requires_2 : tie.Need-lower-requires-2 invariant_loop decreases_loop
 lower_requires_2 c κs =
-    let at = c.before.before.loop in
+    let at = c.loop-level in
     (at.invariant.1.long, at.invariant.0, chargeable_here _ _ _ _ at.invariant.1 _ at.invariant.0, omega arith)
 
-same_length : tie.Need-same-length invariant_loop decreases_loop
+same_length : tie.Need-shape_of-table invariant_loop decreases_loop
 same_length c = search rules
 
 returns : tie.Need-returns invariant_loop decreases_loop
 returns c =
-    let at = (at_end c.before).loop in
-    c.before.lower2.ensures
+    let at = (at_end c.before).loop-level in
+    c.lower-2.ensures
     ∙ sym (charge_last at.table _ at.level at.node (omega arith))
-    ∙ at.inv.2
+    ∙ at.invariant.2
 
 pub charge_spec : {M : Type 1} → statement M
 charge_spec =

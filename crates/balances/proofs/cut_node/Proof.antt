@@ -15,58 +15,58 @@ use Rattle.balances.proofs.cut_node.Statement.{statement}
 use Rattle.balances.proofs.cut_node.Tie as tie
 
 -- Where the depth in grains is known.
-abbrev deep : tie.After-at-most → tie.After-depth-grains
-deep c = c.before.before.before.before
+abbrev deep : tie.After-at_most → tie.After-depth_grains-most
+deep c = c.before.before.before
 
-abbrev start : tie.After-at-most → tie.Start
-start c = (deep c).before.before
+abbrev start : tie.After-at_most → tie.Start
+start c = c.before.before.before.before
 
 -- The depth in grains is small, and what the test says.
-small : (c : tie.After-depth-grains) → c.depth-grains.result ≤ 2 ^ 60
+small : (c : tie.After-depth_grains-most) → c.depth_grains-most.result ≤ 2 ^ 60
 small c =
-    let start = c.before.before in
+    let start = c in
     omega (arith, depth_grains_small start.args.table.now start.args.k start.requires.2)
 
-tested : (c : tie.After-at-most) → le_z (balance (start c).args.table.now (start c).args.k) (pos (depth_grains (start c).args.table.now (start c).args.k)) ≡ c.at_most.result
+tested : (c : tie.After-at_most) → le_z (balance (start c).args.table.now (start c).args.k) (pos (depth_grains (start c).args.table.now (start c).args.k)) ≡ c.at_most.result
 unfolding balance
 tested c =
     sym
     (c.at_most.ensures
     ∙ ap₂ le_z
-    (to_z-of_z w64 _ (sfits_of c.before.before.get.type-inv) ∙ c.before.before.get.ensures)
-    (to_z-of_z w64 _ (sfits_of c.before.whole.type-inv) ∙ c.before.whole.ensures ∙ ap pos (deep c).depth-grains.ensures))
+    (to_z-of_z w64 _ (sfits_of c.get-balance.type_inv) ∙ c.get-balance.ensures)
+    (to_z-of_z w64 _ (sfits_of c.whole.type_inv) ∙ c.whole.ensures ∙ ap pos (deep c).depth_grains-most.ensures))
 
-depth_grains_requires : tie.Need-depth-grains-requires
+depth_grains_requires : tie.Need-depth_grains-most-requires
 unfolding tree_of
 depth_grains_requires c κs = search rules
 
-get_requires : tie.Need-get-requires
+get_requires : tie.Need-get-balance-requires
 get_requires c κs = search rules
 
 whole_requires : tie.Need-whole-requires
-whole_requires c κs = omega (arith, small c.before.before)
+whole_requires c κs = omega (arith, small c.before)
 
-at_most_requires : tie.Need-at-most-requires
+at_most_requires : tie.Need-at_most-requires
 at_most_requires c κs = search rules
 
-same_length : tie.Need-same-length
+same_length : tie.Need-shape_of-table-then-at_most
 same_length c = search rules
 
-returns : tie.Need-returns
-returns c = cut_stays _ _ (tested c.before ∙ c.if1.true)
+returns : tie.Need-returns-then-at_most
+returns c = cut_stays _ _ (tested c.before ∙ c.if-at_most.true)
 
-put_natural_requires : tie.Need-put-natural-requires
+put_natural_requires : tie.Need-put_natural-requires
 put_natural_requires c κs = omega (arith, small (deep c.before.before))
 
-same_length_2 : tie.Need-same-length-2
+same_length_2 : tie.Need-shape_of-table
 same_length_2 c = search rules
 
-returns_2 : tie.Need-returns-2
+returns_2 : tie.Need-returns
 returns_2 c =
-    let past = c.before.before.before in
-    c.before.put-natural.ensures
-    ∙ ap (put _ _ _) (ap pos (deep past.before).depth-grains.ensures)
-    ∙ cut_falls _ _ (tested past.before ∙ past.if1.false)
+    let past = c in
+    c.put_natural.ensures
+    ∙ ap (put _ _ _) (ap pos (deep past.before.before.before.before).depth_grains-most.ensures)
+    ∙ cut_falls _ _ (tested past.before.before.before.before ∙ past.if-at_most.false)
 
 pub cut_node_spec : {M : Type 1} → statement M
 cut_node_spec =

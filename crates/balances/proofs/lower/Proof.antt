@@ -11,30 +11,30 @@ use Rattle.definitions.specs.Tick.{lower}
 use Rattle.balances.proofs.lower.Statement.{statement}
 use Rattle.balances.proofs.lower.Tie as tie
 
-get_requires : tie.Need-get-requires
+get_requires : tie.Need-get-before-requires
 get_requires c κs = search rules
 
-lowered_requires : tie.Need-lowered-requires
+lowered_requires : tie.Need-lowered-after-requires
 unfolding balance
 lowered_requires c κs =
-    omega (arith, ap minus (to_z-of_z w64 _ (sfits_of c.get.type-inv) ∙ c.get.ensures))
+    omega (arith, ap minus (to_z-of_z w64 _ (sfits_of c.get-before.type_inv) ∙ c.get-before.ensures))
 
 put_requires : tie.Need-put-requires
 put_requires c κs = search rules
 
-same_length : tie.Need-same-length
+same_length : tie.Need-shape_of-table
 same_length c = search rules
 
 returns : tie.Need-returns
 unfolding lower balance
 returns c =
-    let made = c.before.before.before in
-    let read = made.before in
-    c.before.put.ensures
+    let made = c in
+    let read = made in
+    c.put.ensures
     ∙ ap (put _ _ _)
-    (to_z-of_z w64 _ (sfits_of made.lowered.type-inv)
-    ∙ made.lowered.ensures
-    ∙ ap (λ (z : ℤ). z -ℤ pos read.before.before.args.amount) (to_z-of_z w64 _ (sfits_of read.get.type-inv) ∙ read.get.ensures))
+    (to_z-of_z w64 _ (sfits_of made.lowered-after.type_inv)
+    ∙ made.lowered-after.ensures
+    ∙ ap (λ (z : ℤ). z -ℤ pos read.args.amount) (to_z-of_z w64 _ (sfits_of read.get-before.type_inv) ∙ read.get-before.ensures))
 
 pub lower_spec : {M : Type 1} → statement M
 lower_spec = tie.close (tie.spec get_requires lowered_requires put_requires same_length returns)

@@ -29,8 +29,8 @@ returns c =
       long = filled.long;
       at = λ k j hj.
           filled.at (cell_at k j)
-          ∙ ap (λ (b : Bool). cond b valued.value_of_lem.result (get_or args.cells.now (cell_at k j) 0)) (cell_covered args.windows.now args.i args.first _ _ k j at hj)
-          ∙ ap (λ (v : ℕ). cond (covers args.windows.now args.i k (args.first + j)) v (get_or args.cells.now (cell_at k j) 0)) valued.value_of_lem.ensures;
+          ∙ ap (λ (b : Bool). cond b valued.value_of.result (get_or args.cells.now (cell_at k j) 0)) (cell_covered args.windows.now args.i args.first _ _ k j at hj)
+          ∙ ap (λ (v : ℕ). cond (covers args.windows.now args.i k (args.first + j)) v (get_or args.cells.now (cell_at k j) 0)) valued.value_of.ensures;
       clear = filled.clear ∙ clear_covered args.windows.now args.i args.first _ _ args.cells.now at start.requires.1.rises;
     }
 

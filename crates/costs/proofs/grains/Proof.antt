@@ -13,11 +13,11 @@ cost_requires : tie.Need-cost-requires
 cost_requires c κs = search rules
 
 grains_requires : tie.Need-grains-requires
-grains_requires c κs = omega (arith, c.cost.ensures, cost_bounds c.before.args.size)
+grains_requires c κs = omega (arith, c.cost.ensures, cost_bounds c.args.size)
 
 returns : tie.Need-returns
 unfolding grains
-returns c = c.grains.ensures ∙ ap (λ (n : ℕ). n * grain_scale) c.before.cost.ensures
+returns c = c.grains.ensures ∙ ap (λ (n : ℕ). n * grain_scale) c.cost.ensures
 
 pub grains_spec : {M : Type 1} → statement M
 grains_spec = tie.close (tie.spec cost_requires grains_requires returns)

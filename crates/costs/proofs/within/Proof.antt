@@ -38,34 +38,34 @@ cheap depth size h =
     ∙ and-with-true (le_z (pos 1) size))
 
 -- The number that the code goes on with, and its test.
-size_is : (c : tie.After-natural) → c.natural.result ≡ plus c.before.args.size
-size_is c = natural_of c.natural.ensures c.before.ranges.size
+size_is : (c : tie.After-natural-tokens) → c.natural-tokens.result ≡ plus c.args.size
+size_is c = natural_of c.natural-tokens.ensures c.ranges.size
 
-least_is : (c : tie.After-natural) → leb 1 c.natural.result ≡ le_z (pos 1) c.before.args.size
-least_is c = ap (leb 1) (size_is c) ∙ at_least_one c.before.args.size
+least_is : (c : tie.After-natural-tokens) → leb 1 c.natural-tokens.result ≡ le_z (pos 1) c.args.size
+least_is c = ap (leb 1) (size_is c) ∙ at_least_one c.args.size
 
-natural_requires : tie.Need-natural-requires
+natural_requires : tie.Need-natural-tokens-requires
 natural_requires c κs = search rules
 
-add_if1 : tie.Need-overflow-add-if1
-add_if1 c = omega (arith, size_is c, parts_fit c.before.args.size c.before.ranges.size)
+add_if1 : tie.Need-overflow_add-tokens
+add_if1 c = omega (arith, size_is c, parts_fit c.args.size c.ranges.size)
 
-returns : tie.Need-returns
+returns : tie.Need-returns-then-tokens-depth
 returns c =
-    let a = c.before.before.args in
+    let a = c.args in
     least_is c.before ∙ cheap a.depth a.size (omega (arith, size_is c.before, cost_bounds (plus a.size)))
 
-above_requires : tie.Need-above-requires
+above_requires : tie.Need-above-above-requires
 above_requires c κs = search rules
 
-returns_2 : tie.Need-returns-2
+returns_2 : tie.Need-returns
 unfolding size_within
 returns_2 c =
-    let sized = c.before.before in
-    let depth = sized.before.args.depth in
+    let sized = c in
+    let depth = sized.args.depth in
     joined_as
-    (same_tests (least_is sized)
-    (last_test (ap not c.above.ensures ∙ not_below depth (cost sized.natural.result) ∙ ap (λ (n : ℕ). leb (cost n) depth) (size_is sized))))
+    (same_tests (least_is sized.before.before)
+    (last_test (ap not c.above-above.ensures ∙ not_below depth (cost sized.natural-tokens.result) ∙ ap (λ (n : ℕ). leb (cost n) depth) (size_is sized.before.before))))
 
 pub within_spec : {M : Type 1} → statement M
 within_spec = tie.close (tie.spec natural_requires add_if1 returns above_requires returns_2)

@@ -9,10 +9,10 @@ use borrow.Author.Rules.{rules}
 use Rattle.dividing.proofs.left_rate.Statement.{statement}
 use Rattle.dividing.proofs.left_rate.Tie as tie
 
-sub_result : tie.Need-overflow-sub-result
+sub_result : tie.Need-overflow_sub-result
 sub_result c = search rules
 
-mul_result : tie.Need-overflow-mul-result
+mul_result : tie.Need-overflow_mul-result
 mul_result c = omega (arith, product_small c.args.rate (whole_share - c.args.fixed) (omega arith) (omega arith))
 
 returns : tie.Need-returns

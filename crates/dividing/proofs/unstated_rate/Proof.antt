@@ -4,11 +4,11 @@ use Rattle.definitions.specs.Rates.{unstated_rate}
 use Rattle.dividing.proofs.unstated_rate.Statement.{statement}
 use Rattle.dividing.proofs.unstated_rate.Tie as tie
 
-returns : tie.Need-returns
+returns : tie.Need-returns-then-rate-stated
 unfolding unstated_rate
 returns c = omega arith
 
-returns_2 : tie.Need-returns-2
+returns_2 : tie.Need-returns
 unfolding unstated_rate
 returns_2 c = omega arith
 

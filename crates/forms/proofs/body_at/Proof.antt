@@ -8,20 +8,20 @@ use borrow.Author.Rules.{rules}
 use Rattle.forms.proofs.body_at.Statement.{statement}
 use Rattle.forms.proofs.body_at.Tie as tie
 
-entry_at_requires : tie.Need-entry-at-requires
+entry_at_requires : tie.Need-entry_at-requires
 entry_at_requires c κs = search rules
 
-body_length_requires : tie.Need-body-length-requires
+body_length_requires : tie.Need-body_length-requires
 body_length_requires c κs = search rules
 
-mul_result : tie.Need-overflow-mul-result
-mul_result c = omega (arith, mul-le-mul c.body-length.ensures.1 c.before.before.requires.1)
+mul_result : tie.Need-overflow_mul-result
+mul_result c = omega (arith, mul-le-mul c.body_length.ensures.1 c.requires.1)
 
-add_result : tie.Need-overflow-add-result
-add_result c = let s = c.before.before in omega (arith, mul-le-mul c.body-length.ensures.1 s.requires.1, c.before.entry_at.ensures, start_small s.args.edition, s.requires.0)
+add_result : tie.Need-overflow_add-result
+add_result c = let s = c in omega (arith, mul-le-mul c.body_length.ensures.1 s.requires.1, c.entry_at.ensures, start_small s.args.edition, s.requires.0)
 
 returns : tie.Need-returns
-returns c = ap₂ ◌+◌ c.before.entry_at.ensures (ap (λ (l : ℕ). l * c.before.before.args.i) c.body-length.ensures.0)
+returns c = ap₂ ◌+◌ c.entry_at.ensures (ap (λ (l : ℕ). l * c.args.i) c.body_length.ensures.0)
 
 pub body_at_spec : {M : Type 1} → statement M
 body_at_spec =

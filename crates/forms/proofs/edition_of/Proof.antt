@@ -7,13 +7,13 @@ use Rattle.planformat.specs.Format.{first_edition, edition_of}
 use Rattle.forms.proofs.edition_of.Statement.{statement}
 use Rattle.forms.proofs.edition_of.Tie as tie
 
-returns : tie.Need-returns
+returns : tie.Need-returns-then-number-eq-FIRST_EDITION
 unfolding edition_of
-returns c = sym (cond_true _ First Second (eq-eqb _ first_edition c.if1.true))
+returns c = sym (cond_true _ First Second (eq-eqb _ first_edition c.if-number-eq-FIRST_EDITION.true))
 
-returns_2 : tie.Need-returns-2
+returns_2 : tie.Need-returns
 unfolding edition_of
-returns_2 c = sym (cond_false _ First Second (ne_eqb _ first_edition c.if1.false))
+returns_2 c = sym (cond_false _ First Second (ne_eqb _ first_edition c.if-number-eq-FIRST_EDITION.false))
 
 pub edition_of_spec : {M : Type 1} → statement M
 edition_of_spec = tie.close (tie.spec returns returns_2)

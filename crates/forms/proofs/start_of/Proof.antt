@@ -4,17 +4,17 @@ use borrow.Author.Rules.{rules}
 use Rattle.forms.proofs.start_of.Statement.{statement}
 use Rattle.forms.proofs.start_of.Tie as tie
 
-enum_told : tie.Need-enum-told
+enum_told : tie.Need-enum_told-1
 enum_told c = search rules
 
-enum_told_2 : tie.Need-enum-told-2
+enum_told_2 : tie.Need-enum_told-in-Second
 enum_told_2 c = search rules
 
-returns : tie.Need-returns
+returns : tie.Need-returns-in-First
 unfolding start_of
 returns c = search rules
 
-returns_2 : tie.Need-returns-2
+returns_2 : tie.Need-returns-in-Second
 unfolding start_of
 returns_2 c = search rules
 

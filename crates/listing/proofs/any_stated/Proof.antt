@@ -11,32 +11,32 @@ use Rattle.planlaws.specs.Writing.{any_stated}
 use Rattle.listing.proofs.any_stated.Statement.{statement}
 use Rattle.listing.proofs.any_stated.Tie as tie
 
-abbrev invariant_loop : tie.invariant-loop
+abbrev invariant_loop : tie.invariant-loop-k
 invariant_loop table none₀ k₀ none k =
     (k ≤ nodes) × (none ≡ all_below k (λ j. test_if (there (tree_of table) j) (λ i. not (is_stated (tree_of table) i)) j))
 
-abbrev decreases_loop : tie.decreases-loop
+abbrev decreases_loop : tie.decreases-loop-k
 decreases_loop table none₀ k₀ none k = nodes - k
 
-loop_holds : tie.Need-loop-init invariant_loop decreases_loop
+loop_holds : tie.Need-loop-k-init invariant_loop decreases_loop
 unfolding all_below
 loop_holds c = (omega arith, refl)
 
-unstated_requires : tie.Need-unstated-requires invariant_loop decreases_loop
-unstated_requires c κs = (c.before.before.requires, omega arith)
+unstated_requires : tie.Need-unstated-none-requires invariant_loop decreases_loop
+unstated_requires c κs = (c.requires, omega arith)
 
-add_k : tie.Need-overflow-add-k invariant_loop decreases_loop
+add_k : tie.Need-overflow_add-k invariant_loop decreases_loop
 add_k c = omega arith
 
-loop_less : tie.Need-loop-smaller invariant_loop decreases_loop
+loop_less : tie.Need-loop-k-smaller invariant_loop decreases_loop
 loop_less c = omega arith
 
-loop_again : tie.Need-loop-preserved invariant_loop decreases_loop
-loop_again c = (omega arith, all_grows _ _ _ _ c.before.before.loop.invariant.1 c.unstated.ensures)
+loop_again : tie.Need-loop-k-preserved invariant_loop decreases_loop
+loop_again c = (omega arith, all_grows _ _ _ _ c.loop-k.invariant.1 c.unstated-none.ensures)
 
 returns : tie.Need-returns invariant_loop decreases_loop
 unfolding any_stated each_node
-returns c = ap not (all_done _ _ _ _ c.before.loop.invariant.1 (omega arith))
+returns c = ap not (all_done _ _ _ _ c.loop-k.invariant.1 (omega arith))
 
 pub any_stated_spec : {M : Type 1} → statement M
 any_stated_spec =

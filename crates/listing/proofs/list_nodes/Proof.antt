@@ -38,51 +38,51 @@ next_nodes tree m count r xs long size has h =
       ap (λ (n : ℕ). take n (set xs count (m % nodes))) same ∙ take-set-le count xs count (m % nodes) (omega arith) ∙ has ∙ sym stay,
     ))
 
-abbrev invariant_loop : tie.invariant-loop
+abbrev invariant_loop : tie.invariant-loop-m
 invariant_loop table xs₀ count₀ m₀ xs count m =
     (m ≤ standings) × (length xs ≡ nodes) × (count ≡ length (order_below (tree_of table) m)) × (take count xs ≡ order_below (tree_of table) m)
 
-abbrev decreases_loop : tie.decreases-loop
+abbrev decreases_loop : tie.decreases-loop-m
 decreases_loop table xs₀ count₀ m₀ xs count m = standings - m
 
-loop_holds : tie.Need-loop-init invariant_loop decreases_loop
+loop_holds : tie.Need-loop-m-init invariant_loop decreases_loop
 unfolding order_below
 loop_holds c = (omega arith, refl, refl, refl)
 
-mul_nodes : tie.Need-overflow-mul-nodes invariant_loop decreases_loop
-mul_nodes c = omega (arith, order_few (tree_of c.before.before.args.table.now) c.before.loop.m)
+mul_nodes : tie.Need-offset_bounds-nodes-count invariant_loop decreases_loop
+mul_nodes c = omega (arith, order_few (tree_of c.args.table.now) c.loop-m.m)
 
-array_write_nodes : tie.Need-array-write-nodes invariant_loop decreases_loop
-array_write_nodes c = omega (arith, order_few (tree_of c.before.before.args.table.now) c.before.loop.m)
+array_write_nodes : tie.Need-bounds-nodes-count invariant_loop decreases_loop
+array_write_nodes c = omega (arith, order_few (tree_of c.args.table.now) c.loop-m.m)
 
 stands_requires : tie.Need-stands-requires invariant_loop decreases_loop
 stands_requires c κs = search rules
 
-counted_requires : tie.Need-counted-requires invariant_loop decreases_loop
+counted_requires : tie.Need-counted-count-requires invariant_loop decreases_loop
 counted_requires c κs = search rules
 
-add_count : tie.Need-overflow-add-count invariant_loop decreases_loop
-add_count c = let at = c.before.before.before in omega (arith, order_few (tree_of at.before.args.table.now) at.loop.m)
+add_count : tie.Need-overflow_add-count invariant_loop decreases_loop
+add_count c = let at = c in omega (arith, order_few (tree_of at.args.table.now) at.loop-m.m)
 
-add_m : tie.Need-overflow-add-m invariant_loop decreases_loop
+add_m : tie.Need-overflow_add-m invariant_loop decreases_loop
 add_m c = search rules
 
-loop_less : tie.Need-loop-smaller invariant_loop decreases_loop
+loop_less : tie.Need-loop-m-smaller invariant_loop decreases_loop
 loop_less c = search rules
 
-loop_again : tie.Need-loop-preserved invariant_loop decreases_loop
+loop_again : tie.Need-loop-m-preserved invariant_loop decreases_loop
 loop_again c =
-    let at = c.before.before.before in
-    let tree = tree_of at.before.args.table.now in
-    let next = next_nodes tree at.loop.m at.loop.count c.counted.result at.loop.nodes at.loop.invariant.1 at.loop.invariant.2 at.loop.invariant.3 (c.counted.ensures.0 ∙ ap (λ (b : Bool). cond b 1 0) c.before.stands.ensures) in
-    (omega arith, length-set at.loop.nodes at.loop.count (at.loop.m % nodes) ∙ at.loop.invariant.1, next.0, next.1)
+    let at = c in
+    let tree = tree_of at.args.table.now in
+    let next = next_nodes tree at.loop-m.m at.loop-m.count c.counted-count.result at.loop-m.nodes at.loop-m.invariant.1 at.loop-m.invariant.2 at.loop-m.invariant.3 (c.counted-count.ensures.0 ∙ ap (λ (b : Bool). cond b 1 0) c.stands.ensures) in
+    (omega arith, length-set at.loop-m.nodes at.loop-m.count (at.loop-m.m % nodes) ∙ at.loop-m.invariant.1, next.0, next.1)
 
 returns : tie.Need-returns invariant_loop decreases_loop
 unfolding order
 returns c =
-    let tree = tree_of c.before.before.args.table.now in
-    let end : c.before.loop.m ≡ standings = omega arith in
-    (c.before.loop.invariant.3 ∙ ap (order_below tree) end, c.before.loop.invariant.2 ∙ ap (λ (n : ℕ). length (order_below tree n)) end)
+    let tree = tree_of c.args.table.now in
+    let end : c.loop-m.m ≡ standings = omega arith in
+    (c.loop-m.invariant.3 ∙ ap (order_below tree) end, c.loop-m.invariant.2 ∙ ap (λ (n : ℕ). length (order_below tree n)) end)
 
 pub list_nodes_spec : {M : Type 1} → statement M
 list_nodes_spec =

@@ -10,23 +10,23 @@ use borrow.Author.Rules.{rules}
 use Rattle.listing.proofs.sort_at.Statement.{statement}
 use Rattle.listing.proofs.sort_at.Tie as tie
 
-share_at_requires : tie.Need-share-at-requires
+share_at_requires : tie.Need-share_at-share-requires
 share_at_requires c κs = search rules
 
 natural_requires : tie.Need-natural-requires
-natural_requires c κs = let s = c.before.requires in (standing_long _ _ s, s.small, omega arith)
+natural_requires c κs = let s = c.requires in (standing_long _ _ s, s.small, omega arith)
 
-returns : tie.Need-returns
+returns : tie.Need-returns-then-natural-eq-CLASS
 unfolding held_by sort_in kind_in tree_of
 returns c =
-    let share = c.before.before.share-at in
+    let share = c.share_at-share in
     (ap₂ kind_of (omega arith) share.ensures.1, share.ensures.0)
 
-returns_2 : tie.Need-returns-2
+returns_2 : tie.Need-returns-else-natural-eq-CLASS
 unfolding held_by sort_in kind_in tree_of
 returns_2 c =
-    let share = c.before.before.share-at in
-    (ap₂ kind_of (omega (arith, zarith, (standing_limits _ _ c.before.before.before.requires).sort)) share.ensures.1, share.ensures.0)
+    let share = c.share_at-share in
+    (ap₂ kind_of (omega (arith, zarith, (standing_limits _ _ c.requires).sort)) share.ensures.1, share.ensures.0)
 
 pub sort_at_spec : {M : Type 1} → statement M
 sort_at_spec = tie.close (tie.spec share_at_requires natural_requires returns returns_2)

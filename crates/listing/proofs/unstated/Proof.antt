@@ -15,21 +15,21 @@ use Rattle.listing.proofs.unstated.Tie as tie
 natural_requires : tie.Need-natural-requires
 natural_requires c κs = search rules
 
-returns : tie.Need-returns
+returns : tie.Need-returns-then-natural-eq-UNUSED
 unfolding there tree_of
 returns c =
-    let gone = ap not (ap (λ (n : ℕ). eqb n unused) (sym c.before.natural.ensures) ∙ eq-eqb _ unused c.if1.true) in
+    let gone = ap not (ap (λ (n : ℕ). eqb n unused) (sym c.natural.ensures) ∙ eq-eqb _ unused c.if-natural-eq-UNUSED.true) in
     sym (at_test _ _ _ (λ e. absurd (true_false e gone)))
 
 natural_requires_2 : tie.Need-natural-requires-2
 natural_requires_2 c κs = search rules
 
-returns_2 : tie.Need-returns-2
+returns_2 : tie.Need-returns
 unfolding there is_stated tree_of
 returns_2 c =
-    let sort = c.before.before in
-    let here = ap not (ap (λ (n : ℕ). eqb n unused) (sym sort.natural.ensures) ∙ ne_eqb _ unused c.before.if1.false) in
-    let same = ap (λ (n : ℕ). not (eqb n stated)) c.natural2.ensures in
+    let sort = c in
+    let here = ap not (ap (λ (n : ℕ). eqb n unused) (sym sort.natural.ensures) ∙ ne_eqb _ unused c.if-natural-eq-UNUSED.false) in
+    let same = ap (λ (n : ℕ). not (eqb n stated)) c.natural-2.ensures in
     same_truth _ _ (λ h. at_test _ _ _ (λ e. sym same ∙ h)) (λ h. same ∙ test_at _ _ _ h here)
 
 pub unstated_spec : {M : Type 1} → statement M

@@ -15,22 +15,22 @@ use Rattle.places.proofs.header_in_order.Tie as tie
 heading_requires : tie.Need-heading-requires
 heading_requires c κs = search rules
 
-within_requires : tie.Need-within-requires
+within_requires : tie.Need-within-count-requires
 within_requires c κs = search rules
 
-sub_zeros : tie.Need-overflow-sub-zeros
+sub_zeros : tie.Need-overflow_sub-zeros
 sub_zeros c = search rules
 
-zeros_requires : tie.Need-zeros-requires
+zeros_requires : tie.Need-zeros-others-requires
 zeros_requires c κs = search rules
 
 returns : tie.Need-returns
 unfolding header_in_order
 returns c =
-    let count = to_z-of_z w64 _ (sfits_of c.before.before.heading.type-inv) ∙ c.before.before.heading.ensures in
+    let count = to_z-of_z w64 _ (sfits_of c.heading.type_inv) ∙ c.heading.ensures in
     joined_as
-    (same_tests (c.before.within.ensures ∙ ap (within_ℤ 0 greatest_count) count)
-    (last_test (c.zeros.ensures ∙ header_zeros _)))
+    (same_tests (c.within-count.ensures ∙ ap (within_ℤ 0 greatest_count) count)
+    (last_test (c.zeros-others.ensures ∙ header_zeros _)))
 
 pub header_in_order_spec : {M : Type 1} → statement M
 header_in_order_spec =

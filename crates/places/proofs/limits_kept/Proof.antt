@@ -13,49 +13,49 @@ use Rattle.places.proofs.limits_kept.Statement.{statement}
 use Rattle.places.proofs.limits_kept.Tie as tie
 
 -- Back to the start, from the test of the waiting count and from the last.
-abbrev kind : tie.After-place-within7 → tie.After-place-within4
+abbrev kind : tie.After-place_within-waiting → tie.After-place_within-kind
 kind c = c.before.before.before.before.before
 
-abbrev start : tie.After-place-within7 → tie.Start
+abbrev start : tie.After-place_within-waiting → tie.Start
 start c = (kind c).before.before.before.before
 
-abbrev seventh : tie.After-place-within8 → tie.After-place-within7
+abbrev seventh : tie.After-place_within-port → tie.After-place_within-waiting
 seventh c = c.before.before.before
 
-place_within_requires : tie.Need-place-within-requires
+place_within_requires : tie.Need-place_within-sort-requires
 place_within_requires c κs = search rules
 
-place_within_requires_2 : tie.Need-place-within-requires-2
+place_within_requires_2 : tie.Need-place_within-parent-requires
 place_within_requires_2 c κs = search rules
 
-place_within_requires_3 : tie.Need-place-within-requires-3
+place_within_requires_3 : tie.Need-place_within-level-requires
 place_within_requires_3 c κs = search rules
 
-place_within_requires_4 : tie.Need-place-within-requires-4
+place_within_requires_4 : tie.Need-place_within-kind-requires
 place_within_requires_4 c κs = search rules
 
 natural_requires : tie.Need-natural-requires
 natural_requires c κs = search rules
 
-share_limit_requires : tie.Need-share-limit-requires
+share_limit_requires : tie.Need-share_limit-most-requires
 share_limit_requires c κs = search rules
 
-place_within_requires_5 : tie.Need-place-within-requires-5
+place_within_requires_5 : tie.Need-place_within-share-requires
 place_within_requires_5 c κs = search rules
 
-place_within_requires_6 : tie.Need-place-within-requires-6
+place_within_requires_6 : tie.Need-place_within-depth-requires
 place_within_requires_6 c κs = search rules
 
-place_within_requires_7 : tie.Need-place-within-requires-7
+place_within_requires_7 : tie.Need-place_within-waiting-requires
 place_within_requires_7 c κs = search rules
 
 natural_requires_2 : tie.Need-natural-requires-2
 natural_requires_2 c κs = search rules
 
-port_limit_requires : tie.Need-port-limit-requires
+port_limit_requires : tie.Need-port_limit-last-requires
 port_limit_requires c κs = search rules
 
-place_within_requires_8 : tie.Need-place-within-requires-8
+place_within_requires_8 : tie.Need-place_within-port-requires
 place_within_requires_8 c κs = search rules
 
 -- A limit that another place sets.
@@ -63,29 +63,29 @@ limited : (limit : ℕ → ℕ) (low : ℕ) (z : ℤ) {b : Bool} {n m most : ℕ
 limited limit low z e l same = e ∙ ap (λ (most : ℕ). within_ℤ low most z) (l ∙ ap limit same)
 
 -- The share's limit is that of the kind.
-share : (c : tie.After-place-within7) → let s = start c in c.before.before.place-within5.result ≡ within_ℤ 1 (share_limit (plus (place s.args.table.now s.args.k kind_at))) (place s.args.table.now s.args.k share_at)
+share : (c : tie.After-place_within-waiting) → let s = start c in c.place_within-share.result ≡ within_ℤ 1 (share_limit (plus (place s.args.table.now s.args.k kind_at))) (place s.args.table.now s.args.k share_at)
 share c =
-    let limit = c.before.before.before in
-    limited share_limit 1 _ c.before.before.place-within5.ensures limit.share-limit.ensures limit.before.natural.ensures
+    let limit = c in
+    limited share_limit 1 _ c.place_within-share.ensures limit.share_limit-most.ensures limit.natural.ensures
 
 -- The port's limit is that of the sort.
-port : (c : tie.After-place-within8) → let s = start (seventh c) in c.place-within8.result ≡ within_ℤ 0 (port_limit (plus (place s.args.table.now s.args.k sort_at))) (place s.args.table.now s.args.k port_at)
+port : (c : tie.After-place_within-port) → let s = start (seventh c) in c.place_within-port.result ≡ within_ℤ 0 (port_limit (plus (place s.args.table.now s.args.k sort_at))) (place s.args.table.now s.args.k port_at)
 port c =
-    let limit = c.before in
-    limited port_limit 0 _ c.place-within8.ensures limit.port-limit.ensures limit.before.natural2.ensures
+    let limit = c in
+    limited port_limit 0 _ c.place_within-port.ensures limit.port_limit-last.ensures limit.natural-2.ensures
 
 returns : tie.Need-returns
 unfolding limits_kept
 returns c =
     let seven = seventh c in
     joined_as
-    (same_tests (kind seven).before.before.before.place-within.ensures
-    (same_tests (kind seven).before.before.place-within2.ensures
-    (same_tests (kind seven).before.place-within3.ensures
-    (same_tests (kind seven).place-within4.ensures
+    (same_tests (kind seven).place_within-sort.ensures
+    (same_tests (kind seven).place_within-parent.ensures
+    (same_tests (kind seven).place_within-level.ensures
+    (same_tests (kind seven).place_within-kind.ensures
     (same_tests (share seven)
-    (same_tests seven.before.place-within6.ensures
-    (same_tests seven.place-within7.ensures
+    (same_tests seven.place_within-depth.ensures
+    (same_tests seven.place_within-waiting.ensures
     (last_test (port c)))))))))
 
 pub limits_kept_spec : {M : Type 1} → statement M

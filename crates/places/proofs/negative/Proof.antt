@@ -16,7 +16,7 @@ negative_requires c κs = search rules
 
 returns : tie.Need-returns
 returns c =
-    c.negative.ensures ∙ ap minus (to_z-of_z w64 _ (sfits_of c.before.get.type-inv) ∙ c.before.get.ensures)
+    c.negative.ensures ∙ ap minus (to_z-of_z w64 _ (sfits_of c.get.type_inv) ∙ c.get.ensures)
 
 pub negative_spec : {M : Type 1} → statement M
 negative_spec = tie.close (tie.spec get_requires negative_requires returns)

@@ -18,8 +18,8 @@ equal_requires c κs = search rules
 
 returns : tie.Need-returns
 returns c =
-    let here = to_z-of_z w64 _ (sfits_of c.before.before.get.type-inv) ∙ c.before.before.get.ensures in
-    let there = to_z-of_z w64 _ (sfits_of c.before.whole.type-inv) ∙ c.before.whole.ensures in
+    let here = to_z-of_z w64 _ (sfits_of c.get.type_inv) ∙ c.get.ensures in
+    let there = to_z-of_z w64 _ (sfits_of c.whole.type_inv) ∙ c.whole.ensures in
     c.equal.ensures ∙ ap₂ same_ℤ here there
 
 pub place_is_spec : {M : Type 1} → statement M

@@ -15,9 +15,9 @@ within_requires c κs = search rules
 
 returns : tie.Need-returns
 returns c =
-    let args = c.before.before.args in
+    let args = c.args in
     c.within.ensures
-    ∙ ap (within_ℤ args.low args.high) (to_z-of_z w64 _ (sfits_of c.before.get.type-inv) ∙ c.before.get.ensures)
+    ∙ ap (within_ℤ args.low args.high) (to_z-of_z w64 _ (sfits_of c.get.type_inv) ∙ c.get.ensures)
 
 pub place_within_spec : {M : Type 1} → statement M
 place_within_spec = tie.close (tie.spec get_requires within_requires returns)

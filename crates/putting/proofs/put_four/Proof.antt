@@ -8,32 +8,32 @@ use borrow.Author.Rules.{rules}
 use Rattle.putting.proofs.put_four.Statement.{statement}
 use Rattle.putting.proofs.put_four.Tie as tie
 
-put_pair_requires : tie.Need-put-pair-requires
+put_pair_requires : tie.Need-put_pair-requires
 put_pair_requires c κs = search rules
 
-add_put_pair : tie.Need-overflow-add-put-pair
+add_put_pair : tie.Need-overflow_add-a
 add_put_pair c = search rules
 
-put_pair_requires_2 : tie.Need-put-pair-requires-2
+put_pair_requires_2 : tie.Need-put_pair-requires-2
 put_pair_requires_2 c κs = search rules
 
-same_length : tie.Need-same-length
+same_length : tie.Need-shape_of-buffer
 same_length c = search rules
 
 -- Back from the last call to the first.
-abbrev first : tie.After-put-pair2 → tie.After-put-pair
+abbrev first : tie.After-put_pair-2 → tie.After-put_pair
 first c = c.before.before.before.before
 
 returns : tie.Need-returns
 unfolding bytes4 bytes2
 returns c =
-    let last = c.before.before in
-    let front = first last in
-    let start = front.before.before.before in
+    let last = c in
+    let front = first last.before.before in
+    let start = front in
     let x = start.args in
-    written_after x.buffer.now x.a (x.a + 2) (bytes2 x.n) (bytes2 (x.n / pair_values)) (omega (arith, start.pre)) refl
-    last.put-pair2.ensures
-    front.put-pair.ensures
+    written_after x.buffer.now x.a (x.a + 2) (bytes2 x.n) (bytes2 (x.n / pair_values)) (omega (arith, start.requires)) refl
+    last.put_pair-2.ensures
+    front.put_pair.ensures
 
 pub put_four_spec : {M : Type 1} → statement M
 put_four_spec =

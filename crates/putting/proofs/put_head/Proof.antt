@@ -9,30 +9,30 @@ use borrow.Author.Rules.{rules}
 use Rattle.putting.proofs.put_head.Statement.{statement}
 use Rattle.putting.proofs.put_head.Tie as tie
 
-put_mark_requires : tie.Need-put-mark-requires
+put_mark_requires : tie.Need-put_mark-requires
 put_mark_requires c κs = search rules
 
-start_of_requires : tie.Need-start-of-requires
+start_of_requires : tie.Need-start_of-requires
 start_of_requires c κs = search rules
 
-put_numbers_requires : tie.Need-put-numbers-requires
+put_numbers_requires : tie.Need-put_numbers-requires
 put_numbers_requires c κs = search rules
 
-same_length : tie.Need-same-length
+same_length : tie.Need-shape_of-buffer
 same_length c = search rules
 
 returns : tie.Need-returns
 returns c =
-    let last = c.before.before in
-    let placed = last.before in
-    let front = placed.before.before.before.before in
-    let start = front.before.before.before in
+    let last = c in
+    let placed = last in
+    let front = placed in
+    let start = front in
     let x = start.args in
-    written_after x.buffer.now 0 placed.start_of_lem.result (mark_bytes x.edition) (bytes4 x.rate ++ bytes4 x.depth ++ (x.count ∷ []))
+    written_after x.buffer.now 0 placed.start_of.result (mark_bytes x.edition) (bytes4 x.rate ++ bytes4 x.depth ++ (x.count ∷ []))
     (omega (arith, length_mark x.edition, start.requires.0))
-    (omega (arith, length_mark x.edition, placed.start_of_lem.ensures.0))
-    last.put-numbers.ensures
-    front.put-mark.ensures
+    (omega (arith, length_mark x.edition, placed.start_of.ensures.0))
+    last.put_numbers.ensures
+    front.put_mark.ensures
 
 pub put_head_spec : {M : Type 1} → statement M
 put_head_spec =

@@ -23,27 +23,27 @@ mark_bytes_law : bytes4 mark_value ≡ mark_bytes Second
 unfolding mark_bytes bytes4 bytes2
 mark_bytes_law = refl
 
-enum_told : tie.Need-enum-told
+enum_told : tie.Need-enum_told-1
 enum_told c = search rules
 
-enum_told_2 : tie.Need-enum-told-2
+enum_told_2 : tie.Need-enum_told-in-Second
 enum_told_2 c = search rules
 
-put_four_requires : tie.Need-put-four-requires
+put_four_requires : tie.Need-put_four-requires
 unfolding start_of
-put_four_requires c κs = omega (arith, ap start_of c.before.enum-told2.given.1, c.before.before.before.before.requires)
+put_four_requires c κs = omega (arith, ap start_of c.in-Second.is, c.requires)
 
-returns : tie.Need-returns
+returns : tie.Need-returns-in-First
 unfolding mark_bytes
-returns c = sym (written_none _ 0) ∙ mark_told _ c.enum_told.given.1
+returns c = sym (written_none _ 0) ∙ mark_told _ c.in-First.is
 
-same_length : tie.Need-same-length
+same_length : tie.Need-shape_of-buffer
 same_length c = search rules
 
-returns_2 : tie.Need-returns-2
+returns_2 : tie.Need-returns-in-Second
 returns_2 c =
-    let put = c.before.before in
-    put.put_four.ensures ∙ ap (written _ 0) mark_bytes_law ∙ mark_told _ put.before.before.enum-told2.given.1
+    let put = c in
+    put.put_four.ensures ∙ ap (written _ 0) mark_bytes_law ∙ mark_told _ put.in-Second.is
 
 pub put_mark_spec : {M : Type 1} → statement M
 put_mark_spec = tie.close (tie.spec enum_told enum_told_2 put_four_requires returns same_length returns_2)

@@ -9,22 +9,22 @@ use Rattle.queues.proofs.Marks.{differs_unmarked}
 use Rattle.queues.proofs.differs_marked.Statement.{statement}
 use Rattle.queues.proofs.differs_marked.Tie as tie
 
-mark_of_requires : tie.Need-mark-of-requires
+mark_of_requires : tie.Need-mark_of-requires
 mark_of_requires c κs = search rules
 
-element_copy_out_if1 : tie.Need-element-copy-out-if1
+element_copy_out_if1 : tie.Need-bounds-marked-mark_of
 element_copy_out_if1 c = search rules
 
-returns : tie.Need-returns
+returns : tie.Need-returns-then-not-marked-mark_of
 returns c =
-    let start = c.before.before.before in
-    let read = ap (λ (m : ℕ). get_or start.args.marked.now m false) c.before.before.mark_of.ensures.0 in
-    sym (differs_unmarked _ _ _ _ start.requires.3 (sym read ∙ not-true _ c.if1.true))
+    let start = c in
+    let read = ap (λ (m : ℕ). get_or start.args.marked.now m false) c.mark_of.ensures.0 in
+    sym (differs_unmarked _ _ _ _ start.requires.3 (sym read ∙ c.if-not-marked-mark_of.true))
 
-differs_below_requires : tie.Need-differs-below-requires
+differs_below_requires : tie.Need-differs_below-requires
 differs_below_requires c κs = search rules
 
-returns_2 : tie.Need-returns-2
+returns_2 : tie.Need-returns
 returns_2 c = search rules
 
 pub differs_marked_spec : {M : Type 1} → statement M

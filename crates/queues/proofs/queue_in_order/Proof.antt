@@ -8,34 +8,34 @@ use Rattle.definitions.specs.Order.{request_in_order, queue_in_order}
 use Rattle.queues.proofs.queue_in_order.Statement.{statement}
 use Rattle.queues.proofs.queue_in_order.Tie as tie
 
-abbrev invariant_loop : tie.invariant-loop
+abbrev invariant_loop : tie.invariant-loop-i
 invariant_loop table k n ok₀ i₀ ok i = (i ≤ n) × (ok ≡ all_below i (request_in_order table k))
 
-abbrev decreases_loop : tie.decreases-loop
+abbrev decreases_loop : tie.decreases-loop-i
 decreases_loop table k n ok₀ i₀ ok i = n - i
 
-waiting_requires : tie.Need-waiting-requires invariant_loop decreases_loop
+waiting_requires : tie.Need-waiting-n-requires invariant_loop decreases_loop
 waiting_requires c κs = omega arith
 
-loop_holds : tie.Need-loop-init invariant_loop decreases_loop
+loop_holds : tie.Need-loop-i-init invariant_loop decreases_loop
 unfolding all_below
 loop_holds c = (omega arith, refl)
 
-request_in_order_requires : tie.Need-request-in-order-requires invariant_loop decreases_loop
+request_in_order_requires : tie.Need-request_in_order-ok-requires invariant_loop decreases_loop
 request_in_order_requires c κs = omega arith
 
-add_i : tie.Need-overflow-add-i invariant_loop decreases_loop
+add_i : tie.Need-overflow_add-i invariant_loop decreases_loop
 add_i c = omega arith
 
-loop_less : tie.Need-loop-smaller invariant_loop decreases_loop
+loop_less : tie.Need-loop-i-smaller invariant_loop decreases_loop
 loop_less c = omega arith
 
-loop_again : tie.Need-loop-preserved invariant_loop decreases_loop
-loop_again c = (omega arith, all_grows _ _ _ _ c.before.before.loop.invariant.1 c.request-in-order.ensures)
+loop_again : tie.Need-loop-i-preserved invariant_loop decreases_loop
+loop_again c = (omega arith, all_grows _ _ _ _ c.loop-i.invariant.1 c.request_in_order-ok.ensures)
 
 returns : tie.Need-returns invariant_loop decreases_loop
 unfolding queue_in_order
-returns c = all_done _ _ _ _ c.before.loop.invariant.1 (omega arith)
+returns c = all_done _ _ _ _ c.loop-i.invariant.1 (omega arith)
 
 pub queue_in_order_spec : {M : Type 1} → statement M
 queue_in_order_spec =

@@ -18,49 +18,49 @@ same_high : (z : ℤ) {m n : ℕ} → m ≡ n → within_ℤ 1 m z ≡ within_�
 same_high z e = ap (λ (n : ℕ). within_ℤ 1 n z) e
 
 -- Back to the test of the size.
-abbrev sized : tie.After-rising → tie.After-within
+abbrev sized : tie.After-rising-rising → tie.After-within-fits
 sized c = c.before.before.before
 
-mul_place : tie.Need-overflow-mul-place
+mul_place : tie.Need-overflow_mul-place
 mul_place c = search rules
 
-add_place : tie.Need-overflow-add-place
+add_place : tie.Need-overflow_add-place
 add_place c = search rules
 
-add_get : tie.Need-overflow-add-get
+add_get : tie.Need-overflow_add-place-2
 add_get c = search rules
 
-get_requires : tie.Need-get-requires
+get_requires : tie.Need-get-size-requires
 get_requires c κs = search rules
 
-natural_requires : tie.Need-natural-requires
+natural_requires : tie.Need-natural-depth-requires
 natural_requires c κs = search rules
 
-within_requires : tie.Need-within-requires
+within_requires : tie.Need-within-fits-requires
 unfolding tree_of
-within_requires c κs = omega (arith, c.natural.ensures)
+within_requires c κs = omega (arith, c.natural-depth.ensures)
 
-add_place_within : tie.Need-overflow-add-place-within
+add_place_within : tie.Need-overflow_add-place-3
 add_place_within c = search rules
 
 count_requires : tie.Need-count-requires
 count_requires c κs = search rules
 
-place_within_requires : tie.Need-place-within-requires
+place_within_requires : tie.Need-place_within-number-requires
 place_within_requires c κs = search rules
 
-rising_requires : tie.Need-rising-requires
+rising_requires : tie.Need-rising-rising-requires
 rising_requires c κs = search rules
 
 returns : tie.Need-returns
 unfolding request_in_order tree_of
 returns c =
-    let size = (sized c).before.before.get in
-    let depth = (sized c).before.natural in
+    let size = (sized c).get-size in
+    let depth = (sized c).natural-depth in
     joined_as
-    (same_tests ((sized c).within.ensures ∙ ap₂ size_within depth.ensures (to_z-of_z w64 _ (sfits_of size.ok) ∙ size.ensures))
-    (same_tests (c.before.place-within.ensures ∙ same_high _ c.before.before.count.ensures)
-    (last_test c.rising.ensures)))
+    (same_tests ((sized c).within-fits.ensures ∙ ap₂ size_within depth.ensures (to_z-of_z w64 _ (sfits_of size.type_inv) ∙ size.ensures))
+    (same_tests (c.place_within-number.ensures ∙ same_high _ c.count.ensures)
+    (last_test c.rising-rising.ensures)))
 
 pub request_in_order_spec : {M : Type 1} → statement M
 request_in_order_spec =

@@ -14,10 +14,10 @@ use Rattle.queues.proofs.rising.Tie as tie
 or_past : (a b : Bool) → a ≡ false → (a || b) ≡ b
 or_past a b h = ap (λ (x : Bool). x || b) h
 
-returns : tie.Need-returns
-returns c = sym (or_true_left (eqb c.before.args.i 0) _ (eq-eqb c.before.args.i 0 c.if1.true))
+returns : tie.Need-returns-then-i-eq0
+returns c = sym (or_true_left (eqb c.args.i 0) _ (eq-eqb c.args.i 0 c.if-i-eq0.true))
 
-sub_arrival : tie.Need-overflow-sub-arrival
+sub_arrival : tie.Need-overflow_sub-i
 sub_arrival c = search rules
 
 arrival_requires : tie.Need-arrival-requires
@@ -26,13 +26,13 @@ arrival_requires c κs = search rules
 arrival_requires_2 : tie.Need-arrival-requires-2
 arrival_requires_2 c κs = search rules
 
-returns_2 : tie.Need-returns-2
+returns_2 : tie.Need-returns
 returns_2 c =
-    let t = c.before.before.before.args.table.now in
-    let k = c.before.before.before.args.k in
-    let i = c.before.before.before.args.i in
-    ap₂ ltb c.before.arrival.ensures c.arrival2.ensures
-    ∙ sym (or_past (eqb i 0) (ltb (arrival t k (i - 1)) (arrival t k i)) (ne_eqb i 0 c.before.before.if1.false))
+    let t = c.args.table.now in
+    let k = c.args.k in
+    let i = c.args.i in
+    ap₂ ltb c.arrival.ensures c.arrival-2.ensures
+    ∙ sym (or_past (eqb i 0) (ltb (arrival t k (i - 1)) (arrival t k i)) (ne_eqb i 0 c.if-i-eq0.false))
 
 pub rising_spec : {M : Type 1} → statement M
 rising_spec =

@@ -11,18 +11,18 @@ use Rattle.ratetest.proofs.is_part.Tie as tie
 small : (c : tie.Start) → c.args.rate * c.args.by.parts ≤ greatest_rate * (nodes * whole_share)
 small c = mul-le-mul c.requires.0 c.requires.4
 
-mul_product : tie.Need-overflow-mul-product
-mul_product c = let s = c.before in omega (arith, product_small s.args.by.whole s.args.share s.requires.2 s.requires.1)
+mul_product : tie.Need-overflow_mul-product
+mul_product c = let s = c in omega (arith, product_small s.args.by.whole s.args.share s.requires.2 s.requires.1)
 
-mul_least : tie.Need-overflow-mul-least
+mul_least : tie.Need-overflow_mul-least
 mul_least c = omega (arith, small c.before.before)
 
-add_result : tie.Need-overflow-add-result
+add_result : tie.Need-overflow_add-result
 add_result c = omega (arith, small c.before.before.before)
 
 returns : tie.Need-returns
 returns c =
-    let s = c.before.before.before in
+    let s = c in
     quotient_by_product s.args.rate (s.args.by.whole * s.args.share) s.args.by.parts s.requires.3
 
 pub is_part_spec : {M : Type 1} → statement M

@@ -11,35 +11,35 @@ use Rattle.ratetest.proofs.Following.{root_follows, follow_right}
 use Rattle.ratetest.proofs.rates_in_order.Statement.{statement}
 use Rattle.ratetest.proofs.rates_in_order.Tie as tie
 
-abbrev invariant_loop : tie.invariant-loop
+abbrev invariant_loop : tie.invariant-loop-k
 invariant_loop table shares ok₀ k₀ ok k =
     (0 < k) × (k ≤ nodes) × (ok ≡ all_below k (λ j. test_if (there (tree_of table) j) (rate_follows table) j))
 
-abbrev decreases_loop : tie.decreases-loop
+abbrev decreases_loop : tie.decreases-loop-k
 decreases_loop table shares ok₀ k₀ ok k = nodes - k
 
-loop_holds : tie.Need-loop-init invariant_loop decreases_loop
+loop_holds : tie.Need-loop-k-init invariant_loop decreases_loop
 loop_holds c = (omega arith, omega arith, sym (root_follows _))
 
-rate_follows_requires : tie.Need-rate-follows-requires invariant_loop decreases_loop
+rate_follows_requires : tie.Need-rate_follows-ok-requires invariant_loop decreases_loop
 rate_follows_requires c κs =
-    let at = c.before in
-    let start = at.before in
-    (start.requires.0, start.requires.1, at.loop.invariant.0, omega arith)
+    let at = c in
+    let start = at in
+    (start.requires.0, start.requires.1, at.loop-k.invariant.0, omega arith)
 
-add_k : tie.Need-overflow-add-k invariant_loop decreases_loop
+add_k : tie.Need-overflow_add-k invariant_loop decreases_loop
 add_k c = omega arith
 
-loop_less : tie.Need-loop-smaller invariant_loop decreases_loop
+loop_less : tie.Need-loop-k-smaller invariant_loop decreases_loop
 loop_less c = omega arith
 
-loop_again : tie.Need-loop-preserved invariant_loop decreases_loop
-loop_again c = (omega arith, omega arith, all_grows _ _ _ _ c.before.before.loop.invariant.2 c.rate-follows.ensures)
+loop_again : tie.Need-loop-k-preserved invariant_loop decreases_loop
+loop_again c = (omega arith, omega arith, all_grows _ _ _ _ c.loop-k.invariant.2 c.rate_follows-ok.ensures)
 
 returns : tie.Need-returns invariant_loop decreases_loop
 unfolding each_node
 returns c =
-    all_done _ _ _ _ c.before.loop.invariant.2 (omega arith) ∙ follow_right _ c.before.before.requires.0
+    all_done _ _ _ _ c.loop-k.invariant.2 (omega arith) ∙ follow_right _ c.requires.0
 
 pub rates_in_order_spec : {M : Type 1} → statement M
 rates_in_order_spec =

@@ -16,26 +16,26 @@ use Rattle.reading.proofs.open_plan.Statement.{statement}
 use Rattle.reading.proofs.open_plan.Tie as tie
 
 -- The head's start in the edition of the bytes.
-head : (c : tie.After-start-of) → c.start_of_lem.result ≡ start_of (edition_in c.before.before.args.s.now)
-head c = c.start_of_lem.ensures.0 ∙ ap start_of c.before.before.requires.0
+head : (c : tie.After-start-of) → c.start_of.result ≡ start_of (edition_in c.before.before.args.s.now)
+head c = c.start_of.ensures.0 ∙ ap start_of c.before.before.requires.0
 
 start_of_requires : tie.Need-start-of-requires
 start_of_requires c κs = search rules
 
 add_four : tie.Need-overflow-add-four
-add_four c = omega (arith, c.start_of_lem.ensures.1)
+add_four c = omega (arith, c.start_of.ensures.1)
 
 four_requires : tie.Need-four-requires
-four_requires c κs = omega (arith, c.start_of_lem.ensures.0, c.before.before.requires.1)
+four_requires c κs = omega (arith, c.start_of.ensures.0, c.before.before.requires.1)
 
 whole_requires : tie.Need-whole-requires
 whole_requires c κs = search rules
 
 add_four_2 : tie.Need-overflow-add-four-2
-add_four_2 c = omega (arith, c.before.before.start_of_lem.ensures.1)
+add_four_2 c = omega (arith, c.before.before.start_of.ensures.1)
 
 four_requires_2 : tie.Need-four-requires-2
-four_requires_2 c κs = let placed = c.before.before in omega (arith, placed.start_of_lem.ensures.0, placed.before.before.requires.1)
+four_requires_2 c κs = let placed = c.before.before in omega (arith, placed.start_of.ensures.0, placed.before.before.requires.1)
 
 whole_requires_2 : tie.Need-whole-requires-2
 whole_requires_2 c κs = search rules

@@ -13,23 +13,23 @@ use borrow.Author.Rules.{rules}
 use Rattle.records.proofs.class_placed.Statement.{statement}
 use Rattle.records.proofs.class_placed.Tie as tie
 
-is_class_requires : tie.Need-is-class-requires
+is_class_requires : tie.Need-is_class-class-requires
 is_class_requires c κs = search rules
 
-natural_requires : tie.Need-natural-requires
+natural_requires : tie.Need-natural-level-requires
 natural_requires c κs = search rules
 
-natural_requires_2 : tie.Need-natural-requires-2
+natural_requires_2 : tie.Need-natural-idle-requires
 natural_requires_2 c κs = search rules
 
 returns : tie.Need-returns
 unfolding tree_of class_placed waiting
 returns c =
-    let t = c.before.before.before.args.table.now in
-    let k = c.before.before.before.args.k in
-    let level = ap (λ (n : ℕ). leb n last_class_level) c.before.natural.ensures in
-    let idle = ap (λ (n : ℕ). eqb n 0) c.natural2.ensures in
-    ap₂ (λ (b d : Bool). not b || d) c.before.before.is-class.ensures (joined_as (same_tests level (last_test idle)))
+    let t = c.args.table.now in
+    let k = c.args.k in
+    let level = ap (λ (n : ℕ). leb n last_class_level) c.natural-level.ensures in
+    let idle = ap (λ (n : ℕ). eqb n 0) c.natural-idle.ensures in
+    ap₂ (λ (b d : Bool). not b || d) c.is_class-class.ensures (joined_as (same_tests level (last_test idle)))
     ∙ sym (test_or (is_class (tree_of t) k) (class_placed t) k)
 
 pub class_placed_spec : {M : Type 1} → statement M

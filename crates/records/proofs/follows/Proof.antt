@@ -9,16 +9,16 @@ use borrow.Author.Rules.{rules}
 use Rattle.records.proofs.follows.Statement.{statement}
 use Rattle.records.proofs.follows.Tie as tie
 
-returns : tie.Need-returns
-returns c = sym (ne_eqb c.before.args.n (suc c.before.args.m) (λ e. omega arith))
+returns : tie.Need-returns-then-n-eq0
+returns c = sym (ne_eqb c.args.n (suc c.args.m) (λ e. omega arith))
 
-sub_result : tie.Need-overflow-sub-result
+sub_result : tie.Need-overflow_sub-result
 sub_result c = search rules
 
-returns_2 : tie.Need-returns-2
+returns_2 : tie.Need-returns
 returns_2 c =
-    let n = c.before.args.n in
-    let m = c.before.args.m in
+    let n = c.args.n in
+    let m = c.args.m in
     same_truth (eqb (n - 1) m) (eqb n (suc m))
     (λ h. eq-eqb n (suc m) (omega (arith, eqb-true (n - 1) m h)))
     (λ h. eq-eqb (n - 1) m (omega (arith, eqb-true n (suc m) h)))

@@ -13,46 +13,46 @@ use Rattle.records.proofs.node_in_order.Statement.{statement}
 use Rattle.records.proofs.node_in_order.Tie as tie
 
 -- The limits are kept where the code goes on.
-kept : (c : tie.Else1) → limits_kept c.before.before.args.table.now c.before.before.args.k ≡ true
-kept c = sym c.before.limits_kept.ensures ∙ not-false _ c.if1.false
+kept : (c : tie.Else-not-limits_kept) → limits_kept c.args.table.now c.args.k ≡ true
+kept c = sym c.limits_kept.ensures ∙ c.if-not-limits_kept.false
 
 -- Back to where the limits are known.
-abbrev past : tie.After-class-placed → tie.Else1
+abbrev past : tie.After-class_placed-class → tie.Else-not-limits_kept
 past c = c.before.before.before
 
-limits_kept_requires : tie.Need-limits-kept-requires
+limits_kept_requires : tie.Need-limits_kept-requires
 limits_kept_requires c κs = search rules
 
-returns : tie.Need-returns
+returns : tie.Need-returns-then-not-limits_kept
 unfolding node_in_order
-returns c = sym (head_fails _ _ (sym c.before.limits_kept.ensures ∙ not-true _ c.if1.true))
+returns c = sym (head_fails _ _ (sym c.limits_kept.ensures ∙ c.if-not-limits_kept.true))
 
-spare_in_order_requires : tie.Need-spare-in-order-requires
+spare_in_order_requires : tie.Need-spare_in_order-spare-requires
 spare_in_order_requires c κs = omega (arith, bounds _ _ (kept c))
 
-parent_in_order_requires : tie.Need-parent-in-order-requires
+parent_in_order_requires : tie.Need-parent_in_order-parent-requires
 parent_in_order_requires c κs = omega (arith, bounds _ _ (kept c.before))
 
-class_placed_requires : tie.Need-class-placed-requires
+class_placed_requires : tie.Need-class_placed-class-requires
 class_placed_requires c κs = search rules
 
-balance_within_requires : tie.Need-balance-within-requires
+balance_within_requires : tie.Need-balance_within-balance-requires
 balance_within_requires c κs = omega (arith, bounds _ _ (kept (past c)))
 
-place_within_requires : tie.Need-place-within-requires
+place_within_requires : tie.Need-place_within-rate-requires
 place_within_requires c κs = search rules
 
-returns_2 : tie.Need-returns-2
+returns_2 : tie.Need-returns
 unfolding node_in_order
 returns_2 c =
-    let tested = c.before in
+    let tested = c in
     joined_as
-    (same_tests tested.before.before.before.spare-in-order.ensures
-    (same_tests tested.before.before.parent-in-order.ensures
-    (same_tests tested.before.class-placed.ensures
-    (same_tests tested.balance-within.ensures
-    (last_test c.place-within.ensures)))))
-    ∙ sym (every_past _ _ (kept (past tested.before)))
+    (same_tests tested.spare_in_order-spare.ensures
+    (same_tests tested.parent_in_order-parent.ensures
+    (same_tests tested.class_placed-class.ensures
+    (same_tests tested.balance_within-balance.ensures
+    (last_test c.place_within-rate.ensures)))))
+    ∙ sym (every_past _ _ (kept (past tested.before.before)))
 
 pub node_in_order_spec : {M : Type 1} → statement M
 node_in_order_spec =

@@ -12,34 +12,34 @@ use Rattle.records.proofs.record_in_order.Tie as tie
 there_requires : tie.Need-there-requires
 there_requires c κs = search rules
 
-mul_zeros : tie.Need-overflow-mul-zeros
+mul_zeros : tie.Need-overflow_mul-k
 mul_zeros c = search rules
 
-add_zeros : tie.Need-overflow-add-zeros
+add_zeros : tie.Need-overflow_add-k
 add_zeros c = search rules
 
 zeros_requires : tie.Need-zeros-requires
 zeros_requires c κs = search rules
 
-returns : tie.Need-returns
+returns : tie.Need-returns-then-not-there
 unfolding record_in_order
 returns c =
-    let t = c.before.before.before.args.table.now in
-    let k = c.before.before.before.args.k in
+    let t = c.args.table.now in
+    let k = c.args.k in
     c.zeros.ensures
     ∙ record_zeros t k
-    ∙ sym (cond_false (there (tree_of t) k) _ _ (sym c.before.before.there.ensures ∙ not-true _ c.before.if1.true))
+    ∙ sym (cond_false (there (tree_of t) k) _ _ (sym c.there.ensures ∙ c.if-not-there.true))
 
-node_in_order_requires : tie.Need-node-in-order-requires
+node_in_order_requires : tie.Need-node_in_order-requires
 node_in_order_requires c κs = search rules
 
-returns_2 : tie.Need-returns-2
+returns_2 : tie.Need-returns
 unfolding record_in_order
 returns_2 c =
-    let t = c.before.before.before.args.table.now in
-    let k = c.before.before.before.args.k in
-    c.node-in-order.ensures
-    ∙ sym (cond_true (there (tree_of t) k) _ _ (sym c.before.before.there.ensures ∙ not-false _ c.before.if1.false))
+    let t = c.args.table.now in
+    let k = c.args.k in
+    c.node_in_order.ensures
+    ∙ sym (cond_true (there (tree_of t) k) _ _ (sym c.there.ensures ∙ c.if-not-there.false))
 
 pub record_in_order_spec : {M : Type 1} → statement M
 record_in_order_spec =

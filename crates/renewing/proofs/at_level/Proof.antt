@@ -19,8 +19,8 @@ returns : tie.Need-returns
 unfolding tree_of at_level
 returns c =
     joined_as
-    (same_tests c.before.there.ensures
-    (last_test (ap (λ (n : ℕ). eqb n c.before.before.args.level) c.natural.ensures)))
+    (same_tests c.there.ensures
+    (last_test (ap (λ (n : ℕ). eqb n c.args.level) c.natural.ensures)))
 
 pub at_level_spec : {M : Type 1} → statement M
 at_level_spec = tie.close (tie.spec there_requires natural_requires returns)

@@ -17,29 +17,29 @@ use Rattle.sums.proofs.NodeByNode.{sums_small, sums_same, sums_next}
 use Rattle.sums.proofs.add_one_of.Statement.{statement}
 use Rattle.sums.proofs.add_one_of.Tie as tie
 
-abbrev start : tie.Else1 → tie.Start
+abbrev start : tie.Else-not-there → tie.Start
 start c = c.before.before
 
 -- The node is there, and its parent is a node's number.
-here : (c : tie.Else1) → there (tree_of (start c).args.table.now) (start c).args.k ≡ true
-here c = sym c.before.there.ensures ∙ not-false _ c.if1.false
+here : (c : tie.Else-not-there) → there (tree_of (start c).args.table.now) (start c).args.k ≡ true
+here c = sym c.there.ensures ∙ c.if-not-there.false
 
-parent : (c : tie.After-natural) → c.natural.result < nodes
+parent : (c : tie.After-natural-c) → c.natural-c.result < nodes
 unfolding tree_of
 parent c = let pre = (start c.before).requires in omega (arith, pre.1.parent _ pre.4 (here c.before) (λ e. omega arith))
 
 -- What is known once both terms are: the table and the node of the call, the class, and what is added.
-abbrev at : tie.After-term2 → tie.Start
+abbrev at : tie.After-term → tie.Start
 at c = start c.before.before.before
 
-abbrev class : tie.After-term2 → ℕ
-class c = c.before.before.natural.result
+abbrev class : tie.After-term → ℕ
+class c = c.natural-c.result
 
-abbrev amount : tie.After-term2 → ℕ
-amount c = c.before.term.result + c.term2.result
+abbrev amount : tie.After-term → ℕ
+amount c = c.term-one.result + c.term.result
 
 -- A sum has room for the amount.
-room : (c : tie.After-term2) (which : Summand) (sums : List ℕ) → Summable which (at c).args.table.now → SumsBelow which (at c).args.table.now (at c).args.k sums → (class c < nodes) × (get_or sums (class c) 0 + amount c < 2 ^ 64)
+room : (c : tie.After-term) (which : Summand) (sums : List ℕ) → Summable which (at c).args.table.now → SumsBelow which (at c).args.table.now (at c).args.k sums → (class c < nodes) × (get_or sums (class c) 0 + amount c < 2 ^ 64)
 room c which sums s f =
     let pre = (at c).requires in
     let here = here c.before.before.before in (
@@ -47,8 +47,8 @@ room c which sums s f =
       omega (
         arith,
         pre.5,
-        c.before.term.ensures,
-        c.term2.ensures,
+        c.term-one.ensures,
+        c.term.ensures,
         pre.1.small _ pre.4 here (λ e. omega arith),
         pre.2.small _ pre.4 here (λ e. omega arith),
         sums_small _ _ s (at c).args.k (omega arith) sums f (class c) (parent c.before.before),
@@ -56,50 +56,50 @@ room c which sums s f =
     )
 
 -- A sum to which the amount is added has one node more, where the amount is its term.
-added : (c : tie.After-term2) (which : Summand) (sums : List ℕ) → amount c ≡ term which (at c).args.table.now (at c).args.k → SumsBelow which (at c).args.table.now (at c).args.k sums → SumsBelow which (at c).args.table.now ((at c).args.k + 1) (set sums (class c) (get_or sums (class c) 0 + amount c))
+added : (c : tie.After-term) (which : Summand) (sums : List ℕ) → amount c ≡ term which (at c).args.table.now (at c).args.k → SumsBelow which (at c).args.table.now (at c).args.k sums → SumsBelow which (at c).args.table.now ((at c).args.k + 1) (set sums (class c) (get_or sums (class c) 0 + amount c))
 unfolding tree_of
 added c which sums e f =
     let pre = (at c).requires in
-    sums_next _ _ _ _ _ _ (here c.before.before.before) (λ z. omega arith) (sym c.before.before.natural.ensures) (parent c.before.before) e f
+    sums_next _ _ _ _ _ _ (here c.before.before.before) (λ z. omega arith) (sym c.natural-c.ensures) (parent c.before.before) e f
 
 there_requires : tie.Need-there-requires
 there_requires c κs = search rules
 
-returns : tie.Need-returns
+returns : tie.Need-returns-then-not-there
 returns c =
-    let pre = c.before.before.requires in
-    let gone = sym c.before.there.ensures ∙ not-true _ c.if1.true in
+    let pre = c.requires in
+    let gone = sym c.there.ensures ∙ c.if-not-there.true in
     (sums_same _ _ _ _ (λ e. absurd (true_false e gone)) pre.6, sums_same _ _ _ _ (λ e. absurd (true_false e gone)) pre.7)
 
-natural_requires : tie.Need-natural-requires
+natural_requires : tie.Need-natural-c-requires
 natural_requires c κs = search rules
 
-term_requires : tie.Need-term-requires
+term_requires : tie.Need-term-one-requires
 term_requires c κs = search rules
 
-term_requires_2 : tie.Need-term-requires-2
+term_requires_2 : tie.Need-term-requires
 term_requires_2 c κs = search rules
 
-add_amount : tie.Need-overflow-add-amount
+add_amount : tie.Need-overflow_add-amount
 add_amount c = search rules
 
-add_to_requires : tie.Need-add-to-requires
-add_to_requires c κs = let known = c.before.before in let pre = (at known).requires in room known _ _ pre.1 pre.6
+add_to_requires : tie.Need-add_to-requires
+add_to_requires c κs = let known = c in let pre = (at known.before.before).requires in room known.before.before _ _ pre.1 pre.6
 
-add_to_requires_2 : tie.Need-add-to-requires-2
-add_to_requires_2 c κs = let known = c.before.before in let pre = (at known).requires in room known _ _ pre.2 pre.7
+add_to_requires_2 : tie.Need-add_to-requires-else-one-gt0
+add_to_requires_2 c κs = let known = c in let pre = (at known.before.before).requires in room known.before.before _ _ pre.2 pre.7
 
-returns_2 : tie.Need-returns-2
+returns_2 : tie.Need-returns-then-one-gt0
 returns_2 c =
-    let known = c.before.before.before in
-    let pre = (at known).requires in
-    (rw c.add-to.ensures (added known _ _ (omega (arith, pre.5, known.before.term.ensures, known.term2.ensures)) pre.6), sums_same _ _ _ _ (λ e. omega (arith, pre.5, known.before.term.ensures, known.term2.ensures)) pre.7)
+    let known = c in
+    let pre = (at known.before.before.before).requires in
+    (rw c.add_to.ensures (added known.before.before.before _ _ (omega (arith, pre.5, known.term-one.ensures, known.term.ensures)) pre.6), sums_same _ _ _ _ (λ e. omega (arith, pre.5, known.term-one.ensures, known.term.ensures)) pre.7)
 
-returns_3 : tie.Need-returns-3
+returns_3 : tie.Need-returns-else-one-gt0
 returns_3 c =
-    let known = c.before.before.before in
-    let pre = (at known).requires in
-    (sums_same _ _ _ _ (λ e. omega (arith, pre.5, known.before.term.ensures, known.term2.ensures)) pre.6, rw c.add-to2.ensures (added known _ _ (omega (arith, pre.5, known.before.term.ensures, known.term2.ensures)) pre.7))
+    let known = c in
+    let pre = (at known.before.before.before).requires in
+    (sums_same _ _ _ _ (λ e. omega (arith, pre.5, known.term-one.ensures, known.term.ensures)) pre.6, rw c.add_to-else-one-gt0.ensures (added known.before.before.before _ _ (omega (arith, pre.5, known.term-one.ensures, known.term.ensures)) pre.7))
 
 pub add_one_of_spec : {M : Type 1} → statement M
 add_one_of_spec =

@@ -17,24 +17,24 @@ use Rattle.sums.proofs.stated_wrong.Tie as tie
 false_and : (a b : Bool) → a ≡ false → (a && b) ≡ false
 false_and a b e = ap (λ (x : Bool). x && b) e
 
-returns : tie.Need-returns
+returns : tie.Need-returns-then-kind-ne-STATED
 unfolding stated_wrong_with
-returns c = sym (false_and _ _ (ne_eqb c.before.args.kind stated c.if1.true))
+returns c = sym (false_and _ _ (ne_eqb c.args.kind stated c.if-kind-ne-STATED.true))
 
-sum_with_requires : tie.Need-sum-with-requires
+sum_with_requires : tie.Need-sum_with-sum-requires
 sum_with_requires c κs = search rules
 
 natural_requires : tie.Need-natural-requires
 natural_requires c κs = search rules
 
-returns_2 : tie.Need-returns-2
+returns_2 : tie.Need-returns
 unfolding stated_wrong_with rate
 returns_2 c =
-    let start = c.before.before.before in
-    let here = eq-eqb start.args.kind stated c.before.before.if1.false in
+    let start = c in
+    let here = eq-eqb start.args.kind stated c.if-kind-ne-STATED.false in
     ap₂ (λ (r sum : ℕ). not (eqb start.args.c root) || ltb r sum)
     c.natural.ensures
-    (c.before.sum-with.ensures ∙ ap (λ (n : ℕ). stated_sum (tree_of start.args.table.now) root + n - start.args.old) (cond_true _ start.args.share 0 here))
+    (c.sum_with-sum.ensures ∙ ap (λ (n : ℕ). stated_sum (tree_of start.args.table.now) root + n - start.args.old) (cond_true _ start.args.share 0 here))
     ∙ sym (ap (λ (b : Bool). b && (not (eqb start.args.c root) || ltb (rate start.args.table.now root) (stated_sum (tree_of start.args.table.now) root + start.args.share - start.args.old))) here)
 
 pub stated_wrong_spec : {M : Type 1} → statement M

@@ -15,44 +15,44 @@ use borrow.Author.Rules.{rules}
 use Rattle.sums.proofs.sum_with.Statement.{statement}
 use Rattle.sums.proofs.sum_with.Tie as tie
 
-sum_under_requires : tie.Need-sum-under-requires
+sum_under_requires : tie.Need-sum_under-sum-requires
 sum_under_requires c κs = search rules
 
 -- The sum is that of the shares of the kind, and leaves room for one more.
-sum : (c : tie.After-sum-under) → c.sum-under.result ≡ kind_sum (tree_of c.before.args.table.now) c.before.args.summed c.before.args.c
+sum : (c : tie.After-sum_under-sum) → c.sum_under-sum.result ≡ kind_sum (tree_of c.args.table.now) c.args.summed c.args.c
 unfolding term kind_sum
-sum c = c.sum-under.ensures
+sum c = c.sum_under-sum.ensures
 
-small : (c : tie.After-sum-under) → c.sum-under.result ≤ 2 ^ 63
+small : (c : tie.After-sum_under-sum) → c.sum_under-sum.result ≤ 2 ^ 63
 small c =
-    let s = c.before in
+    let s = c in
     let which = Shares s.args.summed in
     let t = s.args.table.now in
-    omega (arith, c.sum-under.ensures, under_small which t s.requires.1 nodes s.args.c (omega arith), under_end (tree_of t) s.args.c (term which t))
+    omega (arith, c.sum_under-sum.ensures, under_small which t s.requires.1 nodes s.args.c (omega arith), under_end (tree_of t) s.args.c (term which t))
 
-add_result : tie.Need-overflow-add-result
-add_result c = omega (arith, small c.before, c.before.before.requires.3)
+add_result : tie.Need-overflow_add-result
+add_result c = omega (arith, small c.before, c.requires.3)
 
-sub_result : tie.Need-overflow-sub-result
-sub_result c = omega (arith, sum c.before, c.before.before.requires.2)
+sub_result : tie.Need-overflow_sub-result
+sub_result c = omega (arith, sum c.before, c.requires.2)
 
-returns : tie.Need-returns
+returns : tie.Need-returns-then-kind-summed
 returns c =
-    let start = c.before.before in
+    let start = c in
     ap₂ (λ (n share : ℕ). n + share - start.args.old)
     (sum c.before)
-    (sym (cond_true _ start.args.share 0 (eq-eqb start.args.kind start.args.summed c.if1.true)))
+    (sym (cond_true _ start.args.share 0 (eq-eqb start.args.kind start.args.summed c.if-kind-summed.true)))
 
-sub_result_2 : tie.Need-overflow-sub-result-2
-sub_result_2 c = omega (arith, sum c.before, c.before.before.requires.2)
+sub_result_2 : tie.Need-overflow_sub-result-2
+sub_result_2 c = omega (arith, sum c.before, c.requires.2)
 
-returns_2 : tie.Need-returns-2
+returns_2 : tie.Need-returns
 returns_2 c =
-    let start = c.before.before in
-    ap (λ (n : ℕ). n - start.args.old) (sym (add-zero c.before.sum-under.result))
+    let start = c in
+    ap (λ (n : ℕ). n - start.args.old) (sym (add-zero c.sum_under-sum.result))
     ∙ ap₂ (λ (n share : ℕ). n + share - start.args.old)
     (sum c.before)
-    (sym (cond_false _ start.args.share 0 (ne_eqb start.args.kind start.args.summed c.if1.false)))
+    (sym (cond_false _ start.args.share 0 (ne_eqb start.args.kind start.args.summed c.if-kind-summed.false)))
 
 pub sum_with_spec : {M : Type 1} → statement M
 sum_with_spec =

@@ -12,11 +12,11 @@ sum_in sums i = get_or sums i 0
 
 returns : tie.Need-returns
 returns c =
-    let third = c.before in
-    let second = third.before.before in
-    let first = second.before.before in
-    let shares = first.before.args.shares.now in
-    (ap (sum_in shares) first.sum-at.ensures.0, ap (sum_in shares) second.sum-at2.ensures.0, ap (sum_in shares) third.sum-at3.ensures.0)
+    let third = c in
+    let second = third in
+    let first = second in
+    let shares = first.args.shares.now in
+    (ap (sum_in shares) first.sum_at.ensures.0, ap (sum_in shares) second.sum_at-2.ensures.0, ap (sum_in shares) third.sum_at-3.ensures.0)
 
 pub under_spec : {M : Type 1} → statement M
 under_spec =

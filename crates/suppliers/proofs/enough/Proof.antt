@@ -9,13 +9,13 @@ use Rattle.definitions.specs.Tick.{enough}
 use Rattle.suppliers.proofs.enough.Statement.{statement}
 use Rattle.suppliers.proofs.enough.Tie as tie
 
-whole_requires : tie.Need-whole-requires
+whole_requires : tie.Need-whole-least-requires
 whole_requires c κs = search rules
 
-get_requires : tie.Need-get-requires
+get_requires : tie.Need-get-balance-requires
 get_requires c κs = search rules
 
-at_most_requires : tie.Need-at-most-requires
+at_most_requires : tie.Need-at_most-requires
 at_most_requires c κs = search rules
 
 returns : tie.Need-returns
@@ -23,8 +23,8 @@ unfolding enough balance
 returns c =
     c.at_most.ensures
     ∙ ap₂ le_z
-    (to_z-of_z w64 _ (sfits_of c.before.before.whole.type-inv) ∙ c.before.before.whole.ensures)
-    (to_z-of_z w64 _ (sfits_of c.before.get.type-inv) ∙ c.before.get.ensures)
+    (to_z-of_z w64 _ (sfits_of c.whole-least.type_inv) ∙ c.whole-least.ensures)
+    (to_z-of_z w64 _ (sfits_of c.get-balance.type_inv) ∙ c.get-balance.ensures)
 
 pub enough_spec : {M : Type 1} → statement M
 enough_spec = tie.close (tie.spec whole_requires get_requires at_most_requires returns)

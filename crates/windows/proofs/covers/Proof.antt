@@ -18,10 +18,10 @@ number_requires_2 c κs = search rules
 returns : tie.Need-returns
 unfolding covers
 returns c =
-    let args = c.before.before.args in
+    let args = c.args in
     joined_as
     (same_tests {a = true} (sym (eq-eqb (window_node args.windows.now args.i) (window_node args.windows.now args.i) refl))
-    (same_tests (ap (λ (n : ℕ). leb n args.m) c.before.number.ensures) (last_test (ap (λ (n : ℕ). ltb args.m n) c.number2.ensures))))
+    (same_tests (ap (λ (n : ℕ). leb n args.m) c.number.ensures) (last_test (ap (λ (n : ℕ). ltb args.m n) c.number-2.ensures))))
 
 pub covers_spec : {M : Type 1} → statement M
 covers_spec = tie.close (tie.spec number_requires number_requires_2 returns)

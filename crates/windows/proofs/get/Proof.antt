@@ -3,16 +3,16 @@ use borrow.Author.Rules.{rules}
 use Rattle.windows.proofs.get.Statement.{statement}
 use Rattle.windows.proofs.get.Tie as tie
 
-mul_result : tie.Need-overflow-mul-result
+mul_result : tie.Need-overflow_mul-result
 mul_result c = search rules
 
-add_result : tie.Need-overflow-add-result
+add_result : tie.Need-overflow_add-result
 add_result c = search rules
 
-mul_result_2 : tie.Need-overflow-mul-result-2
+mul_result_2 : tie.Need-offset_bounds-windows-i
 mul_result_2 c = search rules
 
-shared_slice_copy_out_result : tie.Need-shared-slice-copy-out-result
+shared_slice_copy_out_result : tie.Need-bounds-windows-i
 shared_slice_copy_out_result c = search rules
 
 returns : tie.Need-returns

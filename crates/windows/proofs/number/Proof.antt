@@ -15,7 +15,7 @@ natural_requires c κs = search rules
 
 returns : tie.Need-returns
 returns c =
-    c.natural.ensures ∙ ap plus (to_z-of_z w64 _ (sfits_of c.before.get.type-inv) ∙ c.before.get.ensures)
+    c.natural.ensures ∙ ap plus (to_z-of_z w64 _ (sfits_of c.get.type_inv) ∙ c.get.ensures)
 
 pub number_spec : {M : Type 1} → statement M
 number_spec = tie.close (tie.spec get_requires natural_requires returns)

@@ -15,8 +15,8 @@ within_requires c κs = search rules
 
 returns : tie.Need-returns
 returns c =
-    let args = c.before.before.args in
-    c.within.ensures ∙ ap (within_ℤ args.low args.high) (to_z-of_z w64 _ (sfits_of c.before.get.type-inv) ∙ c.before.get.ensures)
+    let args = c.args in
+    c.within.ensures ∙ ap (within_ℤ args.low args.high) (to_z-of_z w64 _ (sfits_of c.get.type_inv) ∙ c.get.ensures)
 
 pub number_within_spec : {M : Type 1} → statement M
 number_within_spec = tie.close (tie.spec get_requires within_requires returns)

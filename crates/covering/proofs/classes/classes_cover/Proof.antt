@@ -13,61 +13,61 @@ use Rattle.covering.proofs.Small.{sum_small, totals_sums}
 use Rattle.covering.proofs.classes.classes_cover.Statement.{statement}
 use Rattle.covering.proofs.classes.classes_cover.Tie as tie
 
-abbrev invariant_loop : tie.invariant-loop
+abbrev invariant_loop : tie.invariant-loop-c
 invariant_loop table shares depths credits debts ok₀ c₀ ok c = (c ≤ nodes) × (ok ≡ all_below c (λ c. test_if (is_class (tree_of table) c) (class_covers table) c))
 
-abbrev decreases_loop : tie.decreases-loop
+abbrev decreases_loop : tie.decreases-loop-c
 decreases_loop table shares depths credits debts ok₀ c₀ ok c = nodes - c
 
-loop_holds : tie.Need-loop-init invariant_loop decreases_loop
+loop_holds : tie.Need-loop-c-init invariant_loop decreases_loop
 unfolding all_below
 loop_holds c = (omega arith, refl)
 
-under_requires : tie.Need-under-requires invariant_loop decreases_loop
+under_requires : tie.Need-under-under-requires invariant_loop decreases_loop
 under_requires c κs = omega arith
 
-mul_class_covers : tie.Need-overflow-mul-class-covers invariant_loop decreases_loop
+mul_class_covers : tie.Need-offset_bounds-depths-c invariant_loop decreases_loop
 mul_class_covers c = omega arith
 
-element_copy_out_class_covers : tie.Need-element-copy-out-class-covers invariant_loop decreases_loop
+element_copy_out_class_covers : tie.Need-bounds-depths-c invariant_loop decreases_loop
 element_copy_out_class_covers c = omega arith
 
-mul_class_covers_2 : tie.Need-overflow-mul-class-covers-2 invariant_loop decreases_loop
+mul_class_covers_2 : tie.Need-offset_bounds-credits-c invariant_loop decreases_loop
 mul_class_covers_2 c = omega arith
 
-element_copy_out_class_covers_2 : tie.Need-element-copy-out-class-covers-2 invariant_loop decreases_loop
+element_copy_out_class_covers_2 : tie.Need-bounds-credits-c invariant_loop decreases_loop
 element_copy_out_class_covers_2 c = omega arith
 
-mul_class_covers_3 : tie.Need-overflow-mul-class-covers-3 invariant_loop decreases_loop
+mul_class_covers_3 : tie.Need-offset_bounds-debts-c invariant_loop decreases_loop
 mul_class_covers_3 c = omega arith
 
-element_copy_out_class_covers_3 : tie.Need-element-copy-out-class-covers-3 invariant_loop decreases_loop
+element_copy_out_class_covers_3 : tie.Need-bounds-debts-c invariant_loop decreases_loop
 element_copy_out_class_covers_3 c = omega arith
 
-class_covers_requires : tie.Need-class-covers-requires invariant_loop decreases_loop
+class_covers_requires : tie.Need-class_covers-ok-requires invariant_loop decreases_loop
 unfolding term
 class_covers_requires c κs =
-    let inside = c.before.before.before.before in
-    let pre = inside.before.before.requires in
-    let t = inside.before.before.args.table.now in
-    let k = inside.before.loop.c in
-    let below : k < nodes = inside.loop-test.true in
-    let under = c.before.before.before.under in
+    let inside = c in
+    let pre = inside.requires in
+    let t = inside.args.table.now in
+    let k = inside.loop-c.c in
+    let below : k < nodes = inside.loop-c-test.true in
+    let under = c.under-under in
     let sums = totals_sums _ _ _ _ _ pre.2 k below under.result under.ensures.0 under.ensures.2 in
     (pre.0, below, pre.1, sums, omega (arith, sums.credits, sum_small Credits t pre.1 k), omega (arith, sums.debts, sum_small Debts t pre.1 k))
 
-add_c : tie.Need-overflow-add-c invariant_loop decreases_loop
+add_c : tie.Need-overflow_add-c invariant_loop decreases_loop
 add_c c = omega arith
 
-loop_less : tie.Need-loop-smaller invariant_loop decreases_loop
+loop_less : tie.Need-loop-c-smaller invariant_loop decreases_loop
 loop_less c = omega arith
 
-loop_again : tie.Need-loop-preserved invariant_loop decreases_loop
-loop_again c = (omega arith, all_grows _ _ _ _ c.before.before.before.before.before.before.loop.invariant.1 c.class-covers.ensures)
+loop_again : tie.Need-loop-c-preserved invariant_loop decreases_loop
+loop_again c = (omega arith, all_grows _ _ _ _ c.loop-c.invariant.1 c.class_covers-ok.ensures)
 
 returns : tie.Need-returns invariant_loop decreases_loop
 unfolding each_class
-returns c = all_done _ _ _ _ c.before.loop.invariant.1 (omega arith)
+returns c = all_done _ _ _ _ c.loop-c.invariant.1 (omega arith)
 
 pub classes_cover_spec : {M : Type 1} → statement M
 classes_cover_spec =

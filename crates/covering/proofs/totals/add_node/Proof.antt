@@ -6,17 +6,17 @@ use Rattle.covering.proofs.Small.{summable, shareable}
 use Rattle.covering.proofs.totals.add_node.Statement.{statement}
 use Rattle.covering.proofs.totals.add_node.Tie as tie
 
-add_share_requires : tie.Need-add-share-requires
-add_share_requires c κs = let pre = c.before.requires in (pre.0, shareable _ pre.1, pre.2, pre.3, pre.4.shares)
+add_share_requires : tie.Need-add_share-requires
+add_share_requires c κs = let pre = c.requires in (pre.0, shareable _ pre.1, pre.2, pre.3, pre.4.shares)
 
-add_node_requires : tie.Need-add-node-requires
+add_node_requires : tie.Need-add_node-requires
 add_node_requires c κs =
-    let pre = c.before.before.before.requires in
+    let pre = c.requires in
     (pre.0, summable Depths _ pre.1, pre.2, pre.3, pre.4.depths)
 
-add_one_of_requires : tie.Need-add-one-of-requires
+add_one_of_requires : tie.Need-add_one_of-requires
 add_one_of_requires c κs =
-    let pre = c.before.before.before.before.before.before.requires in
+    let pre = c.requires in
     (pre.0, summable Credits _ pre.1, summable Debts _ pre.1, pre.2, pre.3, one_side _ _, pre.4.credits, pre.4.debts)
 
 returns : tie.Need-returns

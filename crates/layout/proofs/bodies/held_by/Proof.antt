@@ -4,17 +4,17 @@ use borrow.Author.Rules.{rules}
 use Rattle.layout.proofs.bodies.held_by.Statement.{statement}
 use Rattle.layout.proofs.bodies.held_by.Tie as tie
 
-enum_known_sort : tie.Need-enum-known-sort
+enum_known_sort : tie.Need-enum_known-sort
 enum_known_sort c = search rules
 
-enum_known_sort_2 : tie.Need-enum-known-sort-2
+enum_known_sort_2 : tie.Need-enum_known-sort-in-Client-1
 enum_known_sort_2 c = search rules
 
-returns : tie.Need-returns
+returns : tie.Need-returns-in-Class
 unfolding held_by
 returns c = search rules
 
-returns_2 : tie.Need-returns-2
+returns_2 : tie.Need-returns-in-Client
 unfolding held_by
 returns_2 c = search rules
 

@@ -14,53 +14,53 @@ use Rattle.layout.proofs.bodies.kind_in.Tie as tie
 kind_told : {x : Sort} {held share : Share} (make : Share → Sort) → x ≡ make held → held ≡ share → kind_in (make share) ≡ kind_in x
 kind_told make of_share is = sym (ap kind_in (of_share ∙ ap make is))
 
-enum_known_sort : tie.Need-enum-known-sort
+enum_known_sort : tie.Need-enum_known-sort
 enum_known_sort c = search rules
 
-enum_told : tie.Need-enum-told
+enum_told : tie.Need-enum_told-1
 enum_told c = search rules
 
-enum_told_2 : tie.Need-enum-told-2
+enum_told_2 : tie.Need-enum_told-in-Weighted
 enum_told_2 c = search rules
 
-enum_told_3 : tie.Need-enum-told-3
+enum_told_3 : tie.Need-enum_told-in-Stated
 enum_told_3 c = search rules
 
-enum_known_sort_2 : tie.Need-enum-known-sort-2
+enum_known_sort_2 : tie.Need-enum_known-sort-in-Client-1
 enum_known_sort_2 c = search rules
 
-enum_told_4 : tie.Need-enum-told-4
+enum_told_4 : tie.Need-enum_told-in-Fixed-share
 enum_told_4 c = search rules
 
-enum_told_5 : tie.Need-enum-told-5
+enum_told_5 : tie.Need-enum_told-in-Weighted-share
 enum_told_5 c = search rules
 
-enum_told_6 : tie.Need-enum-told-6
+enum_told_6 : tie.Need-enum_told-in-Stated-share
 enum_told_6 c = search rules
 
-returns : tie.Need-returns
+returns : tie.Need-returns-in-Fixed
 unfolding kind_in kind_of sort_in share_kind_in held_by
-returns c = (kind_told Class c.before.before.before.sort.given.1 c.enum_told.given.1, omega arith)
+returns c = (kind_told Class c.in-Class.is c.in-Fixed.is, omega arith)
 
-returns_2 : tie.Need-returns-2
+returns_2 : tie.Need-returns-in-Weighted
 unfolding kind_in kind_of sort_in share_kind_in held_by
-returns_2 c = (kind_told Class c.before.before.before.sort.given.1 c.enum-told2.given.1, omega arith)
+returns_2 c = (kind_told Class c.in-Class.is c.in-Weighted.is, omega arith)
 
-returns_3 : tie.Need-returns-3
+returns_3 : tie.Need-returns-in-Stated
 unfolding kind_in kind_of sort_in share_kind_in held_by
-returns_3 c = (kind_told Class c.before.before.before.sort.given.1 c.enum-told3.given.1, omega arith)
+returns_3 c = (kind_told Class c.in-Class.is c.in-Stated.is, omega arith)
 
-returns_4 : tie.Need-returns-4
+returns_4 : tie.Need-returns-in-Fixed-share
 unfolding kind_in kind_of sort_in share_kind_in held_by
-returns_4 c = (kind_told Client c.before.before.before.sort2.given.1 c.enum-told4.given.1, omega arith)
+returns_4 c = (kind_told Client c.in-Client.is c.in-Fixed-share.is, omega arith)
 
-returns_5 : tie.Need-returns-5
+returns_5 : tie.Need-returns-in-Weighted-share
 unfolding kind_in kind_of sort_in share_kind_in held_by
-returns_5 c = (kind_told Client c.before.before.before.sort2.given.1 c.enum-told5.given.1, omega arith)
+returns_5 c = (kind_told Client c.in-Client.is c.in-Weighted-share.is, omega arith)
 
-returns_6 : tie.Need-returns-6
+returns_6 : tie.Need-returns-in-Stated-share
 unfolding kind_in kind_of sort_in share_kind_in held_by
-returns_6 c = (kind_told Client c.before.before.before.sort2.given.1 c.enum-told6.given.1, omega arith)
+returns_6 c = (kind_told Client c.in-Client.is c.in-Stated-share.is, omega arith)
 
 pub kind_in_spec : {M : Type 1} → statement M
 kind_in_spec =

@@ -4,17 +4,17 @@ use borrow.Author.Rules.{rules}
 use Rattle.layout.proofs.bodies.sort_number.Statement.{statement}
 use Rattle.layout.proofs.bodies.sort_number.Tie as tie
 
-enum_told : tie.Need-enum-told
+enum_told : tie.Need-enum_told-1
 enum_told c = search rules
 
-enum_told_2 : tie.Need-enum-told-2
+enum_told_2 : tie.Need-enum_told-in-Client
 enum_told_2 c = search rules
 
-returns : tie.Need-returns
+returns : tie.Need-returns-in-Class
 unfolding sort_in
 returns c = search rules
 
-returns_2 : tie.Need-returns-2
+returns_2 : tie.Need-returns-in-Client
 unfolding sort_in
 returns_2 c = search rules
 

@@ -8,16 +8,16 @@ use Rattle.layout.proofs.bytes.four.Tie as tie
 pair_requires : tie.Need-pair-requires
 pair_requires c κs = search rules
 
-add_pair : tie.Need-overflow-add-pair
+add_pair : tie.Need-overflow_add-i
 add_pair c = search rules
 
 pair_requires_2 : tie.Need-pair-requires-2
 pair_requires_2 c κs = search rules
 
-mul_result : tie.Need-overflow-mul-result
+mul_result : tie.Need-overflow_mul-result
 mul_result c = search rules
 
-add_result : tie.Need-overflow-add-result
+add_result : tie.Need-overflow_add-result
 add_result c = search rules
 
 returns : tie.Need-returns

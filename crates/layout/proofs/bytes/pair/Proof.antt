@@ -8,16 +8,16 @@ use Rattle.layout.proofs.bytes.pair.Tie as tie
 byte_requires : tie.Need-byte-requires
 byte_requires c κs = search rules
 
-add_byte : tie.Need-overflow-add-byte
+add_byte : tie.Need-overflow_add-i
 add_byte c = search rules
 
 byte_requires_2 : tie.Need-byte-requires-2
 byte_requires_2 c κs = search rules
 
-mul_result : tie.Need-overflow-mul-result
+mul_result : tie.Need-overflow_mul-result
 mul_result c = search rules
 
-add_result : tie.Need-overflow-add-result
+add_result : tie.Need-overflow_add-result
 add_result c = search rules
 
 returns : tie.Need-returns

@@ -18,7 +18,7 @@ natural_requires c κs = search rules
 returns : tie.Need-returns
 unfolding count
 returns c =
-    c.natural.ensures ∙ ap plus (to_z-of_z w64 _ (sfits_of c.before.heading.type-inv) ∙ c.before.heading.ensures)
+    c.natural.ensures ∙ ap plus (to_z-of_z w64 _ (sfits_of c.heading.type_inv) ∙ c.heading.ensures)
 
 pub count_spec : {M : Type 1} → statement M
 count_spec = tie.close (tie.spec heading_requires natural_requires returns)

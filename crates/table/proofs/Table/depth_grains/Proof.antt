@@ -15,7 +15,7 @@ grains_requires c κs = search rules
 
 returns : tie.Need-returns
 unfolding depth_grains
-returns c = c.grains.ensures ∙ ap (λ (n : ℕ). n * grain_scale) c.before.natural.ensures
+returns c = c.grains.ensures ∙ ap (λ (n : ℕ). n * grain_scale) c.natural.ensures
 
 pub depth_grains_spec : {M : Type 1} → statement M
 depth_grains_spec = tie.close (tie.spec natural_requires grains_requires returns)

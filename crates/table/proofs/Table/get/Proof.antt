@@ -4,19 +4,19 @@ use borrow.Author.Rules.{rules}
 use Rattle.table.proofs.Table.get.Statement.{statement}
 use Rattle.table.proofs.Table.get.Tie as tie
 
-mul_result : tie.Need-overflow-mul-result
+mul_result : tie.Need-overflow_mul-result
 mul_result c = search rules
 
-add_result : tie.Need-overflow-add-result
+add_result : tie.Need-overflow_add-result
 add_result c = search rules
 
-add_result_2 : tie.Need-overflow-add-result-2
+add_result_2 : tie.Need-overflow_add-result-2
 add_result_2 c = search rules
 
-mul_result_2 : tie.Need-overflow-mul-result-2
+mul_result_2 : tie.Need-offset_bounds-table-k
 mul_result_2 c = search rules
 
-shared_slice_copy_out_result : tie.Need-shared-slice-copy-out-result
+shared_slice_copy_out_result : tie.Need-bounds-table-k
 shared_slice_copy_out_result c = search rules
 
 returns : tie.Need-returns

@@ -4,10 +4,10 @@ use borrow.Author.Rules.{rules}
 use Rattle.table.proofs.Table.heading.Statement.{statement}
 use Rattle.table.proofs.Table.heading.Tie as tie
 
-mul_result : tie.Need-overflow-mul-result
+mul_result : tie.Need-offset_bounds-table-p
 mul_result c = search rules
 
-shared_slice_copy_out_result : tie.Need-shared-slice-copy-out-result
+shared_slice_copy_out_result : tie.Need-bounds-table-p
 shared_slice_copy_out_result c = search rules
 
 returns : tie.Need-returns

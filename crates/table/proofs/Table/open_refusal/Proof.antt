@@ -11,30 +11,30 @@ use borrow.Author.Rules.{rules}
 use Rattle.table.proofs.Table.open_refusal.Statement.{statement}
 use Rattle.table.proofs.Table.open_refusal.Tie as tie
 
-returns : tie.Need-returns
+returns : tie.Need-returns-then-table-ne-LENGTH
 unfolding open_refusal
-returns c = (sym (first_here 1 _ _ (ap not (ne_eqb _ _ c.if1.true))), omega arith)
+returns c = (sym (first_here 1 _ _ (ap not (ne_eqb _ _ c.if-table-ne-LENGTH.true))), omega arith)
 
-open_limits_requires : tie.Need-open-limits-requires
+open_limits_requires : tie.Need-open_limits-requires
 open_limits_requires c κs = search rules
 
-returns_2 : tie.Need-returns-2
+returns_2 : tie.Need-returns-then-not-open_limits
 unfolding open_refusal
 returns_2 c =
-    let start = c.before.before.before in (
+    let start = c in (
       sym
-          (first_past 1 _ _ (ap not (eq-eqb _ _ c.before.before.if1.false))
-          ∙ first_here 2 _ _ (ap not (sym (rw (to_z-of_z w64 _ start.ranges.rate, to_z-of_z w64 _ start.ranges.depth) at c.before.open-limits.ensures) ∙ not-true _ c.if2.true))),
+          (first_past 1 _ _ (ap not (eq-eqb _ _ c.if-table-ne-LENGTH.false))
+          ∙ first_here 2 _ _ (ap not (sym (rw (to_z-of_z w64 _ start.ranges.rate, to_z-of_z w64 _ start.ranges.depth) at c.open_limits.ensures) ∙ c.if-not-open_limits.true))),
       omega arith,
     )
 
-returns_3 : tie.Need-returns-3
+returns_3 : tie.Need-returns
 unfolding open_refusal
 returns_3 c =
-    let start = c.before.before.before in (
+    let start = c in (
       sym
-          (first_past 1 _ _ (ap not (eq-eqb _ _ c.before.before.if1.false))
-          ∙ first_past 2 _ _ (ap not (sym (rw (to_z-of_z w64 _ start.ranges.rate, to_z-of_z w64 _ start.ranges.depth) at c.before.open-limits.ensures) ∙ not-false _ c.if2.false))
+          (first_past 1 _ _ (ap not (eq-eqb _ _ c.if-table-ne-LENGTH.false))
+          ∙ first_past 2 _ _ (ap not (sym (rw (to_z-of_z w64 _ start.ranges.rate, to_z-of_z w64 _ start.ranges.depth) at c.open_limits.ensures) ∙ c.if-not-open_limits.false))
           ∙ first_end),
       omega arith,
     )

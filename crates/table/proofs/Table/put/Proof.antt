@@ -4,22 +4,22 @@ use borrow.Author.Rules.{rules}
 use Rattle.table.proofs.Table.put.Statement.{statement}
 use Rattle.table.proofs.Table.put.Tie as tie
 
-mul_v : tie.Need-overflow-mul-v
+mul_v : tie.Need-overflow_mul-v
 mul_v c = search rules
 
-add_v : tie.Need-overflow-add-v
+add_v : tie.Need-overflow_add-v
 add_v c = search rules
 
-add_v_2 : tie.Need-overflow-add-v-2
+add_v_2 : tie.Need-overflow_add-v-2
 add_v_2 c = search rules
 
-mul_v_2 : tie.Need-overflow-mul-v-2
+mul_v_2 : tie.Need-offset_bounds-table-k
 mul_v_2 c = search rules
 
-slice_set_from_v : tie.Need-slice-set-from-v
+slice_set_from_v : tie.Need-bounds-table-k
 slice_set_from_v c = search rules
 
-same_length : tie.Need-same-length
+same_length : tie.Need-shape_of-table
 same_length c = search rules
 
 returns : tie.Need-returns

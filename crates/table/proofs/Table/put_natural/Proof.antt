@@ -14,12 +14,12 @@ whole_requires c κs = search rules
 put_requires : tie.Need-put-requires
 put_requires c κs = search rules
 
-same_length : tie.Need-same-length
+same_length : tie.Need-shape_of-table
 same_length c = search rules
 
 returns : tie.Need-returns
 returns c =
-    c.before.put.ensures ∙ ap (put _ _ _) (to_z-of_z w64 _ (sfits_of c.before.before.whole.type-inv) ∙ c.before.before.whole.ensures)
+    c.put.ensures ∙ ap (put _ _ _) (to_z-of_z w64 _ (sfits_of c.whole.type_inv) ∙ c.whole.ensures)
 
 pub put_natural_spec : {M : Type 1} → statement M
 put_natural_spec = tie.close (tie.spec whole_requires put_requires same_length returns)

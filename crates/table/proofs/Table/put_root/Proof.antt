@@ -8,10 +8,10 @@ use borrow.Author.Rules.{rules}
 use Rattle.table.proofs.Table.put_root.Statement.{statement}
 use Rattle.table.proofs.Table.put_root.Tie as tie
 
-put_natural_requires : tie.Need-put-natural-requires
+put_natural_requires : tie.Need-put_natural-requires
 put_natural_requires c κs = search rules
 
-put_natural_requires_2 : tie.Need-put-natural-requires-2
+put_natural_requires_2 : tie.Need-put_natural-requires-2
 put_natural_requires_2 c κs = search rules
 
 put_requires : tie.Need-put-requires
@@ -20,20 +20,20 @@ put_requires c κs = search rules
 put_requires_2 : tie.Need-put-requires-2
 put_requires_2 c κs = search rules
 
-same_length : tie.Need-same-length
+same_length : tie.Need-shape_of-table
 same_length c = search rules
 
 returns : tie.Need-returns
 unfolding opened
 returns c =
-    let rated = c.before in
-    let deep = rated.before.before.before in
-    let shared = deep.before.before.before in
-    let sorted = shared.before.before.before in
-    let start = sorted.before.before in
-    put_then root rate_at rated.put2.ensures (to_z-of_z start.ranges.rate)
+    let rated = c in
+    let deep = rated in
+    let shared = deep in
+    let sorted = shared in
+    let start = sorted in
+    put_then root rate_at rated.put-2.ensures (to_z-of_z start.ranges.rate)
     (put_then root depth_at deep.put.ensures (to_z-of_z start.ranges.depth)
-    (put_then root share_at shared.put-natural2.ensures refl (put_then root sort_at sorted.put-natural.ensures refl start.requires.1)))
+    (put_then root share_at shared.put_natural-2.ensures refl (put_then root sort_at sorted.put_natural.ensures refl start.requires.1)))
 
 pub put_root_spec : {M : Type 1} → statement M
 put_root_spec =

@@ -11,11 +11,11 @@ get_requires : tie.Need-get-requires
 get_requires c κs = search rules
 
 unsigned_requires : tie.Need-unsigned-requires
-unsigned_requires c κs = ap minus (to_z-of_z w64 _ (sfits_of c.get.type-inv) ∙ c.get.ensures) ∙ c.before.requires.3
+unsigned_requires c κs = ap minus (to_z-of_z w64 _ (sfits_of c.get.type_inv) ∙ c.get.ensures) ∙ c.requires.3
 
 returns : tie.Need-returns
 returns c =
-    c.unsigned.ensures ∙ ap plus (to_z-of_z w64 _ (sfits_of c.before.get.type-inv) ∙ c.before.get.ensures)
+    c.unsigned.ensures ∙ ap plus (to_z-of_z w64 _ (sfits_of c.get.type_inv) ∙ c.get.ensures)
 
 pub unsigned_spec : {M : Type 1} → statement M
 unsigned_spec = tie.close (tie.spec get_requires unsigned_requires returns)

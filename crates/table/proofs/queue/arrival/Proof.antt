@@ -4,13 +4,13 @@ use borrow.Author.Rules.{rules}
 use Rattle.table.proofs.queue.arrival.Statement.{statement}
 use Rattle.table.proofs.queue.arrival.Tie as tie
 
-mul_natural : tie.Need-overflow-mul-natural
+mul_natural : tie.Need-overflow_mul-i
 mul_natural c = search rules
 
-add_natural : tie.Need-overflow-add-natural
+add_natural : tie.Need-overflow_add-i
 add_natural c = search rules
 
-add_natural_2 : tie.Need-overflow-add-natural-2
+add_natural_2 : tie.Need-overflow_add-i-2
 add_natural_2 c = search rules
 
 natural_requires : tie.Need-natural-requires

@@ -18,8 +18,8 @@ returns : tie.Need-returns
 unfolding tree_of child_of
 returns c =
     joined_as
-    (same_tests c.before.there.ensures
-    (same_tests refl (last_test (ap (λ (n : ℕ). eqb n c.before.before.args.c) c.natural.ensures))))
+    (same_tests c.there.ensures
+    (same_tests refl (last_test (ap (λ (n : ℕ). eqb n c.args.c) c.natural.ensures))))
 
 pub child_of_spec : {M : Type 1} → statement M
 child_of_spec = tie.close (tie.spec there_requires natural_requires returns)

@@ -7,13 +7,13 @@ use Rattle.view.proofs.Viewed.{viewed}
 use Rattle.view.proofs.parts.entry_in.Statement.{statement}
 use Rattle.view.proofs.parts.entry_in.Tie as tie
 
-node_at_requires : tie.Need-node-at-requires
-node_at_requires c κs = viewed _ _ _ _ c.before.requires.0 (omega arith)
+node_at_requires : tie.Need-node_at-listed-requires
+node_at_requires c κs = viewed _ _ _ _ c.requires.0 (omega arith)
 
 returns : tie.Need-returns
 unfolding entry_by
 returns c =
-    let same = c.node_at.ensures.0 in
+    let same = c.node_at-listed.ensures.0 in
     record {
       node = ap (λ (e : Entry). e.node) same;
       parent = ap (λ (e : Entry). e.parent) same;
