@@ -8,20 +8,20 @@ use Rattle.cells.proofs.add_window.Tie as tie
 reaches_requires : tie.Need-reaches-requires
 reaches_requires c κs = search rules
 
-returns : tie.Need-returns
+returns : tie.Need-returns-then-not-reaches
 returns c =
-    let start = c.before.before in
+    let start = c in
     let ws = start.args.windows.now in
-    let far = beyond ws start.args.i start.args.first start.requires.2.rises (sym c.before.reaches.ensures ∙ not-true _ c.if1.true) in
+    let far = beyond ws start.args.i start.args.first start.requires.2.rises (sym c.reaches.ensures ∙ c.if-not-reaches.true) in
     (beyond_filled ws start.args.i start.args.first far start.args.cells.now start.requires.0, beyond_marked ws start.args.i start.args.first far start.args.turns.now start.requires.1)
 
-mark_window_requires : tie.Need-mark-window-requires
+mark_window_requires : tie.Need-mark_window-requires
 mark_window_requires c κs = search rules
 
-fill_window_requires : tie.Need-fill-window-requires
+fill_window_requires : tie.Need-fill_window-requires
 fill_window_requires c κs = search rules
 
-returns_2 : tie.Need-returns-2
+returns_2 : tie.Need-returns
 returns_2 c = search rules
 
 pub add_window_spec : {M : Type 1} → statement M

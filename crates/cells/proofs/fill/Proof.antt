@@ -13,15 +13,15 @@ use Rattle.cells.proofs.Covered.{not_between, fill_more}
 use Rattle.cells.proofs.fill.Statement.{statement}
 use Rattle.cells.proofs.fill.Tie as tie
 
-abbrev invariant_loop : tie.invariant-loop
+abbrev invariant_loop : tie.invariant-loop-x
 invariant_loop cells₀ from to v clear₀ x₀ cells clear x =
     (from ≤ x) × (x ≤ to) × (length cells ≡ cell_count) × ((y : ℕ) → get_or cells y 0 ≡ cond (between from x y) v (get_or cells₀ y 0))
     × (clear ≡ all_below (x - from) (λ i. eqb (get_or cells₀ (from + i) 0) 0))
 
-abbrev decreases_loop : tie.decreases-loop
+abbrev decreases_loop : tie.decreases-loop-x
 decreases_loop cells₀ from to v clear₀ x₀ cells clear x = to - x
 
-loop_holds : tie.Need-loop-init invariant_loop decreases_loop
+loop_holds : tie.Need-loop-x-init invariant_loop decreases_loop
 unfolding all_below
 loop_holds c = (
   omega arith,
@@ -31,28 +31,28 @@ loop_holds c = (
   all_done 0 (c.args.from - c.args.from) _ _ refl (omega arith),
 )
 
-mul_clear : tie.Need-overflow-mul-clear invariant_loop decreases_loop
+mul_clear : tie.Need-offset_bounds-cells-x invariant_loop decreases_loop
 mul_clear c = search rules
 
-element_copy_out_clear : tie.Need-element-copy-out-clear invariant_loop decreases_loop
+element_copy_out_clear : tie.Need-bounds-cells-x invariant_loop decreases_loop
 element_copy_out_clear c = search rules
 
-mul_cells : tie.Need-overflow-mul-cells invariant_loop decreases_loop
+mul_cells : tie.Need-offset_bounds-cells-x-in-loop-x invariant_loop decreases_loop
 mul_cells c = search rules
 
-element_write_cells : tie.Need-element-write-cells invariant_loop decreases_loop
+element_write_cells : tie.Need-bounds-cells-x-in-loop-x invariant_loop decreases_loop
 element_write_cells c = search rules
 
-add_x : tie.Need-overflow-add-x invariant_loop decreases_loop
+add_x : tie.Need-overflow_add-x invariant_loop decreases_loop
 add_x c = omega arith
 
-loop_less : tie.Need-loop-smaller invariant_loop decreases_loop
+loop_less : tie.Need-loop-x-smaller invariant_loop decreases_loop
 loop_less c = omega arith
 
-loop_again : tie.Need-loop-preserved invariant_loop decreases_loop
+loop_again : tie.Need-loop-x-preserved invariant_loop decreases_loop
 loop_again c =
-    let at = c.before.before.loop in
-    let args = c.before.before.before.args in
+    let at = c.loop-x in
+    let args = c.args in
     let old : ℕ → Bool = λ y. eqb (get_or args.cells.now y 0) 0 in
     let here : args.from + (at.x - args.from) ≡ at.x = omega arith in
     let same = at.invariant.3 at.x ∙ cond_false _ args.v _ (not_between args.from at.x at.x (λ h. omega arith)) in (
@@ -66,8 +66,8 @@ loop_again c =
 
 returns : tie.Need-returns invariant_loop decreases_loop
 returns c =
-    let at = c.before.loop in
-    let args = c.before.before.args in
+    let at = c.loop-x in
+    let args = c.args in
     let end : at.x ≡ args.to = omega arith in
     record {
       long = at.invariant.2;

@@ -17,13 +17,13 @@ mark_requires_2 c κs = search rules
 
 returns : tie.Need-returns
 returns c =
-    let start = c.before.before.before.before.before.before in
+    let start = c in
     let args = start.args in
-    let ends = c.before in
-    let started = ends.before.before in
+    let ends = c in
+    let started = ends in
     both_marked args.windows.now args.first args.i _ _ _
-    (rw started.before.number.ensures at started.mark.ensures)
-    (rw ends.number2.ensures at c.mark2.ensures)
+    (rw started.number.ensures at started.mark.ensures)
+    (rw ends.number-2.ensures at c.mark-2.ensures)
 
 pub mark_window_spec : {M : Type 1} → statement M
 mark_window_spec =

@@ -13,14 +13,14 @@ number_requires c κs = search rules
 number_requires_2 : tie.Need-number-requires-2
 number_requires_2 c κs = search rules
 
-add_starts : tie.Need-overflow-add-starts
+add_starts : tie.Need-overflow_add-starts
 add_starts c = search rules
 
 returns : tie.Need-returns
 unfolding reaches
 returns c =
-    let args = c.before.before.args in
-    joined_as (same_tests (ap (leb args.first) c.before.number.ensures) (last_test (ap (λ (n : ℕ). ltb n (args.first + part_minutes)) c.number2.ensures)))
+    let args = c.args in
+    joined_as (same_tests (ap (leb args.first) c.number.ensures) (last_test (ap (λ (n : ℕ). ltb n (args.first + part_minutes)) c.number-2.ensures)))
 
 pub reaches_spec : {M : Type 1} → statement M
 reaches_spec = tie.close (tie.spec number_requires number_requires_2 add_starts returns)

@@ -31,39 +31,39 @@ both a b ha hb =
     outcome_accepted _ _ (first_past 1 (not (every (in_order a ∷ in_order b ∷ []))) [] (ap not (holds_with _ _ ha (holds_with _ _ hb none_left))) ∙ first_end)
 
 -- From the second test back to the first.
-abbrev passed : tie.Else2 → tie.Else1
+abbrev passed : tie.Else-not-in_order-2 → tie.Else-not-in_order
 passed c = c.before.before
 
-first_order : (c : tie.Else1) → let s = c.before.before in in_order s.args.first.now ≡ true
-first_order c = sym c.before.in_order.ensures ∙ not-false _ c.if1.false
+first_order : (c : tie.Else-not-in_order) → let s = c.before.before in in_order s.args.first.now ≡ true
+first_order c = sym c.in_order.ensures ∙ c.if-not-in_order.false
 
-second_order : (c : tie.Else2) → let s = (passed c).before.before in in_order s.args.second.now ≡ true
-second_order c = sym c.before.in-order2.ensures ∙ not-false _ c.if2.false
+second_order : (c : tie.Else-not-in_order-2) → let s = (passed c).before.before in in_order s.args.second.now ≡ true
+second_order c = sym c.in_order-2.ensures ∙ c.if-not-in_order-2.false
 
-in_order_requires : tie.Need-in-order-requires
+in_order_requires : tie.Need-in_order-requires
 in_order_requires c κs = search rules
 
-returns : tie.Need-returns
+returns : tie.Need-returns-then-not-in_order
 unfolding told_compared
-returns c = sym (not_both _ _ (head_fails _ _ (sym c.before.in_order.ensures ∙ not-true _ c.if1.true)))
+returns c = sym (not_both _ _ (head_fails _ _ (sym c.in_order.ensures ∙ c.if-not-in_order.true)))
 
-in_order_requires_2 : tie.Need-in-order-requires-2
+in_order_requires_2 : tie.Need-in_order-requires-2
 in_order_requires_2 c κs = search rules
 
-returns_2 : tie.Need-returns-2
+returns_2 : tie.Need-returns-then-not-in_order-2
 unfolding told_compared
-returns_2 c = sym (not_both _ _ (rest_fail _ _ (head_fails _ _ (sym c.before.in-order2.ensures ∙ not-true _ c.if2.true))))
+returns_2 c = sym (not_both _ _ (rest_fail _ _ (head_fails _ _ (sym c.in_order-2.ensures ∙ c.if-not-in_order-2.true))))
 
-same_tree_requires : tie.Need-same-tree-requires
+same_tree_requires : tie.Need-same_tree-requires
 same_tree_requires c κs = (long _ (first_order (passed c)), long _ (second_order c))
 
-returns_3 : tie.Need-returns-3
+returns_3 : tie.Need-returns-then-same_tree
 unfolding told_compared
-returns_3 c = sym (both _ _ (first_order (passed c.before.before)) (second_order c.before.before) ∙ ap (λ (z : ℤ). accepted (z ∷ [])) (cond_true _ (pos 1) (pos 0) (sym c.before.same_tree.ensures ∙ c.if3.true)))
+returns_3 c = sym (both _ _ (first_order (passed c.before.before)) (second_order c.before.before) ∙ ap (λ (z : ℤ). accepted (z ∷ [])) (cond_true _ (pos 1) (pos 0) (sym c.same_tree.ensures ∙ c.if-same_tree.true)))
 
-returns_4 : tie.Need-returns-4
+returns_4 : tie.Need-returns
 unfolding told_compared
-returns_4 c = sym (both _ _ (first_order (passed c.before.before)) (second_order c.before.before) ∙ ap (λ (z : ℤ). accepted (z ∷ [])) (cond_false _ (pos 1) (pos 0) (sym c.before.same_tree.ensures ∙ c.if3.false)))
+returns_4 c = sym (both _ _ (first_order (passed c.before.before)) (second_order c.before.before) ∙ ap (λ (z : ℤ). accepted (z ∷ [])) (cond_false _ (pos 1) (pos 0) (sym c.same_tree.ensures ∙ c.if-same_tree.false)))
 
 pub same_spec : {M : Type 1} → statement M
 same_spec =

@@ -10,38 +10,38 @@ use Rattle.definitions.specs.Places.{place}
 use Rattle.comparing.proofs.same_nodes.Statement.{statement}
 use Rattle.comparing.proofs.same_nodes.Tie as tie
 
-abbrev invariant_loop : tie.invariant-loop
+abbrev invariant_loop : tie.invariant-loop-k
 invariant_loop first second same₀ k₀ same k =
     (k ≤ nodes) × (same ≡ all_below k (λ j. all_below rate_at (λ q. same_ℤ (place first j q) (place second j q))))
 
-abbrev decreases_loop : tie.decreases-loop
+abbrev decreases_loop : tie.decreases-loop-k
 decreases_loop first second same₀ k₀ same k = nodes - k
 
-loop_holds : tie.Need-loop-init invariant_loop decreases_loop
+loop_holds : tie.Need-loop-k-init invariant_loop decreases_loop
 unfolding all_below
 loop_holds c = (omega arith, refl)
 
-same_node_requires : tie.Need-same-node-requires invariant_loop decreases_loop
+same_node_requires : tie.Need-same_node-same-requires invariant_loop decreases_loop
 same_node_requires c κs = omega arith
 
-add_k : tie.Need-overflow-add-k invariant_loop decreases_loop
+add_k : tie.Need-overflow_add-k invariant_loop decreases_loop
 add_k c = omega arith
 
-loop_less : tie.Need-loop-smaller invariant_loop decreases_loop
+loop_less : tie.Need-loop-k-smaller invariant_loop decreases_loop
 loop_less c = omega arith
 
-loop_again : tie.Need-loop-preserved invariant_loop decreases_loop
+loop_again : tie.Need-loop-k-preserved invariant_loop decreases_loop
 loop_again c =
-    let start = c.before.before.before in
-    let at = c.before.before.loop in (
+    let start = c in
+    let at = c.loop-k in (
       omega arith,
-      all_grows at.k (λ j. all_below rate_at (λ q. same_ℤ (place start.args.first.now j q) (place start.args.second.now j q))) _ _ at.invariant.1 c.same_node.ensures,
+      all_grows at.k (λ j. all_below rate_at (λ q. same_ℤ (place start.args.first.now j q) (place start.args.second.now j q))) _ _ at.invariant.1 c.same_node-same.ensures,
     )
 
 returns : tie.Need-returns invariant_loop decreases_loop
 returns c =
-    let start = c.before.before.args in
-    all_done c.before.loop.k nodes (λ j. all_below rate_at (λ q. same_ℤ (place start.first.now j q) (place start.second.now j q))) _ c.before.loop.invariant.1 (omega arith)
+    let start = c.args in
+    all_done c.loop-k.k nodes (λ j. all_below rate_at (λ q. same_ℤ (place start.first.now j q) (place start.second.now j q))) _ c.loop-k.invariant.1 (omega arith)
 
 pub same_nodes_spec : {M : Type 1} → statement M
 same_nodes_spec =

@@ -4,7 +4,7 @@ use Rattle.draws.specs.Draws.{upper}
 use Rattle.draws.proofs.upper.Statement.{statement}
 use Rattle.draws.proofs.upper.Tie as tie
 
-cast_result : tie.Need-overflow-cast-result
+cast_result : tie.Need-overflow_cast-result
 cast_result c = search rules
 
 returns : tie.Need-returns

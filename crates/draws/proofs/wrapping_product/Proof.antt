@@ -4,10 +4,10 @@ use Rattle.draws.proofs.Draws.{product_fits}
 use Rattle.draws.proofs.wrapping_product.Statement.{statement}
 use Rattle.draws.proofs.wrapping_product.Tie as tie
 
-mul_product : tie.Need-overflow-mul-product
+mul_product : tie.Need-overflow_mul-product
 mul_product c = omega (arith, product_fits c.args.a c.args.b (omega arith) (omega arith))
 
-cast_result : tie.Need-overflow-cast-result
+cast_result : tie.Need-overflow_cast-result
 cast_result c = search rules
 
 returns : tie.Need-returns

@@ -19,94 +19,94 @@ use Rattle.order.proofs.in_order.Statement.{statement}
 use Rattle.order.proofs.in_order.Tie as tie
 
 -- From the test of the records back to that of the length, and the table.
-abbrev measured : tie.After-records-in-order → tie.Else1
+abbrev measured : tie.After-records_in_order-each → tie.Else-table-ne-LENGTH
 measured c = c.before.before.before
 
-abbrev table : tie.After-records-in-order → List ℤ
-table c = (measured c).before.args.table.now
+abbrev table : tie.After-records_in_order-each → List ℤ
+table c = (measured c).args.table.now
 
 -- What is known past each test.
-long : (c : tie.Else2) → length (table c.before) ≡ table_length
-long c = (measured c.before).if1.false
+long : (c : tie.Else-not-header-root) → length (table c.before) ≡ table_length
+long c = (measured c.before).if-table-ne-LENGTH.false
 
-shaped : (c : tie.Else2) → (c.before.before.before.header-in-order.result && c.before.before.root-in-order.result && c.before.records-in-order.result) ≡ true
-shaped c = not-false _ c.if2.false
+shaped : (c : tie.Else-not-header-root) → (c.header_in_order-header.result && c.root_in_order-root.result && c.records_in_order-each.result) ≡ true
+shaped c = c.if-not-header-root.false
 
-header : (c : tie.Else2) → header_in_order (table c.before) ≡ true
-header c = sym c.before.before.before.header-in-order.ensures ∙ and_left c.before.before.before.header-in-order.result _ (and_left _ c.before.records-in-order.result (shaped c))
+header : (c : tie.Else-not-header-root) → header_in_order (table c.before) ≡ true
+header c = sym c.header_in_order-header.ensures ∙ and_left c.header_in_order-header.result _ (and_left _ c.records_in_order-each.result (shaped c))
 
-root : (c : tie.Else2) → root_in_order (table c.before) ≡ true
-root c = sym c.before.before.root-in-order.ensures ∙ and_right c.before.before.before.header-in-order.result _ (and_left _ c.before.records-in-order.result (shaped c))
+root : (c : tie.Else-not-header-root) → root_in_order (table c.before) ≡ true
+root c = sym c.root_in_order-root.ensures ∙ and_right c.header_in_order-header.result _ (and_left _ c.records_in_order-each.result (shaped c))
 
-records : (c : tie.Else2) → records_in_order (table c.before) ≡ true
-records c = sym c.before.records-in-order.ensures ∙ and_right (c.before.before.before.header-in-order.result && c.before.before.root-in-order.result) _ (shaped c)
+records : (c : tie.Else-not-header-root) → records_in_order (table c.before) ≡ true
+records c = sym c.records_in_order-each.ensures ∙ and_right (c.header_in_order-header.result && c.root_in_order-root.result) _ (shaped c)
 
 -- From the sums back to the records, and from past the test of the classes to the sums.
-abbrev shaped_at : tie.After-totals → tie.Else2
+abbrev shaped_at : tie.After-totals → tie.Else-not-header-root
 shaped_at c = c.before.before.before.before.before
 
-abbrev summed : tie.After-debts2 → tie.After-totals
+abbrev summed : tie.After-debts-2-1 → tie.After-totals
 summed c = c.before.before.before.before
 
-abbrev past : tie.Else3 → tie.Else2
+abbrev past : tie.Else-not-classes_cover → tie.Else-not-header-root
 past c = shaped_at (summed c.before.before)
 
-covered : (c : tie.Else3) → let t = table (past c).before in each_class (tree_of t) (class_covers t) ≡ true
-covered c = sym c.before.classes-cover.ensures ∙ not-false _ c.if3.false
+covered : (c : tie.Else-not-classes_cover) → let t = table (past c).before in each_class (tree_of t) (class_covers t) ≡ true
+covered c = sym c.classes_cover.ensures ∙ c.if-not-classes_cover.false
 
-returns : tie.Need-returns
+returns : tie.Need-returns-then-table-ne-LENGTH
 returns c =
-    let t = c.before.args.table.now in
-    out_of_order_law t (eqb (length t) table_length) (λ s. eq-eqb (length t) table_length s.long) (ne_eqb (length t) table_length c.if1.true)
+    let t = c.args.table.now in
+    out_of_order_law t (eqb (length t) table_length) (λ s. eq-eqb (length t) table_length s.long) (ne_eqb (length t) table_length c.if-table-ne-LENGTH.true)
 
-header_in_order_requires : tie.Need-header-in-order-requires
+header_in_order_requires : tie.Need-header_in_order-header-requires
 header_in_order_requires c κs = search rules
 
-root_in_order_requires : tie.Need-root-in-order-requires
+root_in_order_requires : tie.Need-root_in_order-root-requires
 root_in_order_requires c κs = search rules
 
-records_in_order_requires : tie.Need-records-in-order-requires
+records_in_order_requires : tie.Need-records_in_order-each-requires
 records_in_order_requires c κs = search rules
 
-returns_2 : tie.Need-returns-2
+returns_2 : tie.Need-returns-then-not-header-root
 returns_2 c =
-    let header = c.before.before.before.header-in-order in
-    let root = c.before.before.root-in-order in
-    let each = c.before.records-in-order in
+    let header = c.header_in_order-header in
+    let root = c.root_in_order-root in
+    let each = c.records_in_order-each in
     out_of_order_law _ (header.result && root.result && each.result)
     (λ s. and_true (header.result && root.result) each.result (and_true header.result root.result (header.ensures ∙ s.header) (root.ensures ∙ s.root)) (each.ensures ∙ s.records))
-    (not-true _ c.if2.true)
+    c.if-not-header-root.true
 
 totals_requires : tie.Need-totals-requires
-totals_requires c κs = let shaped = c.before.before.before.before in (long shaped, records shaped, totals_start _)
+totals_requires c κs = let shaped = c in (long shaped.before.before.before.before, records shaped.before.before.before.before, totals_start _)
 
-classes_cover_requires : tie.Need-classes-cover-requires
+classes_cover_requires : tie.Need-classes_cover-requires
 classes_cover_requires c κs =
     let sums = summed c in
     (long (shaped_at sums), records (shaped_at sums), sums.totals.ensures)
 
-returns_3 : tie.Need-returns-3
-returns_3 c = out_of_order_law _ c.before.classes-cover.result (λ s. c.before.classes-cover.ensures ∙ s.classes) (not-true _ c.if3.true)
+returns_3 : tie.Need-returns-then-not-classes_cover
+returns_3 c = out_of_order_law _ c.classes_cover.result (λ s. c.classes_cover.ensures ∙ s.classes) c.if-not-classes_cover.true
 
-rates_in_order_requires : tie.Need-rates-in-order-requires
+rates_in_order_requires : tie.Need-rates_in_order-rates-requires
 rates_in_order_requires c κs =
-    let covers = c.before in
-    let shaped = past covers in
-    let sums = (summed covers.before.before).totals.ensures in
-    (testable _ (long shaped) (root shaped) (records shaped) (covered covers), sums.shares)
+    let covers = c in
+    let shaped = past covers.before in
+    let sums = (summed covers.before.before.before).totals.ensures in
+    (testable _ (long shaped) (root shaped) (records shaped) (covered covers.before), sums.shares)
 
-queues_in_order_requires : tie.Need-queues-in-order-requires
+queues_in_order_requires : tie.Need-queues_in_order-queues-requires
 queues_in_order_requires c κs =
     let shaped = past c.before.before in
     (long shaped, waiting_small _ (records shaped), depth_small _ (records shaped))
 
 -- The last two tests, in whichever order the code joins them.
-returns_4 : tie.Need-returns-4
+returns_4 : tie.Need-returns
 returns_4 c =
-    let covers = c.before.before.before in
-    let shaped = past covers in
-    let rates = c.before.rates_in_order in
-    let queues = c.queues-in-order in
+    let covers = c in
+    let shaped = past covers.before.before.before in
+    let rates = c.rates_in_order-rates in
+    let queues = c.queues_in_order-queues in
     same_truth _ (in_order (table shaped.before))
     (λ h.
     let are_rates : rates.result ≡ true = search (and_left, and_right, h) in
@@ -117,7 +117,7 @@ returns_4 c =
       header = header shaped;
       root = root shaped;
       records = records shaped;
-      classes = covered covers;
+      classes = covered covers.before.before.before;
       rates = sym rates.ensures ∙ are_rates;
       queues = sym queues.ensures ∙ are_queues;
     }))

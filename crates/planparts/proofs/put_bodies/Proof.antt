@@ -14,45 +14,45 @@ use borrow.Author.Rules.{rules}
 use Rattle.planparts.proofs.put_bodies.Statement.{statement}
 use Rattle.planparts.proofs.put_bodies.Tie as tie
 
-abbrev invariant_loop : tie.invariant-loop
+abbrev invariant_loop : tie.invariant-loop-i
 invariant_loop table edition listed n buffer₀ i₀ buffer i =
     (i ≤ n) × (buffer ≡ written buffer₀ (entry_at edition n) (bytes_below i (body_bytes edition (plan_of table)))) × (length buffer ≡ length buffer₀)
 
-abbrev decreases_loop : tie.decreases-loop
+abbrev decreases_loop : tie.decreases-loop-i
 decreases_loop table edition listed n buffer₀ i₀ buffer i = n - i
 
-loop_holds : tie.Need-loop-init invariant_loop decreases_loop
+loop_holds : tie.Need-loop-i-init invariant_loop decreases_loop
 loop_holds c =
-    let p = plan_of c.before.args.table.now in
-    let e = c.before.args.edition in
-    (omega arith, sym (pieces_none (body_length e) (body_bytes e p) (length_body e p) c.before.args.buffer.now (entry_at e c.before.args.n)), refl)
+    let p = plan_of c.args.table.now in
+    let e = c.args.edition in
+    (omega arith, sym (pieces_none (body_length e) (body_bytes e p) (length_body e p) c.args.buffer.now (entry_at e c.args.n)), refl)
 
-put_body_requires : tie.Need-put-body-requires invariant_loop decreases_loop
-put_body_requires c κs = let at = c.before.before in (at.before.before.requires.0, omega arith, omega arith)
+put_body_requires : tie.Need-put_body-requires invariant_loop decreases_loop
+put_body_requires c κs = let at = c in (at.requires.0, omega arith, omega arith)
 
-add_i : tie.Need-overflow-add-i invariant_loop decreases_loop
+add_i : tie.Need-overflow_add-i invariant_loop decreases_loop
 add_i c = search rules
 
-loop_less : tie.Need-loop-smaller invariant_loop decreases_loop
+loop_less : tie.Need-loop-i-smaller invariant_loop decreases_loop
 loop_less c = search rules
 
-loop_again : tie.Need-loop-preserved invariant_loop decreases_loop
+loop_again : tie.Need-loop-i-preserved invariant_loop decreases_loop
 loop_again c =
-    let call = c.before.before in
-    let at = call.before.before.before in
-    let start = at.before.before in
+    let call = c in
+    let at = call in
+    let start = at in
     let p = plan_of start.args.table.now in
     let e = start.args.edition in
-    (omega arith, pieces_next (body_length e) (body_bytes e p) (length_body e p) _ (entry_at e start.args.n) at.loop.i _ _ _ (omega (arith, start.requires.1, body_within e start.args.n at.loop.i (omega arith))) (omega arith) at.loop.invariant.1 call.put-body.ensures, search rules)
+    (omega arith, pieces_next (body_length e) (body_bytes e p) (length_body e p) _ (entry_at e start.args.n) at.loop-i.i _ _ _ (omega (arith, start.requires.1, body_within e start.args.n at.loop-i.i (omega arith))) (omega arith) at.loop-i.invariant.1 call.put_body.ensures, search rules)
 
-same_length : tie.Need-same-length invariant_loop decreases_loop
+same_length : tie.Need-shape_of-buffer invariant_loop decreases_loop
 same_length c = search rules
 
 returns : tie.Need-returns invariant_loop decreases_loop
 returns c =
-    let start = c.before.before.before in
-    let end : c.before.loop.i ≡ start.args.n = omega arith in
-    c.before.loop.invariant.1 ∙ ap (λ (i : ℕ). written start.args.buffer.now (entry_at start.args.edition start.args.n) (bytes_below i (body_bytes start.args.edition (plan_of start.args.table.now)))) end
+    let start = c in
+    let end : c.loop-i.i ≡ start.args.n = omega arith in
+    c.loop-i.invariant.1 ∙ ap (λ (i : ℕ). written start.args.buffer.now (entry_at start.args.edition start.args.n) (bytes_below i (body_bytes start.args.edition (plan_of start.args.table.now)))) end
 
 pub put_bodies_spec : {M : Type 1} → statement M
 put_bodies_spec =

@@ -18,29 +18,29 @@ use Rattle.planparts.proofs.put_head.Tie as tie
 head_as : {r d n rate depth count : ℕ} (b m : List ℕ) → r ≡ rate → d ≡ depth → n ≡ count → written b 0 (m ++ (bytes4 r ++ bytes4 d ++ (n ∷ []))) ≡ written b 0 (m ++ (bytes4 rate ++ bytes4 depth ++ (count ∷ [])))
 head_as b m e f g = rw (e, f, g)
 
-natural_requires : tie.Need-natural-requires
+natural_requires : tie.Need-natural-rate-requires
 natural_requires c κs = search rules
 
-natural_requires_2 : tie.Need-natural-requires-2
+natural_requires_2 : tie.Need-natural-depth-requires
 natural_requires_2 c κs = search rules
 
-put_head_requires : tie.Need-put-head-requires
+put_head_requires : tie.Need-put_head-requires
 unfolding plan_of
 put_head_requires c κs =
-    let read = c.before in
-    let start = read.before.before.before in
+    let read = c in
+    let start = read in
     (omega arith, omega (arith, start.requires.1, order_short (tree_of start.args.table.now)))
 
-same_length : tie.Need-same-length
+same_length : tie.Need-shape_of-buffer
 same_length c = search rules
 
 returns : tie.Need-returns
 unfolding head_bytes plan_of rate tree_of
 returns c =
-    let put = c.before.before in
-    let read = put.before.before in
-    let start = read.before.before.before in
-    put.put-head.ensures ∙ head_as start.args.buffer.now (mark_bytes start.args.edition) read.before.natural.ensures read.natural2.ensures start.requires.1
+    let put = c in
+    let read = put in
+    let start = read in
+    put.put_head.ensures ∙ head_as start.args.buffer.now (mark_bytes start.args.edition) read.natural-rate.ensures read.natural-depth.ensures start.requires.1
 
 pub put_head_spec : {M : Type 1} → statement M
 put_head_spec =

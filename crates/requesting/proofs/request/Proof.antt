@@ -20,61 +20,61 @@ use Rattle.requesting.proofs.request.Statement.{statement}
 use Rattle.requesting.proofs.request.Tie as tie
 
 -- The number is that of the definition.
-number : (c : tie.After-request-refusal) → let s = c.before.before in c.request-refusal.result ≡ request_refusal s.args.table.now s.args.client s.args.tag s.args.size
+number : (c : tie.After-request_refusal-number) → let s = c.before in c.request_refusal-number.result ≡ request_refusal s.args.table.now s.args.client s.args.tag s.args.size
 number c =
-    let s = c.before.before in
-    rw (to_z-of_z w64 s.args.client s.ranges.client, to_z-of_z w64 s.args.tag s.ranges.tag, to_z-of_z w64 s.args.size s.ranges.size) at c.request-refusal.ensures.0
+    let s = c in
+    rw (to_z-of_z w64 s.args.client s.ranges.client, to_z-of_z w64 s.args.tag s.ranges.tag, to_z-of_z w64 s.args.size s.ranges.size) at c.request_refusal-number.ensures.0
 
-none : (c : tie.Else1) → let s = c.before.before.before in request_refusal s.args.table.now s.args.client s.args.tag s.args.size ≡ 0
-none c = sym (number c.before) ∙ c.if1.false
+none : (c : tie.Else-number-ne0) → let s = c.before.before in request_refusal s.args.table.now s.args.client s.args.tag s.args.size ≡ 0
+none c = sym (number c.before) ∙ c.if-number-ne0.false
 
-abbrev start : tie.Else1 → tie.Start
-start c = c.before.before.before
+abbrev start : tie.Else-number-ne0 → tie.Start
+start c = c.before.before
 
-room : (c : tie.Else1) → let s = start c in Room s.args.table.now (plus s.args.client)
+room : (c : tie.Else-number-ne0) → let s = start c in Room s.args.table.now (plus s.args.client)
 room c = accepted_room _ _ _ _ (none c)
 
 -- The client and its new arrival number, where the request is accepted.
-abbrev accepts : tie.After-natural → tie.Else1
-accepts c = c.before.before.before.before
+abbrev accepts : tie.After-natural → tie.Else-number-ne0
+accepts c = c.before.before.before
 
 client : (c : tie.After-natural) → c.natural.result ≡ plus (start (accepts c)).args.client
 client c = natural_of c.natural.ensures (start (accepts c)).ranges.client
 
-arrival : (c : tie.After-count) → let s = start c.before.before in c.count.result + 1 ≡ suc (count s.args.table.now)
-arrival c = add-one c.count.result ∙ ap suc c.count.ensures
+arrival : (c : tie.After-count-arrival) → let s = start c.before in c.count-arrival.result + 1 ≡ suc (count s.args.table.now)
+arrival c = add-one c.count-arrival.result ∙ ap suc c.count-arrival.ensures
 
-returns : tie.Need-returns
+returns : tie.Need-returns-then-number-ne0
 unfolding request_answer request_table
 returns c =
-    let ne = c.before.if1.true in
+    let ne = c.if-number-ne0.true in
     let same = number c.before.before in (
       c.answered.ensures ∙ outcome_refused _ _ ne ∙ ap refused same ∙ sym (outcome_refused _ _ (λ e. ne (same ∙ e))),
       sym (kept_old _ _ _ (λ e. ne (same ∙ e))),
     )
 
-add_arrival : tie.Need-overflow-add-arrival
-add_arrival c = let r = (room c.before.before).numbers in omega (arith, r, c.count.ensures)
+add_arrival : tie.Need-overflow_add-arrival
+add_arrival c = let r = (room c.before).numbers in omega (arith, r, c.count-arrival.ensures)
 
-write_request_requires : tie.Need-write-request-requires
+write_request_requires : tie.Need-write_request-requires
 write_request_requires c κs = let r = room (accepts c) in (r.long, omega (arith, client c, r.node), rw (client c) r.places, omega (arith, r.numbers))
 
 whole_requires : tie.Need-whole-requires
 whole_requires c κs =
-    let natural = c.before.before in
-    let r = (room (accepts natural)).numbers in
-    omega (arith, r, natural.before.before.count.ensures)
+    let natural = c in
+    let r = (room (accepts natural.before.before)).numbers in
+    omega (arith, r, natural.count-arrival.ensures)
 
-returns_2 : tie.Need-returns-2
+returns_2 : tie.Need-returns
 unfolding told request_answer request_table
 returns_2 c =
-    let written = c.before.before in
-    let natural = written.before in
-    let s = start (accepts natural) in
-    let zero = none (accepts natural) in (
-      ap (λ (z : ℤ). accepted (z ∷ [])) (to_z-of_z w64 c.whole.result (sfits_of c.whole.type-inv) ∙ c.whole.ensures ∙ ap pos (arrival natural.before.before))
+    let written = c in
+    let natural = written in
+    let s = start (accepts natural.before.before.before) in
+    let zero = none (accepts natural.before.before.before) in (
+      ap (λ (z : ℤ). accepted (z ∷ [])) (to_z-of_z w64 c.whole.result (sfits_of c.whole.type_inv) ∙ c.whole.ensures ∙ ap pos (arrival natural.before.before.before.before.before))
           ∙ sym (outcome_accepted _ _ zero),
-      rw (client natural, to_z-of_z w64 s.args.tag s.fits.tag, to_z-of_z w64 s.args.size s.fits.size) at written.write-request.ensures
+      rw (client natural.before.before.before, to_z-of_z w64 s.args.tag s.fits.tag, to_z-of_z w64 s.args.size s.fits.size) at written.write_request.ensures
           ∙ sym (kept_new _ _ _ zero),
     )
 

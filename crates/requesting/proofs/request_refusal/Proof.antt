@@ -1,6 +1,6 @@
 -- `requesting::request_refusal` meets its contract: client and size within their limits are the natural numbers by which the
 -- rest of the causes goes.
-use mathlib.Core.Path.{◌≡◌, ap₂, ◌∙◌}
+use mathlib.Core.Path.{◌≡◌, ap₂, ◌∙◌, sym}
 use mathlib.Core.Bool.{true}
 use native.Mathlib.Omega.{arith}
 use lib.IntN.{ℤ, pos}
@@ -13,38 +13,38 @@ use Rattle.definitions.proofs.Refusals.{causes, found, holds, number_of_law, lea
 use Rattle.requesting.proofs.request_refusal.Statement.{statement}
 use Rattle.requesting.proofs.request_refusal.Tie as tie
 
-abbrev start : tie.Else2 → tie.Start
+abbrev start : tie.Else-not-request_limits → tie.Start
 start c = c.before.before.before.before
 
-fits : (c : tie.After-request-limits) → let a = c.before.before.before.args in c.request-limits.result ≡ request_limits a.client a.size
+fits : (c : tie.After-request_limits) → let a = c.args in c.request_limits.result ≡ request_limits a.client a.size
 fits c =
-    let s = c.before.before.before.ranges in
-    rw (to_z-of_z w64 _ s.client, to_z-of_z w64 _ s.size) at c.request-limits.ensures
+    let s = c.ranges in
+    rw (to_z-of_z w64 _ s.client, to_z-of_z w64 _ s.size) at c.request_limits.ensures
 
-within : (c : tie.Else2) → let a = (start c).args in request_limits a.client a.size ≡ true
-within c = holds (fits c.before) c.if2.false
+within : (c : tie.Else-not-request_limits) → let a = (start c).args in request_limits a.client a.size ≡ true
+within c = holds (fits c.before) c.if-not-request_limits.false
 
 -- The numbers that the code goes on with are the arguments.
-same : (c : tie.After-natural2) → let a = (start c.before.before).args in (pos c.before.natural.result ≡ a.client) × (pos c.natural2.result ≡ a.size)
+same : (c : tie.After-natural-2) → let a = (start c.before.before).args in (pos c.natural.result ≡ a.client) × (pos c.natural-2.result ≡ a.size)
 unfolding request_limits
 same c =
-    let second = c.before.before in
-    let s = (start second).ranges in
-    let l = within second in (
-      number_of_law 0 last_node c.before.natural.ensures s.client (head_holds _ _ l),
-      least_of 1 c.natural2.ensures s.size (head_holds _ _ (rest_hold _ _ l)),
+    let second = c in
+    let s = (start second.before.before).ranges in
+    let l = within second.before.before in (
+      number_of_law 0 last_node c.natural.ensures s.client (head_holds _ _ l),
+      least_of 1 c.natural-2.ensures s.size (head_holds _ _ (rest_hold _ _ l)),
     )
 
-tree_refusal_requires : tie.Need-tree-refusal-requires
+tree_refusal_requires : tie.Need-tree_refusal-requires
 tree_refusal_requires c κs =
-    let second = c.before.before in
-    let first = second.before.before in
-    (holds first.before.in_order.ensures first.if1.false, rw ((same c).0, (same c).1) (within second))
+    let second = c in
+    let first = second in
+    ((sym first.in_order.ensures ∙ first.if-not-in_order.false), rw ((same c).0, (same c).1) (within second.before.before))
 
-returns_3 : tie.Need-returns-3
+returns_3 : tie.Need-returns
 unfolding request_refusal
 returns_3 c =
-    let e = c.tree-refusal.ensures in
+    let e = c.tree_refusal.ensures in
     let p = same c.before in
     let t = (start c.before.before.before).args.table.now in
     (e.0 ∙ ap₂ (λ (z w : ℤ). request_refusal t z (pos 0) w) p.0 p.1, e.1)

@@ -1,7 +1,7 @@
 -- `requesting::tree_refusal` meets its contract: each test is what its cause says. `search` goes through the causes by the
 -- tests that the code made on the way.
 use Prim.Native.Nat.{ℕ, ◌≤◌, ◌<◌}
-use mathlib.Core.Path.{◌≡◌, ap, ◌∙◌}
+use mathlib.Core.Path.{◌≡◌, ap, ◌∙◌, sym}
 use mathlib.Core.Bool.{true}
 use mathlib.Core.List.{List}
 use native.Mathlib.Omega.{arith}
@@ -33,13 +33,13 @@ depth_most t h k hk e = omega (arith, zarith, ((facts t h).limits k hk e).depth)
 
 above_requires : tie.Need-above-requires
 above_requires c κs =
-    let first = c.before.before.before in
-    let start = first.before.before in
+    let first = c in
+    let start = first in
     let a = start.args in
     omega (
       arith,
-      c.natural.ensures,
-      depth_most a.table.now start.requires.0 a.k (low a.k a.size start.requires.1) (holds first.before.there.ensures first.if1.false),
+      c.natural-depth.ensures,
+      depth_most a.table.now start.requires.0 a.k (low a.k a.size start.requires.1) ((sym first.there.ensures ∙ first.if-not-there.false)),
     )
 
 abbrev start : tie.After-above → tie.Start
@@ -47,7 +47,7 @@ start c = c.before.before.before.before.before.before
 
 -- The test of the cost is that of cause 8.
 costly : (c : tie.After-above) → let a = (start c).args in c.above.result ≡ ltb (plus (place a.table.now a.k depth_at)) (cost a.size)
-costly c = c.above.ensures ∙ ap (λ (n : ℕ). ltb n (cost (start c).args.size)) c.before.natural.ensures
+costly c = c.above.ensures ∙ ap (λ (n : ℕ). ltb n (cost (start c).args.size)) c.natural-depth.ensures
 
 pub tree_refusal_spec : {M : Type 1} → statement M
 unfolding request_refusal request_limits tree_of waiting plus

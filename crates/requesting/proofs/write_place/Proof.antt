@@ -11,14 +11,14 @@ use Rattle.requesting.proofs.write_place.Tie as tie
 
 returns : tie.Need-returns
 returns c =
-    let arrival = c.before in
-    let size = arrival.before.before.before in
-    let tag = size.before.before.before in
-    let start = tag.before.before in
+    let arrival = c in
+    let size = arrival in
+    let tag = size in
+    let start = tag in
     let k = start.args.k in
     let place = queue_place start.args.i in
-    put_then k (place + arrival_at) arrival.put-natural.ensures refl
-    (put_then k (place + size_at) size.put2.ensures (to_z-of_z start.ranges.size)
+    put_then k (place + arrival_at) arrival.put_natural.ensures refl
+    (put_then k (place + size_at) size.put-2.ensures (to_z-of_z start.ranges.size)
     (put_then k (place + tag_at) tag.put.ensures (to_z-of_z start.ranges.tag) refl))
 
 pub write_place_spec : {M : Type 1} → statement M

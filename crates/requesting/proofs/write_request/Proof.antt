@@ -29,17 +29,17 @@ together t t₁ t₂ t₃ k w n tag size hw hn h₁ h₂ h₃ = cc (add-one w, a
 
 returns : tie.Need-returns
 returns c =
-    let header = c.before in
-    let waits = header.before.before.before in
-    let place = waits.before.before.before in
-    let number = place.before.before in
-    let old = number.before.before in
-    let s = old.before.before in
+    let header = c in
+    let waits = header in
+    let place = waits in
+    let number = place in
+    let old = number in
+    let s = old in
     together s.args.table.now _ _ _ s.args.k _ _ s.args.tag s.args.size
-    old.natural.ensures
-    number.count.ensures
-    (rw (to_z-of_z w64 _ s.ranges.tag, to_z-of_z w64 _ s.ranges.size) at place.write-place.ensures)
-    waits.put-natural.ensures
+    old.natural-waiting.ensures
+    number.count-number.ensures
+    (rw (to_z-of_z w64 _ s.ranges.tag, to_z-of_z w64 _ s.ranges.size) at place.write_place.ensures)
+    waits.put_natural.ensures
     header.put_count.ensures
 
 pub write_request_spec : {M : Type 1} → statement M

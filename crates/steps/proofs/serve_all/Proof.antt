@@ -16,7 +16,7 @@ use Rattle.steps.proofs.Serving.{passed}
 use Rattle.steps.proofs.serve_all.Statement.{statement}
 use Rattle.steps.proofs.serve_all.Tie as tie
 
-abbrev invariant_loop : tie.invariant-loop
+abbrev invariant_loop : tie.invariant-loop-k
 invariant_loop table₀ first₀ second₀ written₀ k₀ table first second written k =
     (k ≤ nodes)
     × (length table ≡ length table₀)
@@ -24,51 +24,51 @@ invariant_loop table₀ first₀ second₀ written₀ k₀ table first second wr
     × (length second ≡ length second₀)
     × Shows (port table₀) first₀ second₀ (for_below k serving (record { table = table₀; entries = [] })) table first second written
 
-abbrev decreases_loop : tie.decreases-loop
+abbrev decreases_loop : tie.decreases-loop-k
 decreases_loop table₀ first₀ second₀ written₀ k₀ table first second written k = nodes - k
 
 -- From the call back to the loop.
-abbrev at : tie.After-serve-arg3 invariant_loop decreases_loop → tie.At-loop invariant_loop decreases_loop
+abbrev at : tie.After-serve-arg-in-loop-k-2-1 invariant_loop decreases_loop → tie.At-loop-k invariant_loop decreases_loop
 at c = c.before.before.before.before
 
-loop_holds : tie.Need-loop-init invariant_loop decreases_loop
+loop_holds : tie.Need-loop-k-init invariant_loop decreases_loop
 unfolding for_below
 loop_holds c = (omega arith, refl, refl, refl, shows_first _ _ _ _ refl refl c.requires.1 c.requires.2)
 
-serve_requires : tie.Need-serve-requires invariant_loop decreases_loop
+serve_requires : tie.Need-serve-written-requires invariant_loop decreases_loop
 serve_requires c κs =
-    let start = (at c).before in
-    let at = (at c).loop in
-    let shows = at.inv.4 in
-    (passed _ start.pre.0 at.k at.inv.0 _ shows.table, omega arith, rw shows.table shows.first.room, rw shows.table shows.second.room)
+    let start = (at c) in
+    let at = (at c).loop-k in
+    let shows = at.invariant.4 in
+    (passed _ start.requires.0 at.k at.invariant.0 _ shows.table, omega arith, rw shows.table shows.first.room, rw shows.table shows.second.room)
 
-add_k : tie.Need-overflow-add-k invariant_loop decreases_loop
+add_k : tie.Need-overflow_step-k invariant_loop decreases_loop
 add_k c = omega arith
 
-loop_less : tie.Need-loop-smaller invariant_loop decreases_loop
+loop_less : tie.Need-loop-k-smaller invariant_loop decreases_loop
 loop_less c = omega arith
 
-loop_again : tie.Need-loop-preserved invariant_loop decreases_loop
+loop_again : tie.Need-loop-k-preserved invariant_loop decreases_loop
 loop_again c =
-    let served = c.before.before.before in
-    let at = (at served.before).loop in
-    let made = served.serve in
-    (omega arith, made.auto.0 ∙ at.inv.1, made.auto.1.0 ∙ at.inv.2, made.auto.1.1.0 ∙ at.inv.3, rw (for_next at.k serving _) (made.ensures.shows _ _ _ _ at.inv.4))
+    let served = c in
+    let at = (at served.before.before.before.before).loop-k in
+    let made = served.serve-written in
+    (omega arith, made.auto.table ∙ at.invariant.1, made.auto.first ∙ at.invariant.2, made.auto.second ∙ at.invariant.3, rw (for_next at.k serving _) (made.ensures.shows _ _ _ _ at.invariant.4))
 
-same_length : tie.Need-same-length invariant_loop decreases_loop
-same_length c = c.before.loop.invariant.1
+same_length : tie.Need-shape_of-table invariant_loop decreases_loop
+same_length c = c.loop-k.invariant.1
 
-same_length_2 : tie.Need-same-length-2 invariant_loop decreases_loop
-same_length_2 c = c.before.loop.invariant.2
+same_length_2 : tie.Need-shape_of-first invariant_loop decreases_loop
+same_length_2 c = c.loop-k.invariant.2
 
-same_length_3 : tie.Need-same-length-3 invariant_loop decreases_loop
-same_length_3 c = c.before.loop.invariant.3
+same_length_3 : tie.Need-shape_of-second invariant_loop decreases_loop
+same_length_3 c = c.loop-k.invariant.3
 
 returns : tie.Need-returns invariant_loop decreases_loop
 unfolding served_all serving
 returns c =
-    let end : c.before.loop.k ≡ nodes = omega arith in
-    rw end at c.before.loop.invariant.4
+    let end : c.loop-k.k ≡ nodes = omega arith in
+    rw end at c.loop-k.invariant.4
 
 pub serve_all_spec : {M : Type 1} → statement M
 serve_all_spec =
