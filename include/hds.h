@@ -44,10 +44,10 @@
  *                not. Every call is safe on such a table, and most such tables pass as in order. Where a table must
  *                outlive a stop, make the call on a copy and then point to the copy; the manual has the steps.
  *
- * LINKING. libcabinet.a has all calls but hds_plan_check, which is in libplan.a; `rt staticlib cabinet` and
- * `rt staticlib plan` write them to target/staticlib/. They need memcpy and memset, libplan.a memset alone, and nothing
- * else, have no data that is written, use no heap, no recursion, no floating point, no red zone and no registers beyond
- * SSE2, and can stand at any address.
+ * LINKING. libcabinet.a has all calls but hds_plan_check, which is in libplan.a; `tools/build cabinet plan` writes
+ * them to target/staticlib/. They need memcpy and memset, libplan.a memset alone, and nothing else, have no data that is
+ * written, use no heap, no recursion, no floating point, no red zone and no registers beyond SSE2, and can stand at any
+ * address.
  */
 #ifndef HDS_H
 #define HDS_H

@@ -1,4 +1,4 @@
-//! Links the archives of the repository's target/staticlib, which `rt staticlib cabinet` and `rt staticlib plan` write.
+//! Links the archives of the repository's target/staticlib, which `tools/build cabinet plan` writes.
 
 use std::path::Path;
 
