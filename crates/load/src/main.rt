@@ -5,8 +5,14 @@
 ghost use Rattle.std.specs.Prelude.{◌≡◌, false, ◌≤◌};
 ghost use Rattle.loadformat.specs.Parts.{opening, ticks_allowed, part_of};
 
-use libc::{STDERR_FILENO, STDIN_FILENO, STDOUT_FILENO};
 use table::Table;
+
+// The numbers of the standard streams.
+const STDIN: i32 = 0;
+
+const STDOUT: i32 = 1;
+
+const STDERR: i32 = 2;
 
 // Up to which tick the text was handed on to be written, and whether writing failed.
 #[derive(Clone, Copy)]
@@ -20,7 +26,7 @@ fn send_opening(part: &[u8], input: &[u8]) -> Sent
     requires { part.now ≡ opening input.now }
     ensures { result.tick ≡ 0 }
 {
-    let failed = !io::write_all(STDOUT_FILENO, part);
+    let failed = !io::write_all(STDOUT, part);
     Sent { tick: 0, failed }
 }
 
@@ -29,7 +35,7 @@ fn send_part(part: &[u8], input: &[u8], sent: Sent, last: u64) -> Sent
     requires { (sent.tick ≤ last) × (part.now ≡ part_of input.now sent.tick last) }
     ensures { result.tick ≡ last }
 {
-    let failed = !io::write_all(STDOUT_FILENO, part);
+    let failed = !io::write_all(STDOUT, part);
     Sent { tick: last, failed }
 }
 
@@ -48,12 +54,12 @@ fn send(input: &[u8]) -> Sent
     sent
 }
 
-// Of an input the first 4096 bytes are read: with more, its text is the same (`first-bytes`, loadformat/proofs/Inputs.antt).
+// Of an input the first 4096 bytes are read: with more, its text is the same (`first_bytes`, loadformat/proofs/Inputs.antt).
 fn main() {
     let mut input = io::buffer();
-    let n = io::read_full(STDIN_FILENO, &mut input);
+    let n = io::read_full(STDIN, &mut input);
     let sent = send(&input[..n]);
     if sent.failed {
-        io::write_all(STDERR_FILENO, b"load: cannot write\n");
+        io::write_all(STDERR, b"load: cannot write\n");
     }
 }

@@ -5,19 +5,22 @@
 ghost use Rattle.std.specs.Prelude.{◌≡◌};
 ghost use Rattle.report.specs.Text.{report_of};
 
-use libc::{STDIN_FILENO, STDOUT_FILENO};
+// The numbers of the standard streams.
+const STDIN: i32 = 0;
+
+const STDOUT: i32 = 1;
 
 // Hands on the text of a plan to be written.
 fn send(text: &[u8], contents: &[u8])
     requires { text.now ≡ report_of contents.now }
 {
-    io::write_all(STDOUT_FILENO, text);
+    io::write_all(STDOUT, text);
 }
 
-// Of an input the first 4096 bytes are read: with more, its text is the same (`first-bytes`, report/proofs/Texts.antt).
+// Of an input the first 4096 bytes are read: with more, its text is the same (`first_bytes`, report/proofs/Texts.antt).
 fn main() {
     let mut contents = io::buffer();
-    let n = io::read_full(STDIN_FILENO, &mut contents);
+    let n = io::read_full(STDIN, &mut contents);
     let mut text = io::buffer();
     let length = report::report(&contents[..n], &mut text);
     send(&text[..length], &contents[..n]);

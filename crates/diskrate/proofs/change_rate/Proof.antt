@@ -25,20 +25,20 @@ use Rattle.diskrate.proofs.change_rate.Statement.{statement}
 use Rattle.diskrate.proofs.change_rate.Tie as tie
 
 -- The number is that of the definition.
-number : (c : tie.After-change_rate_refusal-cause) → let s = c.before in c.change_rate_refusal-cause.result ≡ change_rate_refusal s.args.table.now s.args.rate
+number : (c : tie.After-change_rate_refusal-cause) → let s = c in c.change_rate_refusal-cause.result ≡ change_rate_refusal s.args.table.now s.args.rate
 number c = let s = c in rw (to_z-of_z w64 s.args.rate s.ranges.rate) at c.change_rate_refusal-cause.ensures.0
 
-accepted : (c : tie.Else-cause-ne0) → let s = c.before.before in change_rate_refusal s.args.table.now s.args.rate ≡ 0
+accepted : (c : tie.Else-cause-ne0) → let s = c in change_rate_refusal s.args.table.now s.args.rate ≡ 0
 accepted c = sym (number c.before) ∙ c.if-cause-ne0.false
 
 abbrev accepts : tie.After-put → tie.Else-cause-ne0
 accepts c = c.before.before
 
 -- What is written.
-written : (c : tie.After-put) → let s = (accepts c).before.before.before in c.put.new.0 ≡ put s.args.table.now root rate_at s.args.rate
+written : (c : tie.After-put) → let s = (accepts c) in c.put.new.table ≡ put s.args.table.now root rate_at s.args.rate
 written c = let s = (accepts c) in rw (to_z-of_z w64 s.args.rate s.ranges.rate) at c.put.ensures
 
-in_order_law : (c : tie.Else-cause-ne0) → let s = c.before.before in in_order (renewed (put s.args.table.now root rate_at s.args.rate)) ≡ true
+in_order_law : (c : tie.Else-cause-ne0) → let s = c in in_order (renewed (put s.args.table.now root rate_at s.args.rate)) ≡ true
 unfolding change_rate_table
 in_order_law c = subst (λ (u : List ℤ). in_order u ≡ true) (kept_new _ _ _ (accepted c)) (change_rate_keeps _ _ (accepted c))
 

@@ -1,6 +1,6 @@
 -- `looking::look_refusal` meets its contract: each test is what its cause says. `search` goes through the causes by the tests
 -- that the code made on the way.
-use mathlib.Core.Path.{◌≡◌, ap, ◌∙◌}
+use mathlib.Core.Path.{◌≡◌, ap, ◌∙◌, sym}
 use native.Mathlib.Omega.{arith}
 use mir.Facts.{to_z-of_z}
 use Rattle.numbers.specs.Whole.{plus, within_ℤ}
@@ -12,22 +12,22 @@ use Rattle.definitions.proofs.Passed.{long, below}
 use Rattle.looking.proofs.look_refusal.Statement.{statement}
 use Rattle.looking.proofs.look_refusal.Tie as tie
 
-abbrev start : tie.Else2 → tie.Start
+abbrev start : tie.Else-not-within → tie.Start
 start c = c.before.before.before.before
 
 -- The node, within its limits.
 fits : (c : tie.After-within) → let s = c.before.before.before in c.within.result ≡ within_ℤ 0 last_node s.args.node
-fits c = c.within.ensures ∙ ap (within_ℤ 0 last_node) (to_z-of_z c.before.before.before.ranges.node)
+fits c = c.within.ensures ∙ ap (within_ℤ 0 last_node) (to_z-of_z c.ranges.node)
 
 number : (c : tie.After-natural) → c.natural.result ≡ plus (start c.before).args.node
 number c = natural_of c.natural.ensures (start c.before).ranges.node
 
 there_requires : tie.Need-there-requires
 there_requires c κs =
-    let second = c.before in
-    let first = second.before.before in (
-      long _ (holds first.before.in_order.ensures first.if1.false),
-      omega (arith, number c, below 0 _ (holds (fits second.before) second.if2.false)),
+    let second = c in
+    let first = second in (
+      long _ ((sym first.in_order.ensures ∙ first.if-not-in_order.false)),
+      omega (arith, number c, below 0 _ ((sym (fits second.before.before) ∙ second.if-not-within.false))),
     )
 
 is_there : (c : tie.After-there) → let s = start c.before.before in c.there.result ≡ there (tree_of s.args.table.now) (plus s.args.node)

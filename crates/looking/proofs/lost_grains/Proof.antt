@@ -32,38 +32,38 @@ small t k order hk class =
     let f = facts t order in
     (rate_natural t f k hk (class_there (tree_of t) k class), omega (arith, fair_rates t f k hk class, rate_small t f k hk))
 
-class : (c : tie.Else1) → let s = c.before.before in is_class (tree_of s.args.table.now) s.args.k ≡ true
-class c = sym c.before.is-class.ensures ∙ not-false _ c.if1.false
+class : (c : tie.Else-not-is_class) → let s = c.before.before in is_class (tree_of s.args.table.now) s.args.k ≡ true
+class c = sym c.is_class.ensures ∙ c.if-not-is_class.false
 
-given : (c : tie.After-sum-under) → let s = c.before.before.before in c.sum-under.result ≡ sum_under (tree_of s.args.table.now) s.args.k (rate s.args.table.now)
+given : (c : tie.After-sum_under-given) → let s = c.before.before.before in c.sum_under-given.result ≡ sum_under (tree_of s.args.table.now) s.args.k (rate s.args.table.now)
 unfolding term
-given c = c.sum-under.ensures
+given c = c.sum_under-given.ensures
 
-is_class_requires : tie.Need-is-class-requires
+is_class_requires : tie.Need-is_class-requires
 is_class_requires c κs = ((facts _ c.requires.0).long, c.requires.1)
 
-returns : tie.Need-returns
+returns : tie.Need-returns-then-not-is_class
 unfolding lost_grains
-returns c = sym (cond_false _ _ _ (sym c.before.is-class.ensures ∙ not-true _ c.if1.true))
+returns c = sym (cond_false _ _ _ (sym c.is_class.ensures ∙ c.if-not-is_class.true))
 
-sum_under_requires : tie.Need-sum-under-requires
-sum_under_requires c κs = let f = facts _ c.before.before.requires.0 in (f.long, in_order_summable _ _ f)
+sum_under_requires : tie.Need-sum_under-given-requires
+sum_under_requires c κs = let f = facts _ c.requires.0 in (f.long, in_order_summable _ _ f)
 
 get_requires : tie.Need-get-requires
-get_requires c κs = let s = c.before.before.before in ((facts _ s.requires.0).long, s.requires.1, omega arith)
+get_requires c κs = let s = c in ((facts _ s.requires.0).long, s.requires.1, omega arith)
 
 stored : (c : tie.After-get) → let s = c.before.before.before.before in to_z w64 (of_z w64 c.get.result) ≡ place s.args.table.now s.args.k rate_at
-stored c = to_z-of_z w64 c.get.result (sfits_of c.get.type-inv) ∙ c.get.ensures
+stored c = to_z-of_z w64 c.get.result (sfits_of c.get.type_inv) ∙ c.get.ensures
 
 lowered_requires : tie.Need-lowered-requires
 lowered_requires c κs =
-    let s = c.before.before.before.before in
+    let s = c in
     omega (arith, ap minus (stored c), given c.before, small _ _ s.requires.0 s.requires.1 (class c.before.before))
 
-returns_2 : tie.Need-returns-2
+returns_2 : tie.Need-returns
 unfolding lost_grains
 returns_2 c =
-    to_z-of_z w64 c.lowered.result (sfits_of c.lowered.type-inv)
+    to_z-of_z w64 c.lowered.result (sfits_of c.lowered.type_inv)
     ∙ c.lowered.ensures
     ∙ ap₂ ◌-ℤ◌ (stored c.before) (ap pos (given c.before.before))
     ∙ sym (cond_true _ _ _ (class c.before.before.before))

@@ -20,12 +20,12 @@ use Rattle.requesting.proofs.request.Statement.{statement}
 use Rattle.requesting.proofs.request.Tie as tie
 
 -- The number is that of the definition.
-number : (c : tie.After-request_refusal-number) → let s = c.before.before in c.request_refusal-number.result ≡ request_refusal s.args.table.now s.args.client s.args.tag s.args.size
+number : (c : tie.After-request_refusal-number) → let s = c.before in c.request_refusal-number.result ≡ request_refusal s.args.table.now s.args.client s.args.tag s.args.size
 number c =
     let s = c in
     rw (to_z-of_z w64 s.args.client s.ranges.client, to_z-of_z w64 s.args.tag s.ranges.tag, to_z-of_z w64 s.args.size s.ranges.size) at c.request_refusal-number.ensures.0
 
-none : (c : tie.Else-number-ne0) → let s = c.before.before.before in request_refusal s.args.table.now s.args.client s.args.tag s.args.size ≡ 0
+none : (c : tie.Else-number-ne0) → let s = c.before.before in request_refusal s.args.table.now s.args.client s.args.tag s.args.size ≡ 0
 none c = sym (number c.before) ∙ c.if-number-ne0.false
 
 abbrev start : tie.Else-number-ne0 → tie.Start
@@ -86,7 +86,7 @@ request_spec =
     (λ c κs. search rules)
     (λ c. search rules)
     returns
-    (λ c κs. (room c.before).long)
+    (λ c κs. (room c).long)
     add_arrival
     (λ c κs. tt)
     write_request_requires

@@ -12,12 +12,12 @@ use Rattle.requesting.proofs.request_in_order.Statement.{statement}
 use Rattle.requesting.proofs.request_in_order.Tie as tie
 
 -- The number is that of the definition, which judges no tag.
-number : (c : tie.After-tree_refusal) → let s = c.before.before in c.tree_refusal.result ≡ request_refusal s.args.table.now (pos s.args.k) s.args.tag (pos s.args.size)
+number : (c : tie.After-tree_refusal) → let s = c.before in c.tree_refusal.result ≡ request_refusal s.args.table.now (pos s.args.k) s.args.tag (pos s.args.size)
 unfolding request_refusal
 number c = c.tree_refusal.ensures.0
 
 -- Where it is 0, there is room.
-room : (c : tie.Then-tree_refusal-eq0) → let s = c.before.before.before in Room s.args.table.now s.args.k
+room : (c : tie.Then-tree_refusal-eq0) → let s = c.before.before in Room s.args.table.now s.args.k
 unfolding plus
 room c = accepted_room _ (pos c.args.k) _ _ (sym (number c.before) ∙ c.if-tree_refusal-eq0.true)
 

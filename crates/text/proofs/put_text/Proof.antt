@@ -10,51 +10,51 @@ use Rattle.text.proofs.Appending.{copied_next}
 use Rattle.text.proofs.put_text.Statement.{statement}
 use Rattle.text.proofs.put_text.Tie as tie
 
-abbrev invariant_loop : tie.invariant-loop
+abbrev invariant_loop : tie.invariant-loop-i
 invariant_loop text₀ a piece i₀ text i =
     (i ≤ length piece) × (text ≡ written text₀ a (take i piece)) × (length text ≡ length text₀)
 
-abbrev decreases_loop : tie.decreases-loop
+abbrev decreases_loop : tie.decreases-loop-i
 decreases_loop text₀ a piece i₀ text i = length piece - i
 
-loop_holds : tie.Need-loop-init invariant_loop decreases_loop
+loop_holds : tie.Need-loop-i-init invariant_loop decreases_loop
 loop_holds c = (omega arith, sym (written_none c.args.text.now c.args.a), refl)
 
-shared_slice_read_text : tie.Need-shared-slice-read-text invariant_loop decreases_loop
+shared_slice_read_text : tie.Need-bounds-piece-i invariant_loop decreases_loop
 shared_slice_read_text c = omega arith
 
-add_text : tie.Need-overflow-add-text invariant_loop decreases_loop
+add_text : tie.Need-overflow_add-text invariant_loop decreases_loop
 add_text c = omega arith
 
-slice_write_text : tie.Need-slice-write-text invariant_loop decreases_loop
+slice_write_text : tie.Need-bounds-text-a invariant_loop decreases_loop
 slice_write_text c = omega arith
 
-add_i : tie.Need-overflow-add-i invariant_loop decreases_loop
+add_i : tie.Need-overflow_add-i invariant_loop decreases_loop
 add_i c = omega arith
 
-loop_less : tie.Need-loop-smaller invariant_loop decreases_loop
+loop_less : tie.Need-loop-i-smaller invariant_loop decreases_loop
 loop_less c = omega arith
 
-loop_again : tie.Need-loop-preserved invariant_loop decreases_loop
+loop_again : tie.Need-loop-i-preserved invariant_loop decreases_loop
 loop_again c =
-    let at = c.before.before in
-    let start = at.before.args in (
+    let at = c in
+    let start = at.args in (
       omega arith,
-      copied_next start.text.now start.a start.piece.now at.loop.text at.loop.i (omega arith) (omega arith) at.loop.invariant.2 at.loop.invariant.1,
-      length-set at.loop.text _ _ ∙ at.loop.invariant.2,
+      copied_next start.text.now start.a start.piece.now at.loop-i.text at.loop-i.i (omega arith) (omega arith) at.loop-i.invariant.2 at.loop-i.invariant.1,
+      length-set at.loop-i.text _ _ ∙ at.loop-i.invariant.2,
     )
 
-add_result : tie.Need-overflow-add-result invariant_loop decreases_loop
+add_result : tie.Need-overflow_add-result invariant_loop decreases_loop
 add_result c = omega arith
 
-same_length : tie.Need-same-length invariant_loop decreases_loop
+same_length : tie.Need-shape_of-text invariant_loop decreases_loop
 same_length c = omega arith
 
 returns : tie.Need-returns invariant_loop decreases_loop
 returns c =
-    let start = c.before.before.args in
+    let start = c.args in
     record {
-      bytes = c.before.loop.invariant.1 ∙ ap (written start.text.now start.a) (take_all c.before.loop.i start.piece.now (omega arith));
+      bytes = c.loop-i.invariant.1 ∙ ap (written start.text.now start.a) (take_all c.loop-i.i start.piece.now (omega arith));
       behind = omega arith;
     }
 

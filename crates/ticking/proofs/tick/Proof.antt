@@ -20,20 +20,20 @@ use Rattle.ticking.proofs.tick.Statement.{statement}
 use Rattle.ticking.proofs.tick.Tie as tie
 
 -- Back to the start from the refusal's number, and to that number from the run of the steps.
-abbrev start : tie.After-tick-refusal → tie.Start
-start c = c.before.before.before.before
+abbrev start : tie.After-tick_refusal-number → tie.Start
+start c = c.before
 
-abbrev past : tie.After-run → tie.Else1
+abbrev past : tie.After-run-counts → tie.Else-number-ne0
 past c = c.before.before.before.before
 
 -- The number is that of the definition.
-number : (c : tie.After-tick-refusal) → let s = (start c).args in c.tick-refusal.result ≡ tick_refusal s.table.now s.first.now s.second.now
-number c = c.tick-refusal.ensures.0
+number : (c : tie.After-tick_refusal-number) → let s = (start c).args in c.tick_refusal-number.result ≡ tick_refusal s.table.now s.first.now s.second.now
+number c = c.tick_refusal-number.ensures.0
 
-none : (c : tie.Else1) → let s = (start c.before).args in tick_refusal s.table.now s.first.now s.second.now ≡ 0
-none c = omega (arith, number c.before, c.if1.false)
+none : (c : tie.Else-number-ne0) → let s = (start c.before).args in tick_refusal s.table.now s.first.now s.second.now ≡ 0
+none c = omega (arith, number c.before, c.if-number-ne0.false)
 
-order : (c : tie.Else1) → InOrder (start c.before).args.table.now
+order : (c : tie.Else-number-ne0) → InOrder (start c.before).args.table.now
 order c = facts _ (tick_passed _ _ _ (none c)).order
 
 -- A count of the code is that of the definition, and small.
@@ -44,42 +44,42 @@ counted t p n e = omega (arith, e)
 small : (t : List ℤ) → InOrder t → (p n : ℕ) → entry_length * n ≡ length (port_entries t p) → n ≤ nodes * most_waiting
 small t f p n e = omega (arith, e, few t f p, port_entries_law t f p)
 
-both : (c : tie.After-run) → (c.run.result.first ≤ nodes * most_waiting) × (c.run.result.second ≤ nodes * most_waiting)
+both : (c : tie.After-run-counts) → (c.run-counts.result.first ≤ nodes * most_waiting) × (c.run-counts.result.second ≤ nodes * most_waiting)
 both c =
-    let counts = c.run.ensures.1.1.1 in
+    let counts = c.run-counts.ensures.1.1.1 in
     (small _ (order (past c)) first_port _ counts.0, small _ (order (past c)) second_port _ counts.1)
 
 values : {a b x y : ℤ} → a ≡ b → x ≡ y → accepted (a ∷ x ∷ []) ≡ accepted (b ∷ y ∷ [])
 values p q = cc
 
-tick_refusal_requires : tie.Need-tick-refusal-requires
+tick_refusal_requires : tie.Need-tick_refusal-number-requires
 tick_refusal_requires c κs = search rules
 
-refusal_of_requires : tie.Need-refusal-of-requires
+refusal_of_requires : tie.Need-refusal_of-requires
 refusal_of_requires c κs = search rules
 
-same_length : tie.Need-same-length
+same_length : tie.Need-shape_of-table-then-number-ne0
 same_length c = search rules
 
-same_length_2 : tie.Need-same-length-2
+same_length_2 : tie.Need-shape_of-first-then-number-ne0
 same_length_2 c = search rules
 
-same_length_3 : tie.Need-same-length-3
+same_length_3 : tie.Need-shape_of-second-then-number-ne0
 same_length_3 c = search rules
 
-returns : tie.Need-returns
+returns : tie.Need-returns-then-number-ne0
 unfolding told_ticked tick_answer tick_table tick_first tick_second
 returns c =
     let same = number c.before.before in
-    let some : c.before.before.tick-refusal.result ≡ 0 → ⊥ = λ e. omega (arith, c.before.if1.true) in (
-      ap refused (c.refusal-of.ensures ∙ same) ∙ sym (outcome_refused _ _ (λ e. some (same ∙ e))),
+    let some : c.tick_refusal-number.result ≡ 0 → ⊥ = λ e. omega (arith, c.if-number-ne0.true) in (
+      ap refused (c.refusal_of.ensures ∙ same) ∙ sym (outcome_refused _ _ (λ e. some (same ∙ e))),
       (
         sym (kept_old _ _ _ (λ e. some (same ∙ e))),
         (sym (kept_old _ _ _ (λ e. some (same ∙ e))), sym (kept_old _ _ _ (λ e. some (same ∙ e)))),
       ),
     )
 
-run_requires : tie.Need-run-requires
+run_requires : tie.Need-run-counts-requires
 run_requires c κs = let p = tick_passed _ _ _ (none c.before.before.before) in (p.order, p.first, p.second)
 
 whole_requires : tie.Need-whole-requires
@@ -88,24 +88,24 @@ whole_requires c κs = omega (arith, both c.before.before.before)
 whole_requires_2 : tie.Need-whole-requires-2
 whole_requires_2 c κs = omega (arith, both c.before.before.before.before)
 
-same_length_4 : tie.Need-same-length-4
+same_length_4 : tie.Need-shape_of-table
 same_length_4 c = search rules
 
-same_length_5 : tie.Need-same-length-5
+same_length_5 : tie.Need-shape_of-first
 same_length_5 c = search rules
 
-same_length_6 : tie.Need-same-length-6
+same_length_6 : tie.Need-shape_of-second
 same_length_6 c = search rules
 
-returns_2 : tie.Need-returns-2
+returns_2 : tie.Need-returns
 unfolding told_ticked tick_answer tick_table tick_first tick_second
 returns_2 c =
-    let made = c.before.before.before.before.before in
-    let zero = none (past made) in
-    let done = made.run.ensures in (
+    let made = c in
+    let zero = none (past made.before.before.before.before.before) in
+    let done = made.run-counts.ensures in (
       values
-          (to_z-of_z w64 c.before.whole.result (sfits_of c.before.whole.type-inv) ∙ c.before.whole.ensures ∙ ap pos (counted _ first_port _ done.1.1.1.0))
-          (to_z-of_z w64 c.whole2.result (sfits_of c.whole2.type-inv) ∙ c.whole2.ensures ∙ ap pos (counted _ second_port _ done.1.1.1.1))
+          (to_z-of_z w64 c.whole.result (sfits_of c.whole.type_inv) ∙ c.whole.ensures ∙ ap pos (counted _ first_port _ done.1.1.1.0))
+          (to_z-of_z w64 c.whole-2.result (sfits_of c.whole-2.type_inv) ∙ c.whole-2.ensures ∙ ap pos (counted _ second_port _ done.1.1.1.1))
           ∙ sym (outcome_accepted _ _ zero),
       (
         done.0 ∙ sym (kept_new _ _ _ zero),

@@ -15,60 +15,60 @@ use Rattle.ticking.proofs.Waiting.{few}
 use Rattle.ticking.proofs.tick_refusal.Statement.{statement}
 use Rattle.ticking.proofs.tick_refusal.Tie as tie
 
-abbrev start : tie.After-waiting-by-port → tie.Start
+abbrev start : tie.After-waiting_by_port-waiting → tie.Start
 start c = c.before.before.before
 
-order : (c : tie.Else1) → let s = c.before.before in in_order s.args.table.now ≡ true
-order c = sym c.before.in_order.ensures ∙ not-false _ c.if1.false
+order : (c : tie.Else-not-in_order) → let s = c in in_order s.args.table.now ≡ true
+order c = sym c.in_order.ensures ∙ c.if-not-in_order.false
 
-in_order_requires : tie.Need-in-order-requires
+in_order_requires : tie.Need-in_order-requires
 in_order_requires c κs = search rules
 
-returns : tie.Need-returns
+returns : tie.Need-returns-then-not-in_order
 unfolding tick_refusal
-returns c = (sym (first_here 1 _ _ (ap not (sym c.before.in_order.ensures) ∙ c.if1.true)), omega arith)
+returns c = (sym (first_here 1 _ _ (ap not ((sym c.in_order.ensures) ∙ c.if-not-in_order.true))), omega arith)
 
-waiting_by_port_requires : tie.Need-waiting-by-port-requires
+waiting_by_port_requires : tie.Need-waiting_by_port-waiting-requires
 waiting_by_port_requires c κs = order c
 
 -- Both counts are small.
-small : (c : tie.After-waiting-by-port) → let r = c.waiting-by-port.result in (r.first ≤ nodes * most_waiting) × (r.second ≤ nodes * most_waiting)
+small : (c : tie.After-waiting_by_port-waiting) → let r = c.waiting_by_port-waiting.result in (r.first ≤ nodes * most_waiting) × (r.second ≤ nodes * most_waiting)
 small c =
     let f = facts _ (order c.before) in
-    let counted = c.waiting-by-port.ensures in
+    let counted = c.waiting_by_port-waiting.ensures in
     (omega (arith, few _ f first_port, counted.0), omega (arith, few _ f second_port, counted.1))
 
-mul_if2 : tie.Need-overflow-mul-if2
+mul_if2 : tie.Need-overflow_mul-waiting
 mul_if2 c = omega (arith, small c.before)
 
-returns_2 : tie.Need-returns-2
+returns_2 : tie.Need-returns-then-first-waiting
 unfolding tick_refusal list_short
 returns_2 c =
-    let counted = c.before.before in
-    let s = (start counted).args in
-    let short = lt-ltb (length s.first.now) (entry_length * port_waiting s.table.now first_port) (omega (arith, c.if2.true, counted.waiting-by-port.ensures.0)) in
-    (sym (first_past 1 _ _ (ap not (order counted.before)) ∙ first_here 13 _ _ (rw short)), omega arith)
+    let counted = c in
+    let s = (start counted.before.before).args in
+    let short = lt-ltb (length s.first.now) (entry_length * port_waiting s.table.now first_port) (omega (arith, c.if-first-waiting.true, counted.waiting_by_port-waiting.ensures.0)) in
+    (sym (first_past 1 _ _ (ap not (order counted.before.before.before)) ∙ first_here 13 _ _ (rw short)), omega arith)
 
-mul_if3 : tie.Need-overflow-mul-if3
+mul_if3 : tie.Need-overflow_mul-waiting-2
 mul_if3 c = omega (arith, small c.before.before.before)
 
-returns_3 : tie.Need-returns-3
+returns_3 : tie.Need-returns-then-second-waiting
 unfolding tick_refusal list_short
 returns_3 c =
-    let counted = c.before.before.before.before in
-    let s = (start counted).args in
-    let long = le-ltb (length s.first.now) (entry_length * port_waiting s.table.now first_port) (omega (arith, c.before.before.if2.false, counted.waiting-by-port.ensures.0)) in
-    let short = lt-ltb (length s.second.now) (entry_length * port_waiting s.table.now second_port) (omega (arith, c.if3.true, counted.waiting-by-port.ensures.1)) in
-    (sym (first_past 1 _ _ (ap not (order counted.before)) ∙ first_here 13 _ _ (rw (long, short))), omega arith)
+    let counted = c in
+    let s = (start counted.before.before.before.before).args in
+    let long = le-ltb (length s.first.now) (entry_length * port_waiting s.table.now first_port) (omega (arith, c.if-first-waiting.false, counted.waiting_by_port-waiting.ensures.0)) in
+    let short = lt-ltb (length s.second.now) (entry_length * port_waiting s.table.now second_port) (omega (arith, c.if-second-waiting.true, counted.waiting_by_port-waiting.ensures.1)) in
+    (sym (first_past 1 _ _ (ap not (order counted.before.before.before.before.before)) ∙ first_here 13 _ _ (rw (long, short))), omega arith)
 
-returns_4 : tie.Need-returns-4
+returns_4 : tie.Need-returns
 unfolding tick_refusal list_short
 returns_4 c =
-    let counted = c.before.before.before.before in
-    let s = (start counted).args in
-    let long₀ = le-ltb (length s.first.now) (entry_length * port_waiting s.table.now first_port) (omega (arith, c.before.before.if2.false, counted.waiting-by-port.ensures.0)) in
-    let long₁ = le-ltb (length s.second.now) (entry_length * port_waiting s.table.now second_port) (omega (arith, c.if3.false, counted.waiting-by-port.ensures.1)) in
-    (sym (first_past 1 _ _ (ap not (order counted.before)) ∙ first_past 13 _ _ (rw (long₀, long₁)) ∙ first_end), omega arith)
+    let counted = c in
+    let s = (start counted.before.before.before.before).args in
+    let long₀ = le-ltb (length s.first.now) (entry_length * port_waiting s.table.now first_port) (omega (arith, c.if-first-waiting.false, counted.waiting_by_port-waiting.ensures.0)) in
+    let long₁ = le-ltb (length s.second.now) (entry_length * port_waiting s.table.now second_port) (omega (arith, c.if-second-waiting.false, counted.waiting_by_port-waiting.ensures.1)) in
+    (sym (first_past 1 _ _ (ap not (order counted.before.before.before.before.before)) ∙ first_past 13 _ _ (rw (long₀, long₁)) ∙ first_end), omega arith)
 
 pub tick_refusal_spec : {M : Type 1} → statement M
 tick_refusal_spec =

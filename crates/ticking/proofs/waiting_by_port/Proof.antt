@@ -42,7 +42,7 @@ adds_most t f k = omega (arith, waits_both t f k)
 not_below : (t : List ℤ) → InOrder t → (k : ℕ) → k < nodes → minus (place t k waiting_at) ≡ 0
 not_below t f k hk = omega (arith, zarith, (queues_of t f).few k hk)
 
-abbrev invariant_loop : tie.invariant-loop
+abbrev invariant_loop : tie.invariant-loop-k
 invariant_loop table all₀ second₀ k₀ all second k =
     (k ≤ nodes)
     × (all ≤ most_waiting * k)
@@ -50,85 +50,85 @@ invariant_loop table all₀ second₀ k₀ all second k =
     × (second ≤ all)
     × (second ≡ sum_below k (adds table))
 
-abbrev decreases_loop : tie.decreases-loop
+abbrev decreases_loop : tie.decreases-loop-k
 decreases_loop table all₀ second₀ k₀ all second k = nodes - k
 
-loop_holds : tie.Need-loop-init invariant_loop decreases_loop
+loop_holds : tie.Need-loop-k-init invariant_loop decreases_loop
 unfolding sum_below
 loop_holds c = (omega arith, omega arith, refl, omega arith, refl)
 
-unsigned_requires : tie.Need-unsigned-requires invariant_loop decreases_loop
+unsigned_requires : tie.Need-unsigned-waiting-requires invariant_loop decreases_loop
 unsigned_requires c κs =
-    let t = c.before.before.args.table.now in
-    let k = c.before.loop.k in
-    let f = facts _ c.before.before.requires in
+    let t = c.args.table.now in
+    let k = c.loop-k.k in
+    let f = facts _ c.requires in
     (f.long, omega arith, omega arith, omega (arith, not_below t f k (omega arith), port_whole_number t f k (omega arith)))
 
 -- What a node adds to all.
-is_waiting : (c : tie.After-unsigned invariant_loop decreases_loop) → c.unsigned.result ≡ waiting c.before.before.before.args.table.now c.before.before.loop.k
+is_waiting : (c : tie.After-unsigned-waiting invariant_loop decreases_loop) → c.unsigned-waiting.result ≡ waiting c.args.table.now c.loop-k.k
 unfolding waiting
-is_waiting c = c.unsigned.ensures
+is_waiting c = c.unsigned-waiting.ensures
 
-few : (c : tie.After-unsigned invariant_loop decreases_loop) → c.unsigned.result ≤ most_waiting
+few : (c : tie.After-unsigned-waiting invariant_loop decreases_loop) → c.unsigned-waiting.result ≤ most_waiting
 few c =
-    let start = c.before.before.before in
-    omega (arith, waiting_few start.args.table.now (facts _ start.requires) c.before.before.loop.k (omega arith))
+    let start = c in
+    omega (arith, waiting_few start.args.table.now (facts _ start.requires) c.loop-k.k (omega arith))
 
-add_all : tie.Need-overflow-add-all invariant_loop decreases_loop
+add_all : tie.Need-overflow_add-all invariant_loop decreases_loop
 add_all c = omega (arith, few c)
 
-unsigned_requires_2 : tie.Need-unsigned-requires-2 invariant_loop decreases_loop
+unsigned_requires_2 : tie.Need-unsigned-requires invariant_loop decreases_loop
 unsigned_requires_2 c κs =
-    let f = facts _ c.before.before.before.requires in
+    let f = facts _ c.requires in
     (f.long, omega arith, omega arith, port_whole_number _ f _ (omega arith))
 
 -- What it adds at the second port.
-product : (c : tie.After-unsigned2 invariant_loop decreases_loop) → let at = c.before.before.before in c.before.unsigned.result * c.unsigned2.result ≡ adds at.before.args.table.now at.loop.k
+product : (c : tie.After-unsigned invariant_loop decreases_loop) → let at = c in c.unsigned-waiting.result * c.unsigned.result ≡ adds at.args.table.now at.loop-k.k
 unfolding port
 product c =
-    let at = c.before.before.before in
-    times _ (facts _ at.before.requires) at.loop.k _ _ (is_waiting c.before) c.unsigned2.ensures
+    let at = c in
+    times _ (facts _ at.requires) at.loop-k.k _ _ (is_waiting c.before) c.unsigned.ensures
 
-small : (c : tie.After-unsigned2 invariant_loop decreases_loop) → c.before.unsigned.result * c.unsigned2.result ≤ c.before.unsigned.result
+small : (c : tie.After-unsigned invariant_loop decreases_loop) → c.unsigned-waiting.result * c.unsigned.result ≤ c.unsigned-waiting.result
 small c =
-    let at = c.before.before.before in
-    omega (arith, product c, adds_most _ (facts _ at.before.requires) at.loop.k, is_waiting c.before)
+    let at = c in
+    omega (arith, product c, adds_most _ (facts _ at.requires) at.loop-k.k, is_waiting c.before)
 
-mul_second : tie.Need-overflow-mul-second invariant_loop decreases_loop
+mul_second : tie.Need-overflow_mul-second invariant_loop decreases_loop
 mul_second c = omega (arith, small c, few c.before)
 
-add_second : tie.Need-overflow-add-second invariant_loop decreases_loop
+add_second : tie.Need-overflow_add-second invariant_loop decreases_loop
 add_second c = omega (arith, small c, few c.before)
 
-add_k : tie.Need-overflow-add-k invariant_loop decreases_loop
+add_k : tie.Need-overflow_step-k invariant_loop decreases_loop
 add_k c = omega arith
 
-loop_less : tie.Need-loop-smaller invariant_loop decreases_loop
+loop_less : tie.Need-loop-k-smaller invariant_loop decreases_loop
 loop_less c = omega arith
 
-loop_again : tie.Need-loop-preserved invariant_loop decreases_loop
+loop_again : tie.Need-loop-k-preserved invariant_loop decreases_loop
 loop_again c =
-    let at = c.before.before.before in
-    let t = at.before.args.table.now in (
+    let at = c in
+    let t = at.args.table.now in (
       omega arith,
       omega (arith, few c.before),
-      omega (arith, sum_next at.loop.k (waiting t), is_waiting c.before),
+      omega (arith, sum_next at.loop-k.k (waiting t), is_waiting c.before),
       omega (arith, small c),
-      omega (arith, sum_next at.loop.k (adds t), product c),
+      omega (arith, sum_next at.loop-k.k (adds t), product c),
     )
 
-sub_t9 : tie.Need-overflow-sub-t9 invariant_loop decreases_loop
+sub_t9 : tie.Need-overflow_sub-result invariant_loop decreases_loop
 sub_t9 c = omega arith
 
 returns : tie.Need-returns invariant_loop decreases_loop
 unfolding all_waiting port_waiting adds
 returns c =
-    let t = c.before.before.args.table.now in
-    let inv = c.before.loop.invariant in
-    let end : c.before.loop.k ≡ nodes = omega arith in
-    let all : c.before.loop.all ≡ all_waiting t = rw end at inv.2 in
-    let second : c.before.loop.second ≡ port_waiting t second_port = rw end at inv.4 in
-    (omega (arith, all, second, port_both t (facts _ c.before.before.requires)), second)
+    let t = c.args.table.now in
+    let inv = c.loop-k.invariant in
+    let end : c.loop-k.k ≡ nodes = omega arith in
+    let all : c.loop-k.all ≡ all_waiting t = rw end at inv.2 in
+    let second : c.loop-k.second ≡ port_waiting t second_port = rw end at inv.4 in
+    (omega (arith, all, second, port_both t (facts _ c.requires)), second)
 
 pub waiting_by_port_spec : {M : Type 1} → statement M
 waiting_by_port_spec =

@@ -47,7 +47,7 @@ returns c =
       fixed = λ fit. judged.fixed ∙ within fixed whole_share fit;
       stated = λ fit.
           judged.stated
-          ∙ ap (λ (disk : ℕ). all_below part_minutes (within_marked stated disk (tree_of plan) cells.new.cells cells.new.1)) c.natural.ensures
+          ∙ ap (λ (disk : ℕ). all_below part_minutes (within_marked stated disk (tree_of plan) cells.new.cells cells.new.turns)) c.natural.ensures
           ∙ within stated (rate plan root) fit;
     }
 

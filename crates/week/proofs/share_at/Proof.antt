@@ -25,7 +25,7 @@ returns : tie.Need-returns-then-cell-eq0
 unfolding cell_share tree_of
 returns c =
     let read = c in
-    read.natural-share.ensures ∙ sym (cond_true _ _ _ (rw read.Cell-at.ensures at (eq-eqb _ 0 c.if-cell-eq0.true)))
+    read.natural-share.ensures ∙ sym (cond_true _ _ _ (rw read.cell_at.ensures at (eq-eqb _ 0 c.if-cell-eq0.true)))
 
 sub_result : tie.Need-overflow_sub-result
 sub_result c = search rules
@@ -34,7 +34,7 @@ returns_2 : tie.Need-returns
 unfolding cell_share
 returns_2 c =
     let args = c.args in
-    let at = c.Cell-at.ensures in
+    let at = c.cell_at.ensures in
     ap (λ (i : ℕ). get_or args.part.now i 0 - 1) at ∙ sym (cond_false _ _ _ (rw at at (ne_eqb _ 0 c.if-cell-eq0.false)))
 
 pub share_at_spec : {M : Type 1} → statement M
