@@ -17,104 +17,104 @@ use Rattle.asking.proofs.ask.Statement.{statement}
 use Rattle.asking.proofs.ask.Tie as tie
 
 -- Back from the first draw to the test and to the start; from the second draw to the first.
-abbrev test : tie.After-upper → tie.Else1
+abbrev test : tie.After-upper → tie.Else-askers-eq0
 test c = c.before.before.before.before
 
 abbrev start : tie.After-upper → tie.Start
-start c = (test c).before.before
+start c = c.before.before.before.before.before.before
 
-abbrev sizing : tie.After-upper2 → tie.After-upper
-sizing c = c.before.before.before.before
+abbrev sizing : tie.After-upper-2 → tie.After-upper
+sizing c = c.before.before.before
 
 -- The client that the first draw picks.
 abbrev client : tie.After-upper → ℕ
 client c = let xs = (start c).args.askers.now in get_or xs (c.upper.result % length xs) 0
 
 pick : (c : tie.After-upper) → Picked (start c).args.table.now c.upper.result (client c)
-pick c = picked _ _ _ (start c).requires.1 (test c).if1.false
+pick c = picked _ _ _ (start c).requires.1 (test c).if-askers-eq0.false
 
 index : (c : tie.After-upper) → let n = length (start c).args.askers.now in c.upper.result % n < n
-index c = mod-lt c.upper.result (omega (arith, (test c).if1.false))
+index c = mod-lt c.upper.result (omega (arith, (test c).if-askers-eq0.false))
 
 -- Its depth, and the size that is drawn by it.
-deep : (c : tie.After-upper2) → (1 ≤ c.before.natural.result) × (c.before.natural.result ≤ greatest_depth)
+deep : (c : tie.After-upper-2) → (1 ≤ c.natural-depth.result) × (c.natural-depth.result ≤ greatest_depth)
 deep c =
     let d = picked_depth _ _ _ (start (sizing c)).requires.0 (pick (sizing c)) in
-    (omega (arith, d.0, c.before.natural.ensures), omega (arith, d.1, c.before.natural.ensures))
+    (omega (arith, d.0, c.natural-depth.ensures), omega (arith, d.1, c.natural-depth.ensures))
 
-sized : (c : tie.After-upper2) → c.upper2.result % c.before.natural.result + 1 ≤ greatest_depth
-sized c = omega (arith, (deep c).0, (deep c).1, mod-lt c.upper2.result {m = c.before.natural.result} (deep c).0)
+sized : (c : tie.After-upper-2) → c.upper-2.result % c.natural-depth.result + 1 ≤ greatest_depth
+sized c = omega (arith, (deep c).0, (deep c).1, mod-lt c.upper-2.result {m = c.natural-depth.result} (deep c).0)
 
-returns : tie.Need-returns
-returns c = asked_none _ (sym (ap length c.before.before.requires.1) ∙ c.if1.true)
+returns : tie.Need-returns-then-askers-eq0
+returns c = asked_none _ (sym (ap length c.requires.1) ∙ c.if-askers-eq0.true)
 
-next_state_requires : tie.Need-next-state-requires
+next_state_requires : tie.Need-next_state-first-requires
 next_state_requires c κs = search rules
 
-next_state_requires_2 : tie.Need-next-state-requires-2
+next_state_requires_2 : tie.Need-next_state-second-requires
 next_state_requires_2 c κs = search rules
 
-next_state_requires_3 : tie.Need-next-state-requires-3
+next_state_requires_3 : tie.Need-next_state-third-requires
 next_state_requires_3 c κs = search rules
 
 upper_requires : tie.Need-upper-requires
 upper_requires c κs = search rules
 
-rem_client : tie.Need-nonzero-rem-client
+rem_client : tie.Need-nonzero_rem-client
 rem_client c = search rules
 
-mul_client : tie.Need-overflow-mul-client
+mul_client : tie.Need-offset_bounds-askers-upper
 mul_client c = omega (arith, index c, ap length (start c).requires.1, few_clients (start c).args.table.now)
 
-shared_slice_read_client : tie.Need-shared-slice-read-client
+shared_slice_read_client : tie.Need-bounds-askers-upper
 shared_slice_read_client c = index c.before
 
-natural_requires : tie.Need-natural-requires
-natural_requires c κs = let first = c.before.before in ((facts _ (start first).requires.0).long, (pick first).small, omega arith)
+natural_requires : tie.Need-natural-depth-requires
+natural_requires c κs = let first = c in ((facts _ (start first.before).requires.0).long, (pick first.before).small, omega arith)
 
 upper_requires_2 : tie.Need-upper-requires-2
 upper_requires_2 c κs = search rules
 
-rem_size : tie.Need-nonzero-rem-size
+rem_size : tie.Need-nonzero_rem-size
 rem_size c = (deep c).0
 
-add_size : tie.Need-overflow-add-size
+add_size : tie.Need-overflow_add-size
 add_size c = omega (arith, sized c)
 
 upper_requires_3 : tie.Need-upper-requires-3
 upper_requires_3 c κs = search rules
 
-whole_requires : tie.Need-whole-requires
+whole_requires : tie.Need-whole-tag-requires
 whole_requires c κs = search rules
 
-request_in_order_requires : tie.Need-request-in-order-requires
+request_in_order_requires : tie.Need-request_in_order-requires
 request_in_order_requires c κs =
-    let size = c.before.before.before in
-    let first = sizing size in
-    ((start first).pre.0, limits_kept_law _ _ (pick first).small (omega arith), omega (arith, sized size))
+    let size = c in
+    let first = sizing size.before.before.before in
+    ((start first).requires.0, limits_kept_law _ _ (pick first).small (omega arith), omega (arith, sized size.before.before.before))
 
-same_length : tie.Need-same-length
+same_length : tie.Need-shape_of-table
 same_length c = search rules
 
-returns_2 : tie.Need-returns-2
+returns_2 : tie.Need-returns
 returns_2 c =
-    let done = c.before in
-    let whole = done.before.before in
-    let tag = whole.before in
-    let size = tag.before in
-    let first = sizing size in
-    let second = first.before.before.next-state2 in
-    let depth = size.before.natural in
+    let done = c in
+    let whole = done in
+    let tag = whole in
+    let size = tag in
+    let first = sizing size.before.before.before.before.before in
+    let second = first.next_state-second in
+    let depth = size.natural-depth in
     asked_request _ _ _ _ _ _ _ _ _ _
-    (λ z. (test first).if1.left (ap length (start first).pre.1 ∙ z))
-    first.before.before.before.next-state.ensures
+    (λ z. (test first).if-askers-eq0.false (ap length (start first).requires.1 ∙ z))
+    first.next_state-first.ensures
     second.ensures
-    first.before.next-state3.ensures
+    first.next_state-third.ensures
     first.upper.ensures.0
     (pick first)
-    (ap (λ (n : ℕ). n % depth.result + 1) size.upper2.ensures.0 ∙ ap (λ (n : ℕ). upper second.result % n + 1) depth.ensures)
-    (to_z-of_z w64 _ (sfits_of whole.whole.type-inv) ∙ whole.whole.ensures ∙ ap pos tag.upper3.ensures.0)
-    done.request-in-order.ensures
+    (ap (λ (n : ℕ). n % depth.result + 1) size.upper-2.ensures.0 ∙ ap (λ (n : ℕ). upper second.result % n + 1) depth.ensures)
+    (to_z-of_z w64 _ (sfits_of whole.whole-tag.type_inv) ∙ whole.whole-tag.ensures ∙ ap pos tag.upper-3.ensures.0)
+    done.request_in_order.ensures
 
 pub ask_spec : {M : Type 1} → statement M
 ask_spec =

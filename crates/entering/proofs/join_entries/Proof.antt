@@ -13,72 +13,72 @@ use borrow.Author.Rules.{rules}
 use Rattle.entering.proofs.join_entries.Statement.{statement}
 use Rattle.entering.proofs.join_entries.Tie as tie
 
-abbrev invariant_loop : tie.invariant-loop
+abbrev invariant_loop : tie.invariant-loop-i
 invariant_loop table₀ s edition n i₀ table i =
     (i ≤ n) × (entries_refusal table₀ (plan_in s) i ≡ 0) × (table ≡ after_entries table₀ (plan_in s) i) × (length table ≡ length table₀)
 
-abbrev decreases_loop : tie.decreases-loop
+abbrev decreases_loop : tie.decreases-loop-i
 decreases_loop table₀ s edition n i₀ table i = n - i
 
 -- What the entries up to the one just joined give.
-so_far : (c : tie.After-join-entry invariant_loop decreases_loop) → let at = c.before.before.before in let x = at.before.before.args in c.join-entry.result ≡ entries_refusal x.table.now (plan_in x.s.now) (at.loop.i + 1)
+so_far : (c : tie.After-join_entry-number invariant_loop decreases_loop) → let at = c in let x = at.args in c.join_entry-number.result ≡ entries_refusal x.table.now (plan_in x.s.now) (at.loop-i.i + 1)
 so_far c =
-    let at = c.before.before.before in
-    let p = plan_in at.before.before.args.s.now in
-    c.join-entry.ensures.0
-    ∙ ap (λ (u : List ℤ). entry_refusal u (p.entry at.loop.i)) at.loop.invariant.2
-    ∙ sym (entries_next _ p at.loop.i at.loop.invariant.1)
+    let at = c in
+    let p = plan_in at.args.s.now in
+    c.join_entry-number.ensures.0
+    ∙ ap (λ (u : List ℤ). entry_refusal u (p.entry at.loop-i.i)) at.loop-i.invariant.2
+    ∙ sym (entries_next _ p at.loop-i.i at.loop-i.invariant.1)
 
-loop_holds : tie.Need-loop-init invariant_loop decreases_loop
+loop_holds : tie.Need-loop-i-init invariant_loop decreases_loop
 loop_holds c = (omega arith, entries_none _ _, sym (after_none _ _), refl)
 
-join_entry_requires : tie.Need-join-entry-requires invariant_loop decreases_loop
+join_entry_requires : tie.Need-join_entry-number-requires invariant_loop decreases_loop
 join_entry_requires c κs =
-    let at = c.before.before in
-    let start = at.before.before in
+    let at = c in
+    let start = at in
     let frame = start.requires.1 in (
       frame,
       omega arith,
-      omega (arith, (formed_facts start.args.s.now start.requires.0).kind at.loop.i (omega (arith, frame.counted)), ap last_kind frame.edition),
+      omega (arith, (formed_facts start.args.s.now start.requires.0).kind at.loop-i.i (omega (arith, frame.counted)), ap last_kind frame.edition),
     )
 
-same_length : tie.Need-same-length invariant_loop decreases_loop
+same_length : tie.Need-shape_of-table-then-number-ne0 invariant_loop decreases_loop
 same_length c = search rules
 
-returns : tie.Need-returns invariant_loop decreases_loop
+returns : tie.Need-returns-then-number-ne0 invariant_loop decreases_loop
 returns c =
-    let call = c.before.before in
-    let at = call.before.before.before in
-    let here = so_far call in (
-      here ∙ sym (entries_stay _ _ (at.loop.i + 1) at.before.before.args.n (omega arith) (λ z. c.if1.true (here ∙ z))),
-      (omega arith, λ z. absurd (c.if1.true z)),
+    let call = c in
+    let at = call in
+    let here = so_far call.before.before in (
+      here ∙ sym (entries_stay _ _ (at.loop-i.i + 1) at.args.n (omega arith) (λ z. c.if-number-ne0.true (here ∙ z))),
+      (omega arith, λ z. absurd (c.if-number-ne0.true z)),
     )
 
-add_i : tie.Need-overflow-add-i invariant_loop decreases_loop
+add_i : tie.Need-overflow_add-i invariant_loop decreases_loop
 add_i c = search rules
 
-loop_less : tie.Need-loop-smaller invariant_loop decreases_loop
+loop_less : tie.Need-loop-i-smaller invariant_loop decreases_loop
 loop_less c = search rules
 
-loop_again : tie.Need-loop-preserved invariant_loop decreases_loop
+loop_again : tie.Need-loop-i-preserved invariant_loop decreases_loop
 loop_again c =
-    let call = c.before.before in
-    let at = call.before.before.before in
-    let p = plan_in at.before.before.args.s.now in (
+    let call = c in
+    let at = call in
+    let p = plan_in at.args.s.now in (
       omega arith,
-      sym (so_far call) ∙ c.if1.false,
-      call.join-entry.ensures.1.1 ∙ ap (λ (u : List ℤ). after_entry u (p.entry at.loop.i)) at.loop.invariant.2 ∙ sym (after_next _ p at.loop.i),
+      sym (so_far call.before.before) ∙ c.if-number-ne0.false,
+      call.join_entry-number.ensures.1.1 ∙ ap (λ (u : List ℤ). after_entry u (p.entry at.loop-i.i)) at.loop-i.invariant.2 ∙ sym (after_next _ p at.loop-i.i),
       search rules,
     )
 
-same_length_2 : tie.Need-same-length-2 invariant_loop decreases_loop
+same_length_2 : tie.Need-shape_of-table invariant_loop decreases_loop
 same_length_2 c = search rules
 
-returns_2 : tie.Need-returns-2 invariant_loop decreases_loop
+returns_2 : tie.Need-returns invariant_loop decreases_loop
 returns_2 c =
-    let at = c.before in
-    let end : at.loop.i ≡ at.before.before.args.n = omega arith in
-    (sym at.loop.invariant.1 ∙ ap (entries_refusal _ _) end, (omega arith, λ z. at.loop.invariant.2 ∙ ap (after_entries _ _) end))
+    let at = c in
+    let end : at.loop-i.i ≡ at.args.n = omega arith in
+    (sym at.loop-i.invariant.1 ∙ ap (entries_refusal _ _) end, (omega arith, λ z. at.loop-i.invariant.2 ∙ ap (after_entries _ _) end))
 
 pub join_entries_spec : {M : Type 1} → statement M
 join_entries_spec =

@@ -30,30 +30,30 @@ whole_requires_6 c κs = search rules
 whole_requires_7 : tie.Need-whole-requires-7
 whole_requires_7 c κs = search rules
 
-join_requires : tie.Need-join-requires
+join_requires : tie.Need-join-answer-requires
 join_requires c κs = search rules
 
-number_told_requires : tie.Need-number-told-requires
+number_told_requires : tie.Need-number_told-requires
 number_told_requires c κs = search rules
 
-same_length : tie.Need-same-length
+same_length : tie.Need-shape_of-table
 same_length c = search rules
 
 returns : tie.Need-returns
 unfolding join_answer
 returns c =
-    let last = c.before.before.before in
-    let w = last.before in
-    let third = w.before.before.before in
-    let node = to_z-of_z w64 _ (sfits_of third.before.before.whole.type-inv) ∙ third.before.before.whole.ensures in
-    let parent = to_z-of_z w64 _ (sfits_of third.before.whole2.type-inv) ∙ third.before.whole2.ensures in
-    let sort = to_z-of_z w64 _ (sfits_of third.whole3.type-inv) ∙ third.whole3.ensures in
-    let kind = to_z-of_z w64 _ (sfits_of w.before.before.whole4.type-inv) ∙ w.before.before.whole4.ensures in
-    let share = to_z-of_z w64 _ (sfits_of w.before.whole5.type-inv) ∙ w.before.whole5.ensures in
-    let depth = to_z-of_z w64 _ (sfits_of w.whole6.type-inv) ∙ w.whole6.ensures in
-    let port = to_z-of_z w64 _ (sfits_of last.whole7.type-inv) ∙ last.whole7.ensures in
-    let joined = rw (node, parent, sort, kind, share, depth, port) at c.before.before.join.ensures in
-    (c.number-told.ensures.0 ∙ ap number_told joined.0 ∙ number_outcome _ done, (c.number-told.ensures.1, joined.1))
+    let last = c in
+    let w = last in
+    let third = w in
+    let node = to_z-of_z w64 _ (sfits_of third.whole.type_inv) ∙ third.whole.ensures in
+    let parent = to_z-of_z w64 _ (sfits_of third.whole-2.type_inv) ∙ third.whole-2.ensures in
+    let sort = to_z-of_z w64 _ (sfits_of third.whole-3.type_inv) ∙ third.whole-3.ensures in
+    let kind = to_z-of_z w64 _ (sfits_of w.whole-4.type_inv) ∙ w.whole-4.ensures in
+    let share = to_z-of_z w64 _ (sfits_of w.whole-5.type_inv) ∙ w.whole-5.ensures in
+    let depth = to_z-of_z w64 _ (sfits_of w.whole-6.type_inv) ∙ w.whole-6.ensures in
+    let port = to_z-of_z w64 _ (sfits_of last.whole-7.type_inv) ∙ last.whole-7.ensures in
+    let joined = rw (node, parent, sort, kind, share, depth, port) at c.join-answer.ensures in
+    (c.number_told.ensures.0 ∙ ap number_told joined.0 ∙ number_outcome _ done, (c.number_told.ensures.1, joined.1))
 
 pub join_numbers_spec : {M : Type 1} → statement M
 join_numbers_spec =

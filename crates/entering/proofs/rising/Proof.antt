@@ -20,58 +20,58 @@ use Rattle.entering.proofs.rising.Tie as tie
 abbrev rises : List ℤ → List ℕ → ℕ → Bool
 rises t s j = ltb (standing (tree_of t) ((plan_in s).entry j).node) (standing (tree_of t) ((plan_in s).entry (suc j)).node)
 
-abbrev invariant_loop : tie.invariant-loop
+abbrev invariant_loop : tie.invariant-loop-i
 invariant_loop table s edition n ok₀ i₀ ok i =
     (i ≤ n - 1) × (ok ≡ all_below i (rises table s))
 
-abbrev decreases_loop : tie.decreases-loop
+abbrev decreases_loop : tie.decreases-loop-i
 decreases_loop table s edition n ok₀ i₀ ok i = n - i
 
-loop_holds : tie.Need-loop-init invariant_loop decreases_loop
+loop_holds : tie.Need-loop-i-init invariant_loop decreases_loop
 unfolding all_below
 loop_holds c = (omega arith, refl)
 
-add_loop : tie.Need-overflow-add-loop invariant_loop decreases_loop
+add_loop : tie.Need-overflow_add-i invariant_loop decreases_loop
 add_loop c = search rules
 
-standing_of_requires : tie.Need-standing-of-requires invariant_loop decreases_loop
+standing_of_requires : tie.Need-standing_of-here-requires invariant_loop decreases_loop
 standing_of_requires c κs =
-    let start = c.before.before.before in
+    let start = c in
     let frame = start.requires.1 in
-    let each = start.requires.2 c.before.loop.i (omega arith) in
+    let each = start.requires.2 c.loop-i.i (omega arith) in
     (start.requires.0, frame.edition, omega (arith, frame.few), omega (arith, frame.long), each.0, each.1)
 
-add_standing_of : tie.Need-overflow-add-standing-of invariant_loop decreases_loop
+add_standing_of : tie.Need-overflow_add-i-in-loop-i invariant_loop decreases_loop
 add_standing_of c = search rules
 
-standing_of_requires_2 : tie.Need-standing-of-requires-2 invariant_loop decreases_loop
+standing_of_requires_2 : tie.Need-standing_of-requires invariant_loop decreases_loop
 standing_of_requires_2 c κs =
-    let at = c.before.before in
-    let start = at.before.before in
+    let at = c in
+    let start = at in
     let frame = start.requires.1 in
-    let each = start.requires.2 (at.loop.i + 1) (omega arith) in
+    let each = start.requires.2 (at.loop-i.i + 1) (omega arith) in
     (start.requires.0, frame.edition, omega (arith, frame.few), omega (arith, frame.long), each.0, each.1)
 
-add_i : tie.Need-overflow-add-i invariant_loop decreases_loop
+add_i : tie.Need-overflow_add-i-in-loop-i-2 invariant_loop decreases_loop
 add_i c = search rules
 
-loop_less : tie.Need-loop-smaller invariant_loop decreases_loop
+loop_less : tie.Need-loop-i-smaller invariant_loop decreases_loop
 loop_less c = search rules
 
-loop_again : tie.Need-loop-preserved invariant_loop decreases_loop
+loop_again : tie.Need-loop-i-preserved invariant_loop decreases_loop
 loop_again c =
-    let at = c.before.before.before in
-    let t = at.before.before.args.table.now in
-    let s = at.before.before.args.s.now in
-    let next = ap (λ (j : ℕ). standing (tree_of t) ((plan_in s).entry j).node) (add-one at.loop.i) in
-    (omega arith, all_grows at.loop.i (rises t s) _ _ at.loop.invariant.1 (ap₂ ltb c.before.standing-of.ensures (c.standing-of2.ensures ∙ next)))
+    let at = c in
+    let t = at.args.table.now in
+    let s = at.args.s.now in
+    let next = ap (λ (j : ℕ). standing (tree_of t) ((plan_in s).entry j).node) (add-one at.loop-i.i) in
+    (omega arith, all_grows at.loop-i.i (rises t s) _ _ at.loop-i.invariant.1 (ap₂ ltb c.standing_of-here.ensures (c.standing_of.ensures ∙ next)))
 
 returns : tie.Need-returns invariant_loop decreases_loop
 unfolding rising plan_in
 returns c =
-    let start = c.before.before.before in
-    let end : c.before.loop.i ≡ count_in start.args.s.now - 1 = omega (arith, start.requires.1.counted) in
-    c.before.loop.invariant.1 ∙ ap (λ (k : ℕ). all_below k (rises start.args.table.now start.args.s.now)) end
+    let start = c in
+    let end : c.loop-i.i ≡ count_in start.args.s.now - 1 = omega (arith, start.requires.1.counted) in
+    c.loop-i.invariant.1 ∙ ap (λ (k : ℕ). all_below k (rises start.args.table.now start.args.s.now)) end
 
 pub rising_spec : {M : Type 1} → statement M
 rising_spec =

@@ -12,33 +12,33 @@ use Rattle.entering.proofs.standing_of.Statement.{statement}
 use Rattle.entering.proofs.standing_of.Tie as tie
 
 -- Back from where the node is read to the start.
-abbrev start : tie.After-byte → tie.Start
+abbrev start : tie.After-byte-k → tie.Start
 start c = c.before.before.before
 
 -- The node of the entry, and its level.
-node : (c : tie.After-byte) → c.byte.result ≡ ((plan_in (start c).args.s.now).entry (start c).args.i).node
+node : (c : tie.After-byte-k) → c.byte-k.result ≡ ((plan_in (start c).args.s.now).entry (start c).args.i).node
 unfolding plan_in entry_in
 node c =
     let s = start c in
-    c.byte.ensures.0 ∙ ap (byte_at _) (c.before.entry_at.ensures ∙ ap (λ (e : Edition). entry_at e s.args.i) s.pre.1)
+    c.byte-k.ensures.0 ∙ ap (byte_at _) (c.entry_at.ensures ∙ ap (λ (e : Edition). entry_at e s.args.i) s.requires.1)
 
-level : (c : tie.After-natural) → let x = (start c.before).args in c.natural.result ≡ (tree_of x.table.now).level ((plan_in x.s.now).entry x.i).node
+level : (c : tie.After-natural-level) → let x = (start c.before).args in c.natural-level.result ≡ (tree_of x.table.now).level ((plan_in x.s.now).entry x.i).node
 unfolding tree_of
-level c = c.natural.ensures ∙ ap (λ (k : ℕ). (tree_of (start c.before).args.table.now).level k) (node c.before)
+level c = c.natural-level.ensures ∙ ap (λ (k : ℕ). (tree_of (start c.before).args.table.now).level k) (node c.before)
 
-entry_at_requires : tie.Need-entry-at-requires
+entry_at_requires : tie.Need-entry_at-requires
 entry_at_requires c κs = search rules
 
-byte_requires : tie.Need-byte-requires
+byte_requires : tie.Need-byte-k-requires
 byte_requires c κs = search rules
 
-natural_requires : tie.Need-natural-requires
+natural_requires : tie.Need-natural-level-requires
 natural_requires c κs = ((start c).requires.0, omega (arith, node c), omega arith)
 
-mul_result : tie.Need-overflow-mul-result
+mul_result : tie.Need-overflow_mul-result
 mul_result c = omega (arith, level c)
 
-add_result : tie.Need-overflow-add-result
+add_result : tie.Need-overflow_add-result
 add_result c = omega (arith, level c, node c.before)
 
 returns : tie.Need-returns

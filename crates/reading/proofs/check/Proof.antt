@@ -5,7 +5,7 @@ use borrow.Author.Rules.{rules}
 use Rattle.reading.proofs.check.Statement.{statement}
 use Rattle.reading.proofs.check.Tie as tie
 
-slice_aggregate_build : tie.Need-slice-aggregate-build
+slice_aggregate_build : tie.Need-slice_bounds-build-end
 slice_aggregate_build c = search rules
 
 build_requires : tie.Need-build-requires

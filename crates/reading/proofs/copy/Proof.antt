@@ -20,50 +20,50 @@ copied_next t s i v long room e h =
     ∙ rw (h, e) (sym (take-suc s i (pos 0) room))
     ∙ ap (λ (n : ℕ). take n s) (sym (add-one i))
 
-abbrev invariant_loop : tie.invariant-loop
+abbrev invariant_loop : tie.invariant-loop-i
 invariant_loop table₀ from i₀ table i = (i ≤ length from) × (length table ≡ length from) × (take i table ≡ take i from)
 
-abbrev decreases_loop : tie.decreases-loop
+abbrev decreases_loop : tie.decreases-loop-i
 decreases_loop table₀ from i₀ table i = length from - i
 
-loop_holds : tie.Need-loop-init invariant_loop decreases_loop
+loop_holds : tie.Need-loop-i-init invariant_loop decreases_loop
 loop_holds c = (omega arith, c.requires, refl)
 
-number_at_requires : tie.Need-number-at-requires invariant_loop decreases_loop
+number_at_requires : tie.Need-number_at-number-requires invariant_loop decreases_loop
 number_at_requires c κs = search rules
 
-mul_number : tie.Need-overflow-mul-number invariant_loop decreases_loop
+mul_number : tie.Need-offset_bounds-table-i invariant_loop decreases_loop
 mul_number c = search rules
 
-slice_set_from_number : tie.Need-slice-set-from-number invariant_loop decreases_loop
+slice_set_from_number : tie.Need-bounds-table-i invariant_loop decreases_loop
 slice_set_from_number c = search rules
 
-add_i : tie.Need-overflow-add-i invariant_loop decreases_loop
+add_i : tie.Need-overflow_add-i invariant_loop decreases_loop
 add_i c = omega arith
 
-loop_less : tie.Need-loop-smaller invariant_loop decreases_loop
+loop_less : tie.Need-loop-i-smaller invariant_loop decreases_loop
 loop_less c = omega arith
 
-loop_again : tie.Need-loop-preserved invariant_loop decreases_loop
+loop_again : tie.Need-loop-i-preserved invariant_loop decreases_loop
 loop_again c =
-    let loop = c.before.before.loop in
-    let from = c.before.before.before.args.from.now in (
+    let loop = c.loop-i in
+    let from = c.args.from.now in (
       omega arith,
       length-set loop.table loop.i _ ∙ loop.invariant.1,
-      copied_next loop.table from loop.i _ loop.invariant.1 (omega arith) (to_z-of_z w64 _ (sfits_of c.number_at.type-inv) ∙ c.number_at.ensures) loop.invariant.2,
+      copied_next loop.table from loop.i _ loop.invariant.1 (omega arith) (to_z-of_z w64 _ (sfits_of c.number_at-number.type_inv) ∙ c.number_at-number.ensures) loop.invariant.2,
     )
 
-same_length : tie.Need-same-length invariant_loop decreases_loop
-same_length c = c.before.loop.invariant.1 ∙ sym c.before.before.requires
+same_length : tie.Need-shape_of-table invariant_loop decreases_loop
+same_length c = c.loop-i.invariant.1 ∙ sym c.requires
 
 returns : tie.Need-returns invariant_loop decreases_loop
 returns c =
-    let t = c.before.loop.table in
-    let f = c.before.before.args.from.now in
-    let end : c.before.loop.i ≡ length f = omega (arith, c.before.loop.invariant.1) in
+    let t = c.loop-i.table in
+    let f = c.args.from.now in
+    let end : c.loop-i.i ≡ length f = omega (arith, c.loop-i.invariant.1) in
     sym (take-length t)
-    ∙ ap (λ (n : ℕ). take n t) (c.before.loop.invariant.1 ∙ sym end)
-    ∙ c.before.loop.invariant.2
+    ∙ ap (λ (n : ℕ). take n t) (c.loop-i.invariant.1 ∙ sym end)
+    ∙ c.loop-i.invariant.2
     ∙ ap (λ (n : ℕ). take n f) end
     ∙ take-length f
 

@@ -21,16 +21,16 @@ use Rattle.reading.proofs.read.Statement.{statement}
 use Rattle.reading.proofs.read.Tie as tie
 
 -- Back from the table built to the start, and from the copy to where the plan was accepted.
-abbrev start : tie.After-build → tie.Start
+abbrev start : tie.After-build-refusal → tie.Start
 start c = c.before.before.before.before
 
-abbrev accepted : tie.After-copy → tie.Else2
+abbrev accepted : tie.After-copy → tie.Else-refusal-ne0
 accepted c = c.before.before.before
 
 -- The table of zeros gives the number of the lent table.
-number : (c : tie.After-build) → c.build.result ≡ plan_refusal (start c).args.table.now (start c).args.s.now
+number : (c : tie.After-build-refusal) → c.build-refusal.result ≡ plan_refusal (start c).args.table.now (start c).args.s.now
 unfolding check_answer blank
-number c = c.build.ensures.0 ∙ check_any _ _ c.before.before.if1.false
+number c = c.build-refusal.ensures.0 ∙ check_any _ _ c.if-table-ne-LENGTH.false
 
 -- Where it is refused, only the number counts.
 refused_as : {n m : ℕ} (values others : List ℤ) → (n ≡ 0 → ⊥) → n ≡ m → outcome n values ≡ outcome m others
@@ -39,64 +39,64 @@ refused_as {n} values others ne same = outcome_refused n values ne ∙ sym (outc
 answered_requires : tie.Need-answered-requires
 answered_requires c κs = search rules
 
-returns : tie.Need-returns
+returns : tie.Need-returns-then-table-ne-LENGTH
 unfolding plan_answer plan_table
 returns c =
-    let args = c.before.before.before.args in
-    let one = wrong_length args.table.now args.s.now c.before.if1.true in (
+    let args = c.args in
+    let one = wrong_length args.table.now args.s.now c.if-table-ne-LENGTH.true in (
       c.answered.ensures ∙ refused_as _ _ (omega arith) (sym one),
       sym (kept_old _ _ _ (omega (arith, one))),
     )
 
-slice_aggregate_build : tie.Need-slice-aggregate-build
+slice_aggregate_build : tie.Need-slice_bounds-build-end
 slice_aggregate_build c = search rules
 
-build_requires : tie.Need-build-requires
+build_requires : tie.Need-build-refusal-requires
 build_requires c κs = search rules
 
-answered_requires_2 : tie.Need-answered-requires-2
+answered_requires_2 : tie.Need-answered-requires-then-refusal-ne0
 answered_requires_2 c κs = search rules
 
-returns_2 : tie.Need-returns-2
+returns_2 : tie.Need-returns-then-refusal-ne0
 unfolding plan_answer plan_table
 returns_2 c =
     let number = number c.before.before.before in (
-      c.answered2.ensures ∙ refused_as _ _ c.before.if2.true number,
-      sym (kept_old _ _ _ (λ z. c.before.if2.true (number ∙ z))),
+      c.answered-then-refusal-ne0.ensures ∙ refused_as _ _ c.if-refusal-ne0.true number,
+      sym (kept_old _ _ _ (λ z. c.if-refusal-ne0.true (number ∙ z))),
     )
 
-slice_aggregate_copy : tie.Need-slice-aggregate-copy
+slice_aggregate_copy : tie.Need-slice_bounds-copy-end
 slice_aggregate_copy c = search rules
 
 copy_requires : tie.Need-copy-requires
 copy_requires c κs = search rules
 
-edition_in_requires : tie.Need-edition-in-requires
+edition_in_requires : tie.Need-edition_in-requires
 edition_in_requires c κs = search rules
 
-edition_number_requires : tie.Need-edition-number-requires
+edition_number_requires : tie.Need-edition_number-requires
 edition_number_requires c κs = search rules
 
 whole_requires : tie.Need-whole-requires
-whole_requires c κs = omega (arith, c.edition-number.ensures.1)
+whole_requires c κs = omega (arith, c.edition_number.ensures.1)
 
-same_length : tie.Need-same-length
+same_length : tie.Need-shape_of-table
 same_length c = search rules
 
-returns_3 : tie.Need-returns-3
+returns_3 : tie.Need-returns
 unfolding told plan_answer blank
 returns_3 c =
-    let named = c.before.before in
-    let copied = named.before.before in
-    let past = accepted copied in
-    let built = past.before.before in
-    let args = (start built).args in
-    let zero = sym (number built) ∙ past.if2.left in (
-      ap (λ (z : ℤ). accepted_with (z ∷ [])) (to_z-of_z w64 c.whole.result (sfits_of c.whole.type-inv) ∙ c.whole.ensures ∙ ap pos (c.before.edition-number.ensures.0 ∙ ap edition_number named.edition-in.ensures)) ∙ sym (outcome_accepted _ _ zero),
+    let named = c in
+    let copied = named in
+    let past = accepted copied.before.before.before.before in
+    let built = past in
+    let args = (start built.before.before).args in
+    let zero = sym (number built.before.before) ∙ past.if-refusal-ne0.false in (
+      ap (λ (z : ℤ). accepted_with (z ∷ [])) (to_z-of_z w64 c.whole.result (sfits_of c.whole.type_inv) ∙ c.whole.ensures ∙ ap pos (c.edition_number.ensures.0 ∙ ap edition_number named.edition_in.ensures)) ∙ sym (outcome_accepted _ _ zero),
       copied.copy.ensures
-          ∙ built.build.ensures.1.1 past.if2.left
-          ∙ sym (plan_table_law blank args.s.now (sym built.build.ensures.0 ∙ past.if2.left))
-          ∙ sym (plan_table_any args.table.now blank args.s.now (built.before.before.if1.left ∙ sym (length-replicate table_length (pos 0))) zero),
+          ∙ built.build-refusal.ensures.1.1 past.if-refusal-ne0.false
+          ∙ sym (plan_table_law blank args.s.now (sym built.build-refusal.ensures.0 ∙ past.if-refusal-ne0.false))
+          ∙ sym (plan_table_any args.table.now blank args.s.now (built.if-table-ne-LENGTH.false ∙ sym (length-replicate table_length (pos 0))) zero),
     )
 
 pub read_spec : {M : Type 1} → statement M

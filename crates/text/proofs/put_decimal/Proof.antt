@@ -33,7 +33,7 @@ returns c =
     let put = c in
     let digits = put in
     let start = digits.args in
-    append_as _ _ _ _ _ _ (digits.decimal-count.ensures.1.1 ∙ fewest_decimal start.n digits.decimal-count.result (small digits.before.before.before.before.before) digits.decimal-count.ensures.1.0) put.put_text.ensures
+    append_as _ _ _ _ _ _ (digits.decimal-count.ensures.1.1.0 ∙ fewest_decimal start.n digits.decimal-count.result (small digits.before.before.before.before.before) digits.decimal-count.ensures.1.0) put.put_text.ensures
 
 pub put_decimal_spec : {M : Type 1} → statement M
 put_decimal_spec =

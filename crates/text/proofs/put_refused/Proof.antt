@@ -17,17 +17,11 @@ word c = c.before.before.before.before
 abbrev start : tie.After-put_text-number_at → tie.Start
 start c = c.before.before.before.before.before
 
-slice_aggregate_put_text : tie.Need-slice-aggregate-put-text
-slice_aggregate_put_text c = search rules
-
 put_text_requires : tie.Need-put_text-number_at-requires
 put_text_requires c κs = search rules
 
 put_decimal_requires : tie.Need-put_decimal-end-requires
 put_decimal_requires c κs = search rules
-
-slice_aggregate_put_text_2 : tie.Need-slice-aggregate-put-text-2
-slice_aggregate_put_text_2 c = search rules
 
 put_text_requires_2 : tie.Need-put_text-requires
 put_text_requires_2 c κs =
@@ -49,10 +43,8 @@ pub put_refused_spec : {M : Type 1} → statement M
 put_refused_spec =
     tie.close
     (tie.spec
-    slice_aggregate_put_text
     put_text_requires
     put_decimal_requires
-    slice_aggregate_put_text_2
     put_text_requires_2
     same_length
     returns)
