@@ -17,12 +17,12 @@ bounds-list-count c = lists_room _ _ _ _ c.loop-k.invariant.1 (omega arith)
 pub loop-k-preserved : goal.loop-k-preserved
 loop-k-preserved c =
     elim c.if-is_client.branch [
-      then-is_client w ↦ (
+      | then-is_client w ↦ (
         omega arith,
         rw (w.list-is, w.count-is) (lists_more _ _ _ _ c.loop-k.invariant.1 (omega arith) (sym c.is_client.ensures ∙ w.if-is_client.true)),
         rw w.list-is (length-set c.loop-k.list c.loop-k.count _ ∙ c.loop-k.invariant.2),
       )
-    | else-is_client w ↦ (
+      | else-is_client w ↦ (
         omega arith,
         rw (w.list-is, w.count-is) (lists_stay _ _ _ _ c.loop-k.invariant.1 (sym c.is_client.ensures ∙ w.if-is_client.false)),
         rw w.list-is c.loop-k.invariant.2,
