@@ -43,7 +43,6 @@ fn compared_number(compared: Compared) -> i64
 }
 
 // Open (rate, root depth).
-#[unsafe(no_mangle)]
 pub extern "C" fn hds_open(table: &mut [i64], rate: i64, depth: i64) -> i64
     ensures answer { result ≡ exported (open_answer table.old rate depth) }
     ensures table { table.new ≡ open_table table.old rate depth }
@@ -52,7 +51,6 @@ pub extern "C" fn hds_open(table: &mut [i64], rate: i64, depth: i64) -> i64
 }
 
 // Join (node, parent, sort, kind, share, depth, port).
-#[unsafe(no_mangle)]
 pub extern "C" fn hds_join(
     table: &mut [i64],
     node: i64,
@@ -70,7 +68,6 @@ pub extern "C" fn hds_join(
 }
 
 // Leave (node).
-#[unsafe(no_mangle)]
 pub extern "C" fn hds_leave(table: &mut [i64], node: i64) -> i64
     ensures answer { result ≡ exported (leave_answer table.old node) }
     ensures table { table.new ≡ leave_table table.old node }
@@ -79,7 +76,6 @@ pub extern "C" fn hds_leave(table: &mut [i64], node: i64) -> i64
 }
 
 // Change share (node, kind, share).
-#[unsafe(no_mangle)]
 pub extern "C" fn hds_change_share(table: &mut [i64], node: i64, kind: i64, share: i64) -> i64
     ensures answer { result ≡ exported (change_share_answer table.old node kind share) }
     ensures table { table.new ≡ change_share_table table.old node kind share }
@@ -88,7 +84,6 @@ pub extern "C" fn hds_change_share(table: &mut [i64], node: i64, kind: i64, shar
 }
 
 // Change rate (rate).
-#[unsafe(no_mangle)]
 pub extern "C" fn hds_change_rate(table: &mut [i64], rate: i64) -> i64
     ensures answer { result ≡ exported (change_rate_answer table.old rate) }
     ensures table { table.new ≡ change_rate_table table.old rate }
@@ -97,7 +92,6 @@ pub extern "C" fn hds_change_rate(table: &mut [i64], rate: i64) -> i64
 }
 
 // Request (client, tag, size): the arrival number.
-#[unsafe(no_mangle)]
 pub extern "C" fn hds_request(table: &mut [i64], client: i64, tag: i64, size: i64) -> i64
     ensures answer { result ≡ exported (request_answer table.old client tag size) }
     ensures table { table.new ≡ request_table table.old client tag size }
@@ -106,7 +100,6 @@ pub extern "C" fn hds_request(table: &mut [i64], client: i64, tag: i64, size: i6
 }
 
 // Tick: 0, the dispatches of each port on its list, and in counts how many they are.
-#[unsafe(no_mangle)]
 pub extern "C" fn hds_tick(
     table: &mut [i64],
     first: &mut [i64],
@@ -133,7 +126,6 @@ pub extern "C" fn hds_tick(
 }
 
 // Look (node): 0, and in seen the rate, balance, waiting count and lost grains.
-#[unsafe(no_mangle)]
 pub extern "C" fn hds_look(table: &[i64], node: i64, seen: &mut [i64; Table::SEEN]) -> i64
     ensures answer { result ≡ exported_bare (look_answer table.now node) }
     ensures seen { seen.new ≡ shown (look_answer table.now node) seen.old }
@@ -154,7 +146,6 @@ pub extern "C" fn hds_look(table: &[i64], node: i64, seen: &mut [i64; Table::SEE
 }
 
 // Same (two tables): 1 for yes, 0 for no.
-#[unsafe(no_mangle)]
 pub extern "C" fn hds_same(first: &[i64], second: &[i64]) -> i64
     ensures { result ≡ exported (same_answer first.now second.now) }
 {
@@ -162,7 +153,6 @@ pub extern "C" fn hds_same(first: &[i64], second: &[i64]) -> i64
 }
 
 // Reads a plan into a table: its edition, 1 or 2.
-#[unsafe(no_mangle)]
 pub extern "C" fn hds_plan_read(table: &mut [i64], contents: &[u8]) -> i64
     ensures answer { result ≡ exported (plan_answer table.old contents.now) }
     ensures table { table.new ≡ plan_table table.old contents.now }
@@ -171,7 +161,6 @@ pub extern "C" fn hds_plan_read(table: &mut [i64], contents: &[u8]) -> i64
 }
 
 // Writes the plan of a table into a buffer, in edition 1 or 2: its length.
-#[unsafe(no_mangle)]
 pub extern "C" fn hds_plan_write(table: &[i64], edition: i64, buffer: &mut [u8]) -> i64
     ensures answer { result ≡ exported (write_answer table.now edition buffer.old) }
     ensures buffer { buffer.new ≡ write_buffer table.now edition buffer.old }
@@ -180,7 +169,6 @@ pub extern "C" fn hds_plan_write(table: &[i64], edition: i64, buffer: &mut [u8])
 }
 
 // Gives every node its kind and share at a minute of the week: 0.
-#[unsafe(no_mangle)]
 pub extern "C" fn hds_set_minute(
     table: &mut [i64],
     plan: &[u8],

@@ -10,7 +10,6 @@ pub use reading::{check, read};
 pub use writing::write;
 
 // For the cabinet's firmware in C: the refusal number of plan bytes, or 0.
-#[unsafe(no_mangle)]
 pub extern "C" fn hds_plan_check(contents: &[u8]) -> u32
     ensures { result ≡ check_answer contents.now }
 {

@@ -13,48 +13,48 @@ use Rattle.loadformat.proofs.Lines.{lines_short}
 use Rattle.loadlines.proofs.put_dispatches.Statement.{statement}
 use Rattle.loadlines.proofs.put_dispatches.Tie as tie
 
-abbrev invariant_loop : tie.invariant-loop
+abbrev invariant_loop : tie.invariant-loop-i
 invariant_loop text₀ a tick list count at₀ i₀ text at i =
     (i ≤ count) × (Appended text₀ a (bytes_below i (dispatch_line tick list)) text at) × (length text ≡ length text₀)
 
-abbrev decreases_loop : tie.decreases-loop
+abbrev decreases_loop : tie.decreases-loop-i
 decreases_loop text₀ a tick list count at₀ i₀ text at i = count - i
 
-loop_holds : tie.Need-loop-init invariant_loop decreases_loop
+loop_holds : tie.Need-loop-i-init invariant_loop decreases_loop
 unfolding bytes_below
 loop_holds c = (omega arith, append_none _ _, refl)
 
-put_dispatch_requires : tie.Need-put-dispatch-requires invariant_loop decreases_loop
+put_dispatch_requires : tie.Need-put_dispatch-at-requires invariant_loop decreases_loop
 put_dispatch_requires c κs =
-    let at = c.before.before in
-    let start = at.before.before.args in
-    (omega (arith, at.loop.invariant.1.behind, lines_short start.tick at.loop.i start.list.now), omega arith)
+    let at = c in
+    let start = at.args in
+    (omega (arith, at.loop-i.invariant.1.behind, lines_short start.tick at.loop-i.i start.list.now), omega arith)
 
-add_i : tie.Need-overflow-add-i invariant_loop decreases_loop
+add_i : tie.Need-overflow_add-i invariant_loop decreases_loop
 add_i c = search rules
 
-loop_less : tie.Need-loop-smaller invariant_loop decreases_loop
+loop_less : tie.Need-loop-i-smaller invariant_loop decreases_loop
 loop_less c = search rules
 
-loop_again : tie.Need-loop-preserved invariant_loop decreases_loop
+loop_again : tie.Need-loop-i-preserved invariant_loop decreases_loop
 loop_again c =
-    let call = c.before.before in
-    let at = call.before.before.before in
-    let start = at.before.before.args in
-    let i = at.loop.i in (
+    let call = c in
+    let at = call in
+    let start = at.args in
+    let i = at.loop-i.i in (
       omega arith,
-      append_next _ _ _ _ _ _ i (dispatch_line start.tick start.list.now) (omega (arith, lines_short start.tick i start.list.now)) at.loop.invariant.1 call.put-dispatch.ensures,
+      append_next _ _ _ _ _ _ i (dispatch_line start.tick start.list.now) (omega (arith, lines_short start.tick i start.list.now)) at.loop-i.invariant.1 call.put_dispatch-at.ensures,
       search rules,
     )
 
-same_length : tie.Need-same-length invariant_loop decreases_loop
+same_length : tie.Need-shape_of-text invariant_loop decreases_loop
 same_length c = search rules
 
 returns : tie.Need-returns invariant_loop decreases_loop
 returns c =
-    let start = c.before.before.before.args in
-    let end : c.before.loop.i ≡ start.count = omega arith in
-    append_as _ _ _ _ _ _ (ap (λ (i : ℕ). bytes_below i (dispatch_line start.tick start.list.now)) end) c.before.loop.invariant.1
+    let start = c.args in
+    let end : c.loop-i.i ≡ start.count = omega arith in
+    append_as _ _ _ _ _ _ (ap (λ (i : ℕ). bytes_below i (dispatch_line start.tick start.list.now)) end) c.loop-i.invariant.1
 
 pub put_dispatches_spec : {M : Type 1} → statement M
 put_dispatches_spec =

@@ -14,29 +14,29 @@ use Rattle.loadlines.proofs.put_number.Tie as tie
 slice_aggregate_put_text : tie.Need-slice-aggregate-put-text
 slice_aggregate_put_text c = search rules
 
-put_text_requires : tie.Need-put-text-requires
+put_text_requires : tie.Need-put_text-number_at-requires
 put_text_requires c κs = search rules
 
-entry_number_requires : tie.Need-entry-number-requires
+entry_number_requires : tie.Need-entry_number-requires
 entry_number_requires c κs = search rules
 
 natural_requires : tie.Need-natural-requires
 natural_requires c κs = search rules
 
-put_decimal_requires : tie.Need-put-decimal-requires
+put_decimal_requires : tie.Need-put_decimal-requires
 put_decimal_requires c κs = search rules
 
-same_length : tie.Need-same-length
+same_length : tie.Need-shape_of-text
 same_length c = search rules
 
 returns : tie.Need-returns
 unfolding number_text ascii
 returns c =
-    let digits = c.before.before in
-    let number = digits.before in
-    let space = number.before.before.before.before.before in
-    append_more _ _ (ascii " ") _ _ _ _ _ (omega arith) space.put-text.ensures
-    (append_as _ _ _ _ _ _ (ap decimal (number.natural.ensures ∙ ap plus (to_z-of_z w64 _ (sfits_of number.before.entry-number.type-inv) ∙ number.before.entry-number.ensures))) digits.put-decimal.ensures)
+    let digits = c in
+    let number = digits in
+    let space = number in
+    append_more _ _ (ascii " ") _ _ _ _ _ (omega arith) space.put_text-number_at.ensures
+    (append_as _ _ _ _ _ _ (ap decimal (number.natural.ensures ∙ ap plus (to_z-of_z w64 _ (sfits_of number.entry_number.type_inv) ∙ number.entry_number.ensures))) digits.put_decimal.ensures)
 
 pub put_number_spec : {M : Type 1} → statement M
 put_number_spec =

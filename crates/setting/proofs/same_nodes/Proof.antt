@@ -8,35 +8,35 @@ use Rattle.hourlaws.specs.SetMinute.{same_node}
 use Rattle.setting.proofs.same_nodes.Statement.{statement}
 use Rattle.setting.proofs.same_nodes.Tie as tie
 
-abbrev invariant_loop : tie.invariant-loop
+abbrev invariant_loop : tie.invariant-loop-k
 invariant_loop table plan same₀ k₀ same k = (k ≤ nodes) × (same ≡ all_below k (same_node table plan))
 
-abbrev decreases_loop : tie.decreases-loop
+abbrev decreases_loop : tie.decreases-loop-k
 decreases_loop table plan same₀ k₀ same k = nodes - k
 
-loop_holds : tie.Need-loop-init invariant_loop decreases_loop
+loop_holds : tie.Need-loop-k-init invariant_loop decreases_loop
 unfolding all_below
 loop_holds c = (omega arith, refl)
 
-same_node_requires : tie.Need-same-node-requires invariant_loop decreases_loop
+same_node_requires : tie.Need-same_node-same-requires invariant_loop decreases_loop
 same_node_requires c κs = omega arith
 
-add_k : tie.Need-overflow-add-k invariant_loop decreases_loop
+add_k : tie.Need-overflow_add-k invariant_loop decreases_loop
 add_k c = omega arith
 
-loop_less : tie.Need-loop-smaller invariant_loop decreases_loop
+loop_less : tie.Need-loop-k-smaller invariant_loop decreases_loop
 loop_less c = omega arith
 
-loop_again : tie.Need-loop-preserved invariant_loop decreases_loop
+loop_again : tie.Need-loop-k-preserved invariant_loop decreases_loop
 loop_again c =
-    let at = c.before.before in
-    let args = at.before.args in
-    (omega arith, all_grows at.loop.k (same_node args.table.now args.plan.now) _ _ at.loop.invariant.1 c.same_node.ensures)
+    let at = c in
+    let args = at.args in
+    (omega arith, all_grows at.loop-k.k (same_node args.table.now args.plan.now) _ _ at.loop-k.invariant.1 c.same_node-same.ensures)
 
 returns : tie.Need-returns invariant_loop decreases_loop
 returns c =
-    let args = c.before.before.args in
-    all_done c.before.loop.k nodes (same_node args.table.now args.plan.now) _ c.before.loop.invariant.1 (omega arith)
+    let args = c.args in
+    all_done c.loop-k.k nodes (same_node args.table.now args.plan.now) _ c.loop-k.invariant.1 (omega arith)
 
 pub same_nodes_spec : {M : Type 1} → statement M
 same_nodes_spec =

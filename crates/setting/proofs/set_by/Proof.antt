@@ -22,56 +22,56 @@ use borrow.Author.Rules.{rules}
 use Rattle.setting.proofs.set_by.Statement.{statement}
 use Rattle.setting.proofs.set_by.Tie as tie
 
-abbrev start : tie.Else1 → tie.Start
-start c = c.before.before.before
+abbrev start : tie.Else-number-ne0 → tie.Start
+start c = c.before.before
 
-accepted : (c : tie.Else1) → let s = start c in timetable_refusal s.args.table.now s.args.plan.now s.args.windows.now ≡ 0
-accepted c = sym c.before.timetable-refusal.ensures.0 ∙ c.if1.false
+accepted : (c : tie.Else-number-ne0) → let s = start c in timetable_refusal s.args.table.now s.args.plan.now s.args.windows.now ≡ 0
+accepted c = sym c.timetable_refusal-number.ensures.0 ∙ c.if-number-ne0.false
 
 -- What the timetable has passed.
-passed : (c : tie.Else1) → let s = start c in Timetabled s.args.table.now s.args.plan.now s.args.windows.now
+passed : (c : tie.Else-number-ne0) → let s = start c in Timetabled s.args.table.now s.args.plan.now s.args.windows.now
 passed c = timetabled _ _ _ (accepted c)
 
-in_order_law : (c : tie.Else1) → let s = start c in in_order (renewed (reshared_as (tree_at (tree_of s.args.plan.now) s.args.windows.now s.args.m) s.args.table.now)) ≡ true
+in_order_law : (c : tie.Else-number-ne0) → let s = start c in in_order (renewed (reshared_as (tree_at (tree_of s.args.plan.now) s.args.windows.now s.args.m) s.args.table.now)) ≡ true
 in_order_law c = let pre = (start c).requires in changed _ _ _ _ (facts _ pre.0) (facts _ pre.1) pre.2 (passed c)
 
-renews : (c : tie.Else1) → let s = start c in RenewsAll (reshared_as (tree_at (tree_of s.args.plan.now) s.args.windows.now s.args.m) s.args.table.now) root
+renews : (c : tie.Else-number-ne0) → let s = start c in RenewsAll (reshared_as (tree_at (tree_of s.args.plan.now) s.args.windows.now s.args.m) s.args.table.now) root
 renews c = let pre = (start c).requires in renews_below _ _ _ _ (facts _ pre.0) (facts _ pre.1) pre.2 (passed c)
 
-timetable_refusal_requires : tie.Need-timetable-refusal-requires
-timetable_refusal_requires c κs = (long _ c.before.requires.0, c.before.requires.1)
+timetable_refusal_requires : tie.Need-timetable_refusal-number-requires
+timetable_refusal_requires c κs = (long _ c.requires.0, c.requires.1)
 
-same_length : tie.Need-same-length
+same_length : tie.Need-shape_of-table-then-number-ne0
 same_length c = search rules
 
-returns : tie.Need-returns
+returns : tie.Need-returns-then-number-ne0
 returns c =
-    let call = c.before.timetable-refusal in
-    (call.ensures.0, (call.ensures.1, sym (kept_old _ _ _ (λ e. c.if1.true (call.ensures.0 ∙ e)))))
+    let call = c.timetable_refusal-number in
+    (call.ensures.0, (call.ensures.1, sym (kept_old _ _ _ (λ e. c.if-number-ne0.true (call.ensures.0 ∙ e)))))
 
-set_nodes_requires : tie.Need-set-nodes-requires
+set_nodes_requires : tie.Need-set_nodes-requires
 set_nodes_requires c κs =
     let pre = (start c.before).requires in
     (long _ pre.0, long _ pre.1, timed_nodes _ _ (passed c.before).table, small_numbers _ _ _ _ (facts _ pre.0) (facts _ pre.1) pre.2 (passed c.before))
 
-renew_below_requires : tie.Need-renew-below-requires
+renew_below_requires : tie.Need-renew_below-requires
 renew_below_requires c κs =
-    let wrote = c.before.before in
-    let test = wrote.before.before in
-    let r = renews test in
-    rw wrote.set-nodes.ensures (rated_before _ _ (in_order_law test) r.low r.there r.small)
+    let wrote = c in
+    let test = wrote in
+    let r = renews test.before.before.before.before in
+    rw wrote.set_nodes.ensures (rated_before _ _ (in_order_law test.before.before.before.before) r.low r.there r.small)
 
-same_length_2 : tie.Need-same-length-2
+same_length_2 : tie.Need-shape_of-table
 same_length_2 c = search rules
 
-returns_2 : tie.Need-returns-2
+returns_2 : tie.Need-returns
 unfolding minute_table
 returns_2 c =
-    let renewal = c.before in
-    let wrote = renewal.before.before.before in
-    let test = wrote.before.before in (
-      sym (accepted test),
-      (omega arith, renewal.renew-below.ensures ∙ ap (λ (u : List ℤ). renewed_below u root) wrote.set-nodes.ensures ∙ (renews test).all ∙ sym (kept_new _ _ _ (accepted test))),
+    let renewal = c in
+    let wrote = renewal in
+    let test = wrote in (
+      sym (accepted test.before.before.before.before.before.before),
+      (omega arith, renewal.renew_below.ensures ∙ ap (λ (u : List ℤ). renewed_below u root) wrote.set_nodes.ensures ∙ (renews test.before.before.before.before.before.before).all ∙ sym (kept_new _ _ _ (accepted test.before.before.before.before.before.before))),
     )
 
 pub set_by_spec : {M : Type 1} → statement M

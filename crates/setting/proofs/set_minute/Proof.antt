@@ -10,20 +10,20 @@ use Rattle.hourlaws.specs.SetMinute.{set_minute_answer}
 use Rattle.setting.proofs.set_minute.Statement.{statement}
 use Rattle.setting.proofs.set_minute.Tie as tie
 
-set_minute_number_requires : tie.Need-set-minute-number-requires
+set_minute_number_requires : tie.Need-set_minute_number-requires
 set_minute_number_requires c κs = search rules
 
 answered_requires : tie.Need-answered-requires
 answered_requires c κs = search rules
 
-same_length : tie.Need-same-length
+same_length : tie.Need-shape_of-table
 same_length c = search rules
 
 returns : tie.Need-returns
 unfolding set_minute_answer
 returns c =
-    let call = c.before.before.set-minute-number in
-    let s = c.before.before.before.before.before in
+    let call = c.set_minute_number in
+    let s = c in
     let number = rw (to_z-of_z w64 s.args.minute s.ranges.minute) at call.ensures.0 in
     let table = rw (to_z-of_z w64 s.args.minute s.ranges.minute) at call.ensures.1.1 in
     (c.answered.ensures ∙ ap (λ (n : ℕ). outcome n done) number, table)
