@@ -43,7 +43,7 @@ fn compared_number(compared: Compared) -> i64
 }
 
 // Open (rate, root depth).
-pub extern "C" fn hds_open(table: &mut [i64], rate: i64, depth: i64) -> i64
+pub fn hds_open(table: &mut [i64], rate: i64, depth: i64) -> i64
     ensures answer { result ≡ exported (open_answer table.old rate depth) }
     ensures table { table.new ≡ open_table table.old rate depth }
 {
@@ -51,7 +51,7 @@ pub extern "C" fn hds_open(table: &mut [i64], rate: i64, depth: i64) -> i64
 }
 
 // Join (node, parent, sort, kind, share, depth, port).
-pub extern "C" fn hds_join(
+pub fn hds_join(
     table: &mut [i64],
     node: i64,
     parent: i64,
@@ -68,7 +68,7 @@ pub extern "C" fn hds_join(
 }
 
 // Leave (node).
-pub extern "C" fn hds_leave(table: &mut [i64], node: i64) -> i64
+pub fn hds_leave(table: &mut [i64], node: i64) -> i64
     ensures answer { result ≡ exported (leave_answer table.old node) }
     ensures table { table.new ≡ leave_table table.old node }
 {
@@ -76,7 +76,7 @@ pub extern "C" fn hds_leave(table: &mut [i64], node: i64) -> i64
 }
 
 // Change share (node, kind, share).
-pub extern "C" fn hds_change_share(table: &mut [i64], node: i64, kind: i64, share: i64) -> i64
+pub fn hds_change_share(table: &mut [i64], node: i64, kind: i64, share: i64) -> i64
     ensures answer { result ≡ exported (change_share_answer table.old node kind share) }
     ensures table { table.new ≡ change_share_table table.old node kind share }
 {
@@ -84,7 +84,7 @@ pub extern "C" fn hds_change_share(table: &mut [i64], node: i64, kind: i64, shar
 }
 
 // Change rate (rate).
-pub extern "C" fn hds_change_rate(table: &mut [i64], rate: i64) -> i64
+pub fn hds_change_rate(table: &mut [i64], rate: i64) -> i64
     ensures answer { result ≡ exported (change_rate_answer table.old rate) }
     ensures table { table.new ≡ change_rate_table table.old rate }
 {
@@ -92,7 +92,7 @@ pub extern "C" fn hds_change_rate(table: &mut [i64], rate: i64) -> i64
 }
 
 // Request (client, tag, size): the arrival number.
-pub extern "C" fn hds_request(table: &mut [i64], client: i64, tag: i64, size: i64) -> i64
+pub fn hds_request(table: &mut [i64], client: i64, tag: i64, size: i64) -> i64
     ensures answer { result ≡ exported (request_answer table.old client tag size) }
     ensures table { table.new ≡ request_table table.old client tag size }
 {
@@ -100,7 +100,7 @@ pub extern "C" fn hds_request(table: &mut [i64], client: i64, tag: i64, size: i6
 }
 
 // Tick: 0, the dispatches of each port on its list, and in counts how many they are.
-pub extern "C" fn hds_tick(
+pub fn hds_tick(
     table: &mut [i64],
     first: &mut [i64],
     second: &mut [i64],
@@ -126,7 +126,7 @@ pub extern "C" fn hds_tick(
 }
 
 // Look (node): 0, and in seen the rate, balance, waiting count and lost grains.
-pub extern "C" fn hds_look(table: &[i64], node: i64, seen: &mut [i64; Table::SEEN]) -> i64
+pub fn hds_look(table: &[i64], node: i64, seen: &mut [i64; Table::SEEN]) -> i64
     ensures answer { result ≡ exported_bare (look_answer table.now node) }
     ensures seen { seen.new ≡ shown (look_answer table.now node) seen.old }
 {
@@ -146,14 +146,14 @@ pub extern "C" fn hds_look(table: &[i64], node: i64, seen: &mut [i64; Table::SEE
 }
 
 // Same (two tables): 1 for yes, 0 for no.
-pub extern "C" fn hds_same(first: &[i64], second: &[i64]) -> i64
+pub fn hds_same(first: &[i64], second: &[i64]) -> i64
     ensures { result ≡ exported (same_answer first.now second.now) }
 {
     compared_number(comparing::same(first, second))
 }
 
 // Reads a plan into a table: its edition, 1 or 2.
-pub extern "C" fn hds_plan_read(table: &mut [i64], contents: &[u8]) -> i64
+pub fn hds_plan_read(table: &mut [i64], contents: &[u8]) -> i64
     ensures answer { result ≡ exported (plan_answer table.old contents.now) }
     ensures table { table.new ≡ plan_table table.old contents.now }
 {
@@ -161,7 +161,7 @@ pub extern "C" fn hds_plan_read(table: &mut [i64], contents: &[u8]) -> i64
 }
 
 // Writes the plan of a table into a buffer, in edition 1 or 2: its length.
-pub extern "C" fn hds_plan_write(table: &[i64], edition: i64, buffer: &mut [u8]) -> i64
+pub fn hds_plan_write(table: &[i64], edition: i64, buffer: &mut [u8]) -> i64
     ensures answer { result ≡ exported (write_answer table.now edition buffer.old) }
     ensures buffer { buffer.new ≡ write_buffer table.now edition buffer.old }
 {
@@ -169,7 +169,7 @@ pub extern "C" fn hds_plan_write(table: &[i64], edition: i64, buffer: &mut [u8])
 }
 
 // Gives every node its kind and share at a minute of the week: 0.
-pub extern "C" fn hds_set_minute(
+pub fn hds_set_minute(
     table: &mut [i64],
     plan: &[u8],
     windows: &[i64],

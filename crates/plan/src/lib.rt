@@ -10,7 +10,7 @@ pub use reading::{check, read};
 pub use writing::write;
 
 // For the cabinet's firmware in C: the refusal number of plan bytes, or 0.
-pub extern "C" fn hds_plan_check(contents: &[u8]) -> u32
+pub fn hds_plan_check(contents: &[u8]) -> u32
     ensures { result ≡ check_answer contents.now }
 {
     reading::check(contents) as u32

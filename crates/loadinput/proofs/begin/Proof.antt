@@ -33,7 +33,7 @@ returns : tie.Need-returns
 returns c =
     let put = c.before.before in
     let test = put.before.before in
-    let begins = refused_begins _ _ _ _ _ _ test.before.before.read-input.ensures.0 test.if1.true put.Put-refused.ensures in
+    let begins = refused_begins _ _ _ _ _ _ test.before.before.read-input.ensures.0 test.if1.true put.put_refused.ensures in
     (appended_counts _ _ _ _ begins.text, (begins, omega arith))
 
 four_requires : tie.Need-four-requires

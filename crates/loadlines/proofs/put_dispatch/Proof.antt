@@ -27,9 +27,6 @@ put_entry_requires c κs =
     let x = (start c.before.before.before).args in
     (omega (arith, decimal_short x.tick), search rules)
 
-slice_aggregate_put_text : tie.Need-slice-aggregate-put-text
-slice_aggregate_put_text c = search rules
-
 put_text_requires : tie.Need-put_text-requires
 put_text_requires c κs =
     let x = (start (number c.before.before.before.before.before)).args in
@@ -57,7 +54,6 @@ put_dispatch_spec =
     (tie.spec
     put_decimal_requires
     put_entry_requires
-    slice_aggregate_put_text
     put_text_requires
     same_length
     returns)

@@ -11,9 +11,6 @@ use Rattle.loadformat.specs.Text.{number_text}
 use Rattle.loadlines.proofs.put_number.Statement.{statement}
 use Rattle.loadlines.proofs.put_number.Tie as tie
 
-slice_aggregate_put_text : tie.Need-slice-aggregate-put-text
-slice_aggregate_put_text c = search rules
-
 put_text_requires : tie.Need-put_text-number_at-requires
 put_text_requires c κs = search rules
 
@@ -42,7 +39,6 @@ pub put_number_spec : {M : Type 1} → statement M
 put_number_spec =
     tie.close
     (tie.spec
-    slice_aggregate_put_text
     put_text_requires
     entry_number_requires
     natural_requires

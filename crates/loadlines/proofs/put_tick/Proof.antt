@@ -12,7 +12,7 @@ abbrev start : tie.After-run-counts → tie.Start
 start c = c.before.before.before.before.before
 
 -- What is known of the list and of the count.
-shown : (c : tie.After-run-counts) → Shown (ticked (start c).args.table.now).entries c.run-counts.new.1 c.run-counts.result.first
+shown : (c : tie.After-run-counts) → Shown (ticked (start c).args.table.now).entries c.run-counts.new.first c.run-counts.result.first
 shown c =
     let pre = (start c).requires in
     tick_shown _ _ pre.1 pre.2 _ _ c.run-counts.ensures.1.0 c.run-counts.ensures.1.1.1.0

@@ -46,7 +46,7 @@ returns c =
 returns_2 : tie.Need-returns-2
 returns_2 c =
     let told = c.before.before.before in
-    let put = append_as _ _ _ _ _ _ (ap refused_line (number told) ∙ refused_report _ (λ z. c.before.before.if1.false (number told ∙ z))) c.Put-refused.ensures in
+    let put = append_as _ _ _ _ _ _ (ap refused_line (number told) ∙ refused_report _ (λ z. c.before.before.if1.false (number told ∙ z))) c.put_refused.ensures in
     (appended_counts _ _ _ _ put, (put.behind ∙ zero-add _, put.bytes))
 
 pub report_spec : {M : Type 1} → statement M

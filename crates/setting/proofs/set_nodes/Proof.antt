@@ -27,7 +27,7 @@ shares_at_requires c κs = let pre = c.requires in (pre.1, pre.2, refl)
 
 loop_holds : tie.Need-loop-k-init invariant_loop decreases_loop
 unfolding for_below
-loop_holds c = (omega arith, refl, c.Shares-at.ensures, refl)
+loop_holds c = (omega arith, refl, c.shares_at.ensures, refl)
 
 set_node_requires : tie.Need-set_node-requires invariant_loop decreases_loop
 set_node_requires c κs =

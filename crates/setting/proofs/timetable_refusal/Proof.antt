@@ -42,13 +42,13 @@ judge_requires c κs =
 returns_3 : tie.Need-returns-then-not-week
 returns_3 c =
     let judged = c in
-    (sym (overlapping _ _ _ (fits judged.before.before.before.before.before) (sym judged.judge-week.ensures.apart ∙ c.if-not-week.true)), omega arith)
+    (sym (overlapping _ _ _ (fits judged.before.before.before.before.before) (sym judged.judge-week.ensures.apart ∙ not-true _ c.if-not-week.true)), omega arith)
 
 returns_4 : tie.Need-returns
 returns_4 c =
     let judged = c in
     let tested = judged in
-    (sym (two _ _ _ (fits tested.before.before.before.before.before) (sym judged.judge-week.ensures.apart ∙ c.if-not-week.false) (sym tested.shares_fit.ensures ∙ tested.if-shares_fit.false)), omega arith)
+    (sym (two _ _ _ (fits tested.before.before.before.before.before) (sym judged.judge-week.ensures.apart ∙ not-false _ c.if-not-week.false) (sym tested.shares_fit.ensures ∙ tested.if-shares_fit.false)), omega arith)
 
 pub timetable_refusal_spec : {M : Type 1} → statement M
 timetable_refusal_spec =

@@ -14,20 +14,20 @@ judge_requires c κs = (shared c.args.table.now c.args.plan.now c.args.windows.n
 returns : tie.Need-returns-then-not-week
 returns c =
     let judged = c in
-    (sym (overlapping _ _ _ judged.requires.2 (sym judged.judge-week.ensures.apart ∙ c.if-not-week.true)), omega arith)
+    (sym (overlapping _ _ _ judged.requires.2 (sym judged.judge-week.ensures.apart ∙ not-true _ c.if-not-week.true)), omega arith)
 
 -- What is left of the causes once no two windows overlap.
 left : (c : tie.Else-not-week) → let s = c in SumsLeft s.args.table.now s.args.plan.now s.args.windows.now
 left c =
     let judged = c in
     let s = judged in
-    sums_left _ _ _ s.requires.2 (sym judged.judge-week.ensures.apart ∙ c.if-not-week.false) s.requires.3
+    sums_left _ _ _ s.requires.2 (sym judged.judge-week.ensures.apart ∙ not-false _ c.if-not-week.false) s.requires.3
 
 returns_2 : tie.Need-returns-then-not-week-2
 returns_2 c =
     let known = c in
     let judged = known in
-    (sym ((left known.before.before).seven (sym (judged.judge-week.ensures.fixed judged.requires.3) ∙ c.if-not-week-2.true)), omega arith)
+    (sym ((left known.before.before).seven (sym (judged.judge-week.ensures.fixed judged.requires.3) ∙ not-true _ c.if-not-week-2.true)), omega arith)
 
 returns_3 : tie.Need-returns-then-not-week-3
 returns_3 c =
@@ -35,7 +35,7 @@ returns_3 c =
     let known = fixeds in
     let judged = known in
     let fit = judged.requires.3 in
-    (sym ((left known.before.before.before.before).sixteen ((sym (judged.judge-week.ensures.fixed fit) ∙ fixeds.if-not-week-2.false)) (sym (judged.judge-week.ensures.stated fit) ∙ c.if-not-week-3.true)), omega arith)
+    (sym ((left known.before.before.before.before).sixteen ((sym (judged.judge-week.ensures.fixed fit) ∙ not-false _ fixeds.if-not-week-2.false)) (sym (judged.judge-week.ensures.stated fit) ∙ not-true _ c.if-not-week-3.true)), omega arith)
 
 returns_4 : tie.Need-returns
 returns_4 c =
@@ -43,7 +43,7 @@ returns_4 c =
     let known = fixeds in
     let judged = known in
     let fit = judged.requires.3 in
-    (sym ((left known.before.before.before.before).none ((sym (judged.judge-week.ensures.fixed fit) ∙ fixeds.if-not-week-2.false)) ((sym (judged.judge-week.ensures.stated fit) ∙ c.if-not-week-3.false))), omega arith)
+    (sym ((left known.before.before.before.before).none ((sym (judged.judge-week.ensures.fixed fit) ∙ not-false _ fixeds.if-not-week-2.false)) ((sym (judged.judge-week.ensures.stated fit) ∙ not-false _ c.if-not-week-3.false))), omega arith)
 
 pub week_refusal_spec : {M : Type 1} → statement M
 week_refusal_spec = tie.close (tie.spec judge_requires returns returns_2 returns_3 returns_4)
