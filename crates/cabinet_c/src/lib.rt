@@ -88,7 +88,7 @@ pub extern "C" fn hds_tick(
     ensures second { second.new ≡ tick_second table.old first.old second.old }
     ensures counts { counts.new ≡ shown (tick_answer table.old first.old second.old) counts.old }
 {
-    cabinet::hds_tick(table, first, second, counts, Table)
+    cabinet::hds_tick(table, first, second, counts)
 }
 
 // Look (node): 0, and in seen the rate, balance, waiting count and lost grains.
@@ -97,7 +97,7 @@ pub extern "C" fn hds_look(table: &[i64], node: i64, seen: &mut [i64; Table::SEE
     ensures answer { result ≡ exported_bare (look_answer table.now node) }
     ensures seen { seen.new ≡ shown (look_answer table.now node) seen.old }
 {
-    cabinet::hds_look(table, node, seen, Table)
+    cabinet::hds_look(table, node, seen)
 }
 
 // Same (two tables): 1 for yes, 0 for no.

@@ -9,32 +9,32 @@ use Rattle.cabinet.specs.Exported.{exported}
 use Rattle.cabinet.proofs.compared_number.Statement.{statement}
 use Rattle.cabinet.proofs.compared_number.Tie as tie
 
-enum_told : tie.Need-enum-told
+enum_told : tie.Need-enum_told-1
 enum_told c = search rules
 
-enum_told_2 : tie.Need-enum-told-2
+enum_told_2 : tie.Need-enum_told-in-Different
 enum_told_2 c = search rules
 
-enum_known_compared : tie.Need-enum-known-compared
+enum_known_compared : tie.Need-enum_known-compared
 enum_known_compared c = search rules
 
 negated_requires : tie.Need-negated-requires
 negated_requires c κs = search rules
 
-returns : tie.Need-returns
+returns : tie.Need-returns-in-Same
 unfolding exported told_compared
-returns c = sym (ap (λ (a : Compared). exported (told_compared a)) c.enum_told.given.1)
+returns c = sym (ap (λ (a : Compared). exported (told_compared a)) c.in-Same.is)
 
-returns_2 : tie.Need-returns-2
+returns_2 : tie.Need-returns-in-Different
 unfolding exported told_compared
-returns_2 c = sym (ap (λ (a : Compared). exported (told_compared a)) c.enum-told2.given.1)
+returns_2 c = sym (ap (λ (a : Compared). exported (told_compared a)) c.in-Different.is)
 
-returns_3 : tie.Need-returns-3
+returns_3 : tie.Need-returns-in-Refused
 unfolding exported told_compared
 returns_3 c =
-    to_z-of_z w64 _ (sfits_of c.negated.type-inv)
+    to_z-of_z w64 _ (sfits_of c.negated.type_inv)
     ∙ c.negated.ensures
-    ∙ sym (ap (λ (a : Compared). exported (told_compared a)) c.before.before.compared.given.1)
+    ∙ sym (ap (λ (a : Compared). exported (told_compared a)) c.in-Refused.is)
 
 pub compared_number_spec : {M : Type 1} → statement M
 compared_number_spec =

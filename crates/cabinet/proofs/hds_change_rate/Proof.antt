@@ -7,22 +7,22 @@ use Rattle.cabinet.specs.Exported.{exported}
 use Rattle.cabinet.proofs.hds_change_rate.Statement.{statement}
 use Rattle.cabinet.proofs.hds_change_rate.Tie as tie
 
-change_rate_requires : tie.Need-change-rate-requires
+change_rate_requires : tie.Need-change_rate-requires
 change_rate_requires c κs = search rules
 
-answer_number_requires : tie.Need-answer-number-requires
+answer_number_requires : tie.Need-answer_number-requires
 answer_number_requires c κs = search rules
 
-same_length : tie.Need-same-length
+same_length : tie.Need-shape_of-table
 same_length c = search rules
 
 returns : tie.Need-returns
 returns c =
-    let call = c.before.before in
-    let s = call.before.before in
+    let call = c in
+    let s = call in
     let done =
-    rw (to_z-of_z w64 s.args.rate s.ranges.rate) at call.change-rate.ensures in
-    (to_z-of_z w64 _ (sfits_of c.answer-number.type-inv) ∙ c.answer-number.ensures ∙ ap exported done.0, done.1)
+    rw (to_z-of_z w64 s.args.rate s.ranges.rate) at call.change_rate.ensures in
+    (to_z-of_z w64 _ (sfits_of c.answer_number.type_inv) ∙ c.answer_number.ensures ∙ ap exported done.0, done.1)
 
 pub hds_change_rate_spec : {M : Type 1} → statement M
 hds_change_rate_spec = tie.close (tie.spec change_rate_requires answer_number_requires same_length returns)

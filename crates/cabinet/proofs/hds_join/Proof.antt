@@ -10,19 +10,19 @@ use Rattle.cabinet.proofs.hds_join.Tie as tie
 join_requires : tie.Need-join-requires
 join_requires c κs = search rules
 
-answer_number_requires : tie.Need-answer-number-requires
+answer_number_requires : tie.Need-answer_number-requires
 answer_number_requires c κs = search rules
 
-same_length : tie.Need-same-length
+same_length : tie.Need-shape_of-table
 same_length c = search rules
 
 returns : tie.Need-returns
 returns c =
-    let call = c.before.before in
-    let s = call.before.before in
+    let call = c in
+    let s = call in
     let done =
     rw (to_z-of_z w64 s.args.node s.ranges.node, to_z-of_z w64 s.args.parent s.ranges.parent, to_z-of_z w64 s.args.sort s.ranges.sort, to_z-of_z w64 s.args.kind s.ranges.kind, to_z-of_z w64 s.args.share s.ranges.share, to_z-of_z w64 s.args.depth s.ranges.depth, to_z-of_z w64 s.args.port s.ranges.port) at call.join.ensures in
-    (to_z-of_z w64 _ (sfits_of c.answer-number.type-inv) ∙ c.answer-number.ensures ∙ ap exported done.0, done.1)
+    (to_z-of_z w64 _ (sfits_of c.answer_number.type_inv) ∙ c.answer_number.ensures ∙ ap exported done.0, done.1)
 
 pub hds_join_spec : {M : Type 1} → statement M
 hds_join_spec = tie.close (tie.spec join_requires answer_number_requires same_length returns)

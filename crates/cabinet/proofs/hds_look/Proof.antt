@@ -16,8 +16,8 @@ use Rattle.cabinet.proofs.hds_look.Statement.{statement}
 use Rattle.cabinet.proofs.hds_look.Tie as tie
 
 -- What look promises.
-promised : (c : tie.After-look) → let s = c.before in told_seen c.look.result ≡ look_answer s.args.table.now s.args.node
-promised c = let s = c.before in rw (to_z-of_z w64 s.args.node s.ranges.node) at c.look.ensures
+promised : (c : tie.After-look-found) → let s = c in told_seen c.look-found.result ≡ look_answer s.args.table.now s.args.node
+promised c = let s = c in rw (to_z-of_z w64 s.args.node s.ranges.node) at c.look-found.ensures
 
 four : {a b c d w x y z : ℤ} → w ≡ a → x ≡ b → y ≡ c → z ≡ d → ◌≡◌ {A = List ℤ} (w ∷ x ∷ y ∷ z ∷ []) (a ∷ b ∷ c ∷ d ∷ [])
 four p q r s = cc
@@ -31,25 +31,25 @@ refusal_told : {r : Seen} {o : Outcome} (why : Refusal) → r ≡ Refused why �
 unfolding told_seen
 refusal_told why e h = sym h ∙ ap told_seen e
 
-look_requires : tie.Need-look-requires
+look_requires : tie.Need-look-found-requires
 look_requires c κs = search rules
 
-enum_known_found : tie.Need-enum-known-found
+enum_known_found : tie.Need-enum_known-found
 enum_known_found c = search rules
 
-enum_known_found_2 : tie.Need-enum-known-found-2
+enum_known_found_2 : tie.Need-enum_known-found-in-Refused-1
 enum_known_found_2 c = search rules
 
 negated_requires : tie.Need-negated-requires
 negated_requires c κs = search rules
 
-returns : tie.Need-returns
+returns : tie.Need-returns-in-Node
 returns c =
-    let found = c.before.before in
-    let look = found.before.before in
-    let s = look.before in
-    let told = node_told _ _ _ _ found.found.given.1 (promised look) in
-    let fits = c.before.known-told.given in (
+    let found = c in
+    let look = found in
+    let s = look in
+    let told = node_told _ _ _ _ found.in-Node.is (promised look.before.before) in
+    let fits = c.before.in-Node.known_told-1-own.given in (
       accepted_number _ told,
       four
           (to_z-of_z w64 _ (record { sfits = fits.0.1 }))
@@ -59,13 +59,13 @@ returns c =
           ∙ accepted_buffer _ told s.args.seen.now,
     )
 
-returns_2 : tie.Need-returns-2
+returns_2 : tie.Need-returns-in-Refused
 returns_2 c =
-    let found = c.before.before in
-    let look = found.before.before in
-    let s = look.before in
-    let told = refusal_told _ found.found2.given.1 (promised look) in (
-      to_z-of_z w64 _ (sfits_of c.negated.type-inv) ∙ c.negated.ensures ∙ refused_number _ told,
+    let found = c in
+    let look = found in
+    let s = look in
+    let told = refusal_told _ found.in-Refused.is (promised look.before.before) in (
+      to_z-of_z w64 _ (sfits_of c.negated.type_inv) ∙ c.negated.ensures ∙ refused_number _ told,
       refused_buffer _ told s.args.seen.now,
     )
 

@@ -10,15 +10,15 @@ use Rattle.cabinet.proofs.hds_plan_read.Tie as tie
 read_requires : tie.Need-read-requires
 read_requires c κs = search rules
 
-answer_number_requires : tie.Need-answer-number-requires
+answer_number_requires : tie.Need-answer_number-requires
 answer_number_requires c κs = search rules
 
-same_length : tie.Need-same-length
+same_length : tie.Need-shape_of-table
 same_length c = search rules
 
 returns : tie.Need-returns
 returns c =
-    (to_z-of_z w64 _ (sfits_of c.answer-number.type-inv) ∙ c.answer-number.ensures ∙ ap exported c.before.before.read.ensures.0, c.before.before.read.ensures.1)
+    (to_z-of_z w64 _ (sfits_of c.answer_number.type_inv) ∙ c.answer_number.ensures ∙ ap exported c.read.ensures.0, c.read.ensures.1)
 
 pub hds_plan_read_spec : {M : Type 1} → statement M
 hds_plan_read_spec = tie.close (tie.spec read_requires answer_number_requires same_length returns)

@@ -10,18 +10,18 @@ use Rattle.cabinet.proofs.hds_plan_write.Tie as tie
 write_requires : tie.Need-write-requires
 write_requires c κs = search rules
 
-answer_number_requires : tie.Need-answer-number-requires
+answer_number_requires : tie.Need-answer_number-requires
 answer_number_requires c κs = search rules
 
-same_length : tie.Need-same-length
+same_length : tie.Need-shape_of-buffer
 same_length c = search rules
 
 returns : tie.Need-returns
 returns c =
-    let call = c.before.before.before in
-    let s = call.before.before.before in
+    let call = c in
+    let s = call in
     let wrote = rw (to_z-of_z w64 s.args.edition s.ranges.edition) at call.write.ensures in
-    (to_z-of_z w64 _ (sfits_of c.answer-number.type-inv) ∙ c.answer-number.ensures ∙ ap exported wrote.0, wrote.1)
+    (to_z-of_z w64 _ (sfits_of c.answer_number.type_inv) ∙ c.answer_number.ensures ∙ ap exported wrote.0, wrote.1)
 
 pub hds_plan_write_spec : {M : Type 1} → statement M
 hds_plan_write_spec = tie.close (tie.spec write_requires answer_number_requires same_length returns)

@@ -10,14 +10,14 @@ use Rattle.cabinet.proofs.hds_same.Tie as tie
 same_requires : tie.Need-same-requires
 same_requires c κs = search rules
 
-compared_number_requires : tie.Need-compared-number-requires
+compared_number_requires : tie.Need-compared_number-requires
 compared_number_requires c κs = search rules
 
 returns : tie.Need-returns
 returns c =
-    to_z-of_z w64 _ (sfits_of c.compared-number.type-inv)
-    ∙ c.compared-number.ensures
-    ∙ ap exported c.before.same.ensures
+    to_z-of_z w64 _ (sfits_of c.compared_number.type_inv)
+    ∙ c.compared_number.ensures
+    ∙ ap exported c.same.ensures
 
 pub hds_same_spec : {M : Type 1} → statement M
 hds_same_spec = tie.close (tie.spec same_requires compared_number_requires returns)

@@ -7,22 +7,22 @@ use Rattle.cabinet.specs.Exported.{exported}
 use Rattle.cabinet.proofs.hds_set_minute.Statement.{statement}
 use Rattle.cabinet.proofs.hds_set_minute.Tie as tie
 
-set_minute_requires : tie.Need-set-minute-requires
+set_minute_requires : tie.Need-set_minute-requires
 set_minute_requires c κs = search rules
 
-answer_number_requires : tie.Need-answer-number-requires
+answer_number_requires : tie.Need-answer_number-requires
 answer_number_requires c κs = search rules
 
-same_length : tie.Need-same-length
+same_length : tie.Need-shape_of-table
 same_length c = search rules
 
 returns : tie.Need-returns
 returns c =
-    let call = c.before.before in
-    let s = call.before.before.before in
+    let call = c in
+    let s = call in
     let done =
-    rw (to_z-of_z w64 s.args.minute s.ranges.minute) at call.set-minute.ensures in
-    (to_z-of_z w64 _ (sfits_of c.answer-number.type-inv) ∙ c.answer-number.ensures ∙ ap exported done.0, done.1)
+    rw (to_z-of_z w64 s.args.minute s.ranges.minute) at call.set_minute.ensures in
+    (to_z-of_z w64 _ (sfits_of c.answer_number.type_inv) ∙ c.answer_number.ensures ∙ ap exported done.0, done.1)
 
 pub hds_set_minute_spec : {M : Type 1} → statement M
 hds_set_minute_spec = tie.close (tie.spec set_minute_requires answer_number_requires same_length returns)

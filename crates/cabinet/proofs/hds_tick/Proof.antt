@@ -27,38 +27,38 @@ unfolding told_ticked
 refusal_told why e h = sym h ∙ ap told_ticked e
 
 -- Back to the start from the call.
-abbrev start : tie.After-tick → tie.Start
+abbrev start : tie.After-tick-made → tie.Start
 start c = c.before.before.before.before
 
-tick_requires : tie.Need-tick-requires
+tick_requires : tie.Need-tick-made-requires
 tick_requires c κs = search rules
 
-enum_known_made : tie.Need-enum-known-made
+enum_known_made : tie.Need-enum_known-made
 enum_known_made c = search rules
 
-enum_known_made_2 : tie.Need-enum-known-made-2
+enum_known_made_2 : tie.Need-enum_known-made-in-Refused-1
 enum_known_made_2 c = search rules
 
 negated_requires : tie.Need-negated-requires
 negated_requires c κs = search rules
 
-same_length : tie.Need-same-length
+same_length : tie.Need-shape_of-table-in-Dispatched
 same_length c = search rules
 
-same_length_2 : tie.Need-same-length-2
+same_length_2 : tie.Need-shape_of-first-in-Dispatched
 same_length_2 c = search rules
 
-same_length_3 : tie.Need-same-length-3
+same_length_3 : tie.Need-shape_of-second-in-Dispatched
 same_length_3 c = search rules
 
-returns : tie.Need-returns
+returns : tie.Need-returns-in-Dispatched
 returns c =
-    let made = c.before.before in
-    let tick = made.before.before.before.before.before in
-    let s = start tick in
-    let done = tick.tick.ensures in
-    let told = counts_told _ _ made.made.given.1 done.0 in
-    let fits = c.before.known-told.given in (
+    let made = c in
+    let tick = made in
+    let s = start tick.before.before.before.before.before in
+    let done = tick.tick-made.ensures in
+    let told = counts_told _ _ made.in-Dispatched.is done.0 in
+    let fits = c.before.in-Dispatched.known_told-1-own.given in (
       accepted_number _ told,
       (
         done.1.0,
@@ -72,23 +72,23 @@ returns c =
       ),
     )
 
-same_length_4 : tie.Need-same-length-4
+same_length_4 : tie.Need-shape_of-table-in-Refused
 same_length_4 c = search rules
 
-same_length_5 : tie.Need-same-length-5
+same_length_5 : tie.Need-shape_of-first-in-Refused
 same_length_5 c = search rules
 
-same_length_6 : tie.Need-same-length-6
+same_length_6 : tie.Need-shape_of-second-in-Refused
 same_length_6 c = search rules
 
-returns_2 : tie.Need-returns-2
+returns_2 : tie.Need-returns-in-Refused
 returns_2 c =
-    let made = c.before.before in
-    let tick = made.before.before.before.before.before in
-    let s = start tick in
-    let done = tick.tick.ensures in
-    let told = refusal_told _ made.made2.given.1 done.0 in (
-      to_z-of_z w64 _ (sfits_of c.negated.type-inv) ∙ c.negated.ensures ∙ refused_number _ told,
+    let made = c in
+    let tick = made in
+    let s = start tick.before.before.before.before.before in
+    let done = tick.tick-made.ensures in
+    let told = refusal_told _ made.in-Refused.is done.0 in (
+      to_z-of_z w64 _ (sfits_of c.negated.type_inv) ∙ c.negated.ensures ∙ refused_number _ told,
       (done.1.0, (done.1.1.0, (done.1.1.1, refused_buffer _ told s.args.counts.now))),
     )
 

@@ -10,7 +10,7 @@ use Rattle.numbers.specs.Whole.{minus}
 use Rattle.cabinet.proofs.negated.Statement.{statement}
 use Rattle.cabinet.proofs.negated.Tie as tie
 
-number_of_requires : tie.Need-number-of-requires
+number_of_requires : tie.Need-number_of-requires
 number_of_requires c κs = search rules
 
 lowered_requires : tie.Need-lowered-requires
@@ -19,9 +19,9 @@ lowered_requires c κs = (omega (arith, c.number_of.ensures.1), omega (arith, c.
 
 returns : tie.Need-returns
 returns c =
-    to_z-of_z w64 _ (sfits_of c.lowered.type-inv)
+    to_z-of_z w64 _ (sfits_of c.lowered.type_inv)
     ∙ c.lowered.ensures
-    ∙ ap (λ (n : ℕ). pos 0 -ℤ pos n) c.before.number_of.ensures.0
+    ∙ ap (λ (n : ℕ). pos 0 -ℤ pos n) c.number_of.ensures.0
 
 pub negated_spec : {M : Type 1} → statement M
 negated_spec = tie.close (tie.spec number_of_requires lowered_requires returns)

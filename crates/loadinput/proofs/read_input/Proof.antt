@@ -11,10 +11,10 @@ use Rattle.loadformat.proofs.Inputs.{short_refused, plan_read}
 use Rattle.loadinput.proofs.read_input.Statement.{statement}
 use Rattle.loadinput.proofs.read_input.Tie as tie
 
-returns : tie.Need-returns
-returns c = (sym (short_refused _ c.if1.true), (omega arith, λ z. absurd (omega (arith, z))))
+returns : tie.Need-returns-then-input-lt-PLAN_AT
+returns c = (sym (short_refused _ c.if-input-lt-PLAN_AT.true), (omega arith, λ z. absurd (omega (arith, z))))
 
-sub_read : tie.Need-overflow-sub-read
+sub_read : tie.Need-slice_bounds-read-count
 sub_read c = search rules
 
 part_read_start : tie.Need-slice-bounds-read-start
@@ -26,20 +26,20 @@ part_read_end c = search rules
 read_requires : tie.Need-read-requires
 read_requires c κs = search rules
 
-number_told_requires : tie.Need-number-told-requires
+number_told_requires : tie.Need-number_told-requires
 number_told_requires c κs = search rules
 
-same_length : tie.Need-same-length
+same_length : tie.Need-shape_of-table
 same_length c = search rules
 
-returns_2 : tie.Need-returns-2
+returns_2 : tie.Need-returns
 returns_2 c =
-    let read = c.before.before in
-    let test = read.before.before.before in
-    let s = test.before.before.args.input.now in
+    let read = c in
+    let test = read in
+    let s = test.args.input.now in
     let part = take_all (length s - plan_at) (drop plan_at s) (omega (arith, length-drop plan_at s)) in
-    let got = plan_read s _ _ _ _ test.if1.false part test.before.before.requires (c.number-told.ensures.0 ∙ ap number_told read.read.ensures.0) read.read.ensures.1 in
-    (got.0, (c.number-told.ensures.1, got.1))
+    let got = plan_read s _ _ _ _ test.if-input-lt-PLAN_AT.false part test.requires (c.number_told.ensures.0 ∙ ap number_told read.read.ensures.0) read.read.ensures.1 in
+    (got.0, (c.number_told.ensures.1, got.1))
 
 pub read_input_spec : {M : Type 1} → statement M
 read_input_spec =

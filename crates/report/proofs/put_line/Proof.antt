@@ -11,30 +11,30 @@ use Rattle.report.proofs.put_line.Tie as tie
 there_requires : tie.Need-there-requires
 there_requires c κs = search rules
 
-returns : tie.Need-returns
+returns : tie.Need-returns-then-not-there
 returns c =
-    append_as _ _ _ _ _ _ (sym (line_none _ _ (sym c.before.there.ensures ∙ not-true _ c.if1.true))) (append_none _ _)
+    append_as _ _ _ _ _ _ (sym (line_none _ _ (sym c.there.ensures ∙ c.if-not-there.true))) (append_none _ _)
 
-is_class_requires : tie.Need-is-class-requires
+is_class_requires : tie.Need-is_class-class-requires
 is_class_requires c κs = search rules
 
-natural_requires : tie.Need-natural-requires
+natural_requires : tie.Need-natural-rate-requires
 natural_requires c κs = search rules
 
-put_node_requires : tie.Need-put-node-requires
+put_node_requires : tie.Need-put_node-requires
 put_node_requires c κs = search rules
 
-same_length : tie.Need-same-length
+same_length : tie.Need-shape_of-text
 same_length c = search rules
 
-returns_2 : tie.Need-returns-2
+returns_2 : tie.Need-returns
 unfolding rate
 returns_2 c =
-    let put = c.before.before in
-    let natural = put.before.before in
-    let class = natural.before in
-    let here = class.before in
-    append_as _ _ _ _ _ _ (line_of _ _ _ _ (sym here.before.there.ensures ∙ not-false _ here.if1.false) class.is-class.ensures natural.natural.ensures) put.put-node.ensures
+    let put = c in
+    let natural = put in
+    let class = natural in
+    let here = class in
+    append_as _ _ _ _ _ _ (line_of _ _ _ _ (sym here.there.ensures ∙ here.if-not-there.false) class.is_class-class.ensures natural.natural-rate.ensures) put.put_node.ensures
 
 pub put_line_spec : {M : Type 1} → statement M
 put_line_spec =

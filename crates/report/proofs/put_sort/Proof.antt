@@ -8,43 +8,35 @@ use borrow.Author.Rules.{rules}
 use Rattle.report.proofs.put_sort.Statement.{statement}
 use Rattle.report.proofs.put_sort.Tie as tie
 
-slice_aggregate_put_text : tie.Need-slice-aggregate-put-text
-slice_aggregate_put_text c = search rules
-
-put_text_requires : tie.Need-put-text-requires
+put_text_requires : tie.Need-put_text-requires
 put_text_requires c κs = search rules
 
-slice_aggregate_put_text_2 : tie.Need-slice-aggregate-put-text-2
-slice_aggregate_put_text_2 c = search rules
-
-put_text_requires_2 : tie.Need-put-text-requires-2
+put_text_requires_2 : tie.Need-put_text-requires-else-class
 put_text_requires_2 c κs = search rules
 
-same_length : tie.Need-same-length
+same_length : tie.Need-shape_of-text-then-class
 same_length c = search rules
 
-returns : tie.Need-returns
+returns : tie.Need-returns-then-class
 unfolding sort_text ascii
 returns c =
-    let put = c.before.before in
-    append_as _ _ _ _ _ _ (sym (cond_true _ _ _ put.before.before.before.if1.true)) put.put-text.ensures
+    let put = c in
+    append_as _ _ _ _ _ _ (sym (cond_true _ _ _ put.if-class.true)) put.put_text.ensures
 
-same_length_2 : tie.Need-same-length-2
+same_length_2 : tie.Need-shape_of-text-else-class
 same_length_2 c = search rules
 
-returns_2 : tie.Need-returns-2
+returns_2 : tie.Need-returns-else-class
 unfolding sort_text ascii
 returns_2 c =
-    let put = c.before.before in
-    append_as _ _ _ _ _ _ (sym (cond_false _ _ _ put.before.before.before.if1.false)) put.put-text2.ensures
+    let put = c in
+    append_as _ _ _ _ _ _ (sym (cond_false _ _ _ put.if-class.false)) put.put_text-else-class.ensures
 
 pub put_sort_spec : {M : Type 1} → statement M
 put_sort_spec =
     tie.close
     (tie.spec
-    slice_aggregate_put_text
     put_text_requires
-    slice_aggregate_put_text_2
     put_text_requires_2
     same_length
     returns

@@ -13,40 +13,40 @@ use Rattle.report.proofs.report.Statement.{statement}
 use Rattle.report.proofs.report.Tie as tie
 
 -- The number of the refusal, or 0.
-number : (c : tie.After-number-told) → let read = c.before.before in c.number-told.result ≡ check_answer read.before.before.before.args.contents.now
+number : (c : tie.After-number_told-number) → let read = c in c.number_told-number.result ≡ check_answer read.args.contents.now
 unfolding blank
-number c = c.number-told.ensures.0 ∙ ap number_told c.before.before.read.ensures.0 ∙ told_check _
+number c = c.number_told-number.ensures.0 ∙ ap number_told c.read-answer.ensures.0 ∙ told_check _
 
-slice_aggregate_read : tie.Need-slice-aggregate-read
+slice_aggregate_read : tie.Need-slice_bounds-read-end
 slice_aggregate_read c = search rules
 
-read_requires : tie.Need-read-requires
+read_requires : tie.Need-read-answer-requires
 read_requires c κs = search rules
 
-number_told_requires : tie.Need-number-told-requires
+number_told_requires : tie.Need-number_told-number-requires
 number_told_requires c κs = search rules
 
-slice_aggregate_put_lines : tie.Need-slice-aggregate-put-lines
+slice_aggregate_put_lines : tie.Need-slice_bounds-put_lines-end-then-number-eq0
 slice_aggregate_put_lines c = search rules
 
-put_lines_requires : tie.Need-put-lines-requires
+put_lines_requires : tie.Need-put_lines-requires
 put_lines_requires c κs = search rules
 
-put_refused_requires : tie.Need-put-refused-requires
+put_refused_requires : tie.Need-put_refused-requires
 put_refused_requires c κs = search rules
 
-returns : tie.Need-returns
+returns : tie.Need-returns-then-number-eq0
 unfolding blank
 returns c =
-    let test = c.before.before.before in
-    let told = test.before in
-    let put = append_as _ _ _ _ _ _ (ap lines_of told.before.before.read.ensures.1 ∙ accepted_report _ (sym (number told) ∙ test.if1.true)) c.put-lines.ensures in
+    let test = c in
+    let told = test in
+    let put = append_as _ _ _ _ _ _ (ap lines_of told.read-answer.ensures.1 ∙ accepted_report _ (sym (number told.before.before.before.before) ∙ test.if-number-eq0.true)) c.put_lines.ensures in
     (appended_counts _ _ _ _ put, (put.behind ∙ zero-add _, put.bytes))
 
-returns_2 : tie.Need-returns-2
+returns_2 : tie.Need-returns-else-number-eq0
 returns_2 c =
-    let told = c.before.before.before in
-    let put = append_as _ _ _ _ _ _ (ap refused_line (number told) ∙ refused_report _ (λ z. c.before.before.if1.false (number told ∙ z))) c.put_refused.ensures in
+    let told = c in
+    let put = append_as _ _ _ _ _ _ (ap refused_line (number told.before.before.before) ∙ refused_report _ (λ z. c.if-number-eq0.false (number told.before.before.before ∙ z))) c.put_refused.ensures in
     (appended_counts _ _ _ _ put, (put.behind ∙ zero-add _, put.bytes))
 
 pub report_spec : {M : Type 1} → statement M
