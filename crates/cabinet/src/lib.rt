@@ -169,12 +169,7 @@ pub fn hds_plan_write(table: &[i64], edition: i64, buffer: &mut [u8]) -> i64
 }
 
 // Gives every node its kind and share at a minute of the week: 0.
-pub fn hds_set_minute(
-    table: &mut [i64],
-    plan: &[u8],
-    windows: &[i64],
-    minute: i64,
-) -> i64
+pub fn hds_set_minute(table: &mut [i64], plan: &[u8], windows: &[i64], minute: i64) -> i64
     ensures answer { result ≡ exported (set_minute_answer table.old plan.now windows.now minute) }
     ensures table { table.new ≡ set_minute_table table.old plan.now windows.now minute }
 {

@@ -17,10 +17,10 @@ returns c = (sym (short_refused _ c.if-input-lt-PLAN_AT.true), (omega arith, λ 
 sub_read : tie.Need-slice_bounds-read-count
 sub_read c = search rules
 
-part_read_start : tie.Need-slice-bounds-read-start
+part_read_start : tie.Need-slice_bounds-read-start
 part_read_start c = search rules
 
-part_read_end : tie.Need-slice-bounds-read-end
+part_read_end : tie.Need-slice_bounds-read-end
 part_read_end c = search rules
 
 read_requires : tie.Need-read-requires
