@@ -46,7 +46,7 @@ fn serve(
 // Step 2: clients in rising number, into lists that have no entries. Returns how many they have then.
 fn serve_all(table: &mut [i64], first: &mut [i64], second: &mut [i64]) -> PortCounts
     requires { Serving table.old × Room first_port table.old first.old 0 × Room second_port table.old second.old 0 }
-    ensures { Shows (port table.entry.now) first.old second.old (served_all (record { table = table.entry.now; entries = [] })) table.exit.now first.new second.new result }
+    ensures { Shows (port table.old) first.old second.old (served_all (record { table = table.old; entries = [] })) table.new first.new second.new result }
 {
     let mut written = PortCounts {
         first: 0,
