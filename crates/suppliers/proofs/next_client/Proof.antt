@@ -134,14 +134,6 @@ best_is : (c : tie.After-clients invariant_clients decreases_clients) → c.clie
 unfolding next
 best_is c = let end : c.clients.k ≡ nodes = omega arith in rw end at c.clients.invariant.2
 
-returns : tie.Need-returns-then-best-lt-NODES invariant_clients decreases_clients
-returns c =
-    let some : (c.clients.best ≡ nobody → ⊥) = λ e. omega (arith, c.if-best-lt-NODES.true) in
-    answer_client _ _ _ (record { some = some; client = best_is c.before; node = c.clients.invariant.3.node some })
-
-returns_2 : tie.Need-returns invariant_clients decreases_clients
-returns_2 c = answer_nothing _ (sym (best_is c.before) ∙ omega (arith, c.if-best-lt-NODES.false, c.clients.invariant.1))
-
 pub next_client_spec : {M : Type 1} → statement M
 next_client_spec =
     tie.close
@@ -168,5 +160,7 @@ next_client_spec =
     add_k_4
     clients_less_4
     clients_again_4
-    returns
-    returns_2)
+    (λ c.
+    let some : (c.clients.best ≡ nobody → ⊥) = λ e. omega arith in
+    answer_client _ _ _ (record { some = some; client = best_is c.before; node = c.clients.invariant.3.node some }))
+    (λ c. answer_nothing _ (sym (best_is c.before) ∙ omega (arith, c.clients.invariant.1))))
