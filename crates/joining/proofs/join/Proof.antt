@@ -1,5 +1,6 @@
 -- `joining::join` meets its contract: refused, nothing is written; accepted, the writes are made and the rates below the
 -- parent are renewed, which renews everything.
+use native.Mathlib.Omega.{arith}
 use Prim.Native.Nat.{ℕ}
 use mathlib.Core.Path.{◌≡◌, sym, ap, ap₂, ◌∙◌, subst}
 use mathlib.Core.Bool.{true}
@@ -34,52 +35,43 @@ number c =
     let s = c.ranges in
     rw (to_z-of_z w64 _ s.node, to_z-of_z w64 _ s.parent, to_z-of_z w64 _ s.sort, to_z-of_z w64 _ s.kind, to_z-of_z w64 _ s.share, to_z-of_z w64 _ s.depth, to_z-of_z w64 _ s.port) at c.join_refusal-number.ensures.0
 
-accepted : (c : tie.Else-number-ne0) → let s = c.before.before in refusal_of s.args.table.now (join s) ≡ 0
-accepted c = sym (number c.before) ∙ c.if-number-ne0.false
+-- Back to the start from where a node is made of the arguments, and that the call is accepted there.
+abbrev start : tie.After-new_node → tie.Start
+start c = c.before.before.before.before
 
-abbrev accepts : tie.After-new_node → tie.Else-number-ne0
-accepts c = c.before.before
+accepted : (c : tie.After-new_node) → let s = start c in refusal_of s.args.table.now (join s) ≡ 0
+accepted c = omega (arith, number c.before.before.before)
 
-abbrev start : tie.Else-number-ne0 → tie.Start
-start c = c.before.before
-
-natural : (c : tie.After-new_node) → Natural c.new_node.result (join (start (accepts c)))
+natural : (c : tie.After-new_node) → Natural c.new_node.result (join (start c))
 natural c =
-    let s = (start (accepts c)).ranges in
+    let s = (start c).ranges in
     rw (to_z-of_z w64 _ s.node, to_z-of_z w64 _ s.parent, to_z-of_z w64 _ s.sort, to_z-of_z w64 _ s.kind, to_z-of_z w64 _ s.share, to_z-of_z w64 _ s.depth, to_z-of_z w64 _ s.port) at c.new_node.ensures
 
 -- What is written.
-written : (c : tie.After-write_node) → let s = start (accepts c.before) in c.write_node.new.table ≡ joined_by s.args.table.now (join s)
+written : (c : tie.After-write_node) → let s = start c.before in c.write_node.new.table ≡ joined_by s.args.table.now (join s)
 written c =
-    c.write_node.ensures ∙ ap (joined_by _) (as_asked _ _ (natural c.before) (accepted_limits _ _ (accepted (accepts c.before))))
+    c.write_node.ensures ∙ ap (joined_by _) (as_asked _ _ (natural c.before) (accepted_limits _ _ (accepted c.before)))
 
-in_order_law : (c : tie.Else-number-ne0) → let s = start c in in_order (renewed (joined_by s.args.table.now (join s))) ≡ true
+in_order_law : (c : tie.After-new_node) → let s = start c in in_order (renewed (joined_by s.args.table.now (join s))) ≡ true
 unfolding refusal_of joined_by join_table
 in_order_law c = subst (λ (u : List ℤ). in_order u ≡ true) (kept_new _ _ _ (accepted c)) (join_keeps _ _ _ _ _ _ _ _ (accepted c))
 
 -- The parent's number.
-parent : (c : tie.After-natural) → c.natural.result ≡ plus (start (accepts c.before.before.before.before)).args.parent
-parent c = natural_of c.natural.ensures (start (accepts c.before.before.before.before)).ranges.parent
+parent : (c : tie.After-natural) → c.natural.result ≡ plus (start c.before.before.before.before).args.parent
+parent c = natural_of c.natural.ensures (start c.before.before.before.before).ranges.parent
 
 -- Renewing below it renews everything.
-renews : (c : tie.Else-number-ne0) → let s = start c in RenewsAll (joined_by s.args.table.now (join s)) (plus s.args.parent)
+renews : (c : tie.After-new_node) → let s = start c in RenewsAll (joined_by s.args.table.now (join s)) (plus s.args.parent)
 unfolding refusal_of joined_by
 renews c = join_renews_below _ _ _ _ _ _ _ _ (accepted c)
 
-returns : tie.Need-returns-then-number-ne0
-unfolding refusal_of join_answer join_table
-returns c = (
-  c.answered.ensures ∙ ap (λ (n : ℕ). outcome n done) (number c.before.before),
-  sym (kept_old _ _ _ (λ e. c.if-number-ne0.true (number c.before.before ∙ e))),
-)
-
 write_node_requires : tie.Need-write_node-requires
-write_node_requires c κs = writable _ _ _ (natural c) (accepted (accepts c))
+write_node_requires c κs = writable _ _ _ (natural c) (accepted c)
 
 renew_below_requires : tie.Need-renew_below-requires
 renew_below_requires c κs =
     let w = c in
-    let acceptance = accepts w.before.before.before.before in
+    let acceptance = w.before.before.before.before in
     rw (written w.before.before.before, parent c) (let r = renews acceptance in rated_before _ _ (in_order_law acceptance) r.low r.there r.small)
 
 returns_2 : tie.Need-returns
@@ -88,18 +80,22 @@ returns_2 c =
     let renewal = c in
     let known = renewal in
     let w = known in
-    let acceptance = accepts w.before.before.before.before.before.before in
+    let acceptance = w.before.before.before.before.before.before in
     let zero = accepted acceptance in
     (sym (outcome_accepted _ _ zero), renewal.renew_below.ensures ∙ ap₂ renewed_below (written w.before.before.before.before.before) (parent known.before.before) ∙ (renews acceptance).all ∙ sym (kept_new _ _ _ zero))
 
 pub join_spec : {M : Type 1} → statement M
+unfolding refusal_of join_answer join_table
 join_spec =
     tie.close
     (tie.spec
     (λ c κs. tt)
     (λ c κs. search rules)
     (λ c. search rules)
-    returns
+    (λ c. (
+      c.answered.ensures ∙ ap (λ (n : ℕ). outcome n done) (number c.before.before),
+      sym (kept_old _ _ _ (λ e. omega (arith, number c.before.before, e))),
+    ))
     (λ c κs. tt)
     write_node_requires
     (λ c κs. tt)

@@ -22,16 +22,6 @@ invariant_loop input table₀ text₀ progress₀ sent₀ table text progress se
 abbrev decreases_loop : tie.decreases-loop-sent
 decreases_loop input table₀ text₀ progress₀ sent₀ table text progress sent = progress.ticks - progress.made
 
--- Back from a part to the test of the loop, and to the loop's head; and that ticks are left there.
-abbrev test : tie.After-go_on-progress invariant_loop decreases_loop → tie.Then-progress invariant_loop decreases_loop
-test c = c.before.before.before
-
-abbrev head : tie.Then-progress invariant_loop decreases_loop → tie.At-loop-sent invariant_loop decreases_loop
-head c = c.before.before.before.before
-
-left : (c : tie.Then-progress invariant_loop decreases_loop) → (head c).loop-sent.progress.made < (head c).loop-sent.progress.ticks
-left c = c.if-progress.true
-
 large_buffer_requires : tie.Need-large_buffer-text-requires invariant_loop decreases_loop
 large_buffer_requires c κs = search rules
 
@@ -61,15 +51,15 @@ loop_holds c =
     (begins_way _ _ _ _ _ _ _ begins call.begin-progress.ensures.1.1, search rules, search rules, c.send_opening-sent.ensures ∙ sym begins.none, begins.all)
 
 slice_aggregate_go_on : tie.Need-slice_bounds-go_on-end invariant_loop decreases_loop
-slice_aggregate_go_on c = sym (head c.before).loop-sent.invariant.1
+slice_aggregate_go_on c = sym c.loop-sent.invariant.1
 
 slice_aggregate_go_on_2 : tie.Need-slice_bounds-go_on-end-in-loop-sent invariant_loop decreases_loop
-slice_aggregate_go_on_2 c = sym (head c.before.before).loop-sent.invariant.2
+slice_aggregate_go_on_2 c = sym c.loop-sent.invariant.2
 
 go_on_requires : tie.Need-go_on-progress-requires invariant_loop decreases_loop
 go_on_requires c κs =
-    let inv = (head c.before.before).loop-sent.invariant in
-    let some = left c.before.before in
+    let inv = c.loop-sent.invariant in
+    let some : c.loop-sent.progress.made < c.loop-sent.progress.ticks = omega arith in
     (omega (arith, inv.1), inv.0.loaded some, some, inv.0.few)
 
 array_share_prefix_text_2 : tie.Need-slice_bounds-text-end-in-loop-sent invariant_loop decreases_loop
@@ -81,29 +71,24 @@ slice_aggregate_send_part c = search rules
 send_part_requires : tie.Need-send_part-sent-requires invariant_loop decreases_loop
 send_part_requires c κs =
     let call = c in
-    let at = head (test call.before.before.before) in (
+    let at = c in
+    let some : at.loop-sent.progress.made < at.loop-sent.progress.ticks = omega arith in (
       omega (arith, at.loop-sent.invariant.3, call.go_on-progress.ensures.1.1.0),
-      part_stands _ _ _ _ _ _ _ _ _ at.loop-sent.invariant.0 (left (test call.before.before.before)) call.go_on-progress.ensures.1.0 _ at.loop-sent.invariant.3,
+      part_stands _ _ _ _ _ _ _ _ _ at.loop-sent.invariant.0 some call.go_on-progress.ensures.1.0 _ at.loop-sent.invariant.3,
     )
 
 loop_less : tie.Need-loop-sent-smaller invariant_loop decreases_loop
 loop_less c =
     let call = c in
-    omega (arith, left (test call.before.before.before.before), call.go_on-progress.ensures.1.1.0, call.go_on-progress.ensures.1.1.2)
+    omega (arith, call.go_on-progress.ensures.1.1.0, call.go_on-progress.ensures.1.1.2)
 
 loop_again : tie.Need-loop-sent-preserved invariant_loop decreases_loop
 loop_again c =
     let call = c in
-    let at = head (test call.before.before.before.before) in
-    let way = goes_way _ _ _ _ _ _ _ _ _ at.loop-sent.invariant.0 (left (test call.before.before.before.before)) call.go_on-progress.ensures.1.0 in
-    (rw call.go_on-progress.ensures.1.1.2 way, search rules, search rules, c.send_part-sent.ensures, call.go_on-progress.ensures.1.1.2 ∙ at.loop-sent.invariant.4)
-
-returns : tie.Need-returns-else-progress invariant_loop decreases_loop
-returns c good =
     let at = c in
-    let inv = at.loop-sent.invariant in
-    let end = c.if-progress.false in
-    omega (arith, end, inv.0.within, inv.3, inv.4)
+    let some : at.loop-sent.progress.made < at.loop-sent.progress.ticks = omega arith in
+    let way = goes_way _ _ _ _ _ _ _ _ _ at.loop-sent.invariant.0 some call.go_on-progress.ensures.1.0 in
+    (rw call.go_on-progress.ensures.1.1.2 way, search rules, search rules, c.send_part-sent.ensures, call.go_on-progress.ensures.1.1.2 ∙ at.loop-sent.invariant.4)
 
 returns_2 : tie.Need-returns-after-loop-sent invariant_loop decreases_loop
 returns_2 c good = absurd (true_false (not-false _ c.loop-sent-test.false) good)
@@ -130,5 +115,5 @@ send_spec =
     send_part_requires
     loop_less
     loop_again
-    returns
+    (λ c good. let inv = c.loop-sent.invariant in omega (arith, inv.0.within, inv.3, inv.4))
     returns_2)

@@ -26,9 +26,6 @@ judged c = c.before.before.before.before.before
 abbrev met : tie.Else-opening-ne0 → tie.After-edition_in-edition
 met c = c.before.before.before.before
 
-abbrev opened : tie.Else-joining-ne0 → tie.Else-opening-ne0
-opened c = c.before.before.before.before.before
-
 -- The bytes are well formed.
 right : (c : tie.Else-not-formed) → formed (start c).args.s.now ≡ true
 right c = sym c.formed.ensures ∙ c.if-not-formed.false
@@ -90,26 +87,15 @@ join_entries_requires c κs =
     let past = c in
     (right (judged past.before.before), framed c.before)
 
-same_length_2 : tie.Need-shape_of-table-then-joining-ne0
-same_length_2 c = search rules
-
-returns_3 : tie.Need-returns-then-joining-ne0
-returns_3 c =
-    let join = c in
-    let past = join in
-    let number = joining join.before.before in (
-      number ∙ sym (wrong_join _ _ (start (judged past.before.before.before.before.before)).requires (right (judged past.before.before.before.before.before)) (opening past.before.before.before.before.before) (λ z. c.if-joining-ne0.true (number ∙ z))),
-      (omega arith, λ z. absurd (c.if-joining-ne0.true z)),
-    )
-
 rising_requires : tie.Need-rising-requires
 rising_requires c κs =
     let all = c in
     let join = all in
-    let past = opened all in (
+    let past = all.before.before.before.before.before in
+    let zero : all.join_entries-joining.result ≡ 0 = omega arith in (
       omega (arith, (start (judged past)).requires, judged past, met past, past, past, join, join),
       framed join.before.before.before.before,
-      joined_entries _ _ _ _ _ (opening past) past.open_plan-opening.ensures.1.1 (join.join_entries-joining.ensures.1.1 all.if-joining-ne0.false) (sym join.join_entries-joining.ensures.0 ∙ all.if-joining-ne0.false),
+      joined_entries _ _ _ _ _ (opening past) past.open_plan-opening.ensures.1.1 (join.join_entries-joining.ensures.1.1 zero) (sym join.join_entries-joining.ensures.0 ∙ zero),
     )
 
 same_length_3 : tie.Need-shape_of-table-then-rising
@@ -119,15 +105,16 @@ returns_4 : tie.Need-returns-then-rising
 returns_4 c =
     let all = c in
     let join = all in
-    let past = opened all.before.before in
-    let table = joined_for_law _ _ _ _ _ past.open_plan-opening.ensures.1.1 (join.join_entries-joining.ensures.1.1 all.if-joining-ne0.false) join.count_in-n.ensures in (
+    let past = all.before.before.before.before.before.before.before in
+    let zero : all.join_entries-joining.result ≡ 0 = omega arith in
+    let table = joined_for_law _ _ _ _ _ past.open_plan-opening.ensures.1.1 (join.join_entries-joining.ensures.1.1 zero) join.count_in-n.ensures in (
       sym
           (accepted_plan _ _
           record {
             long = (start (judged past)).requires;
             formed = right (judged past);
             opening = opening past;
-            joining = sym (joining join.before.before.before.before) ∙ all.if-joining-ne0.false;
+            joining = sym (joining join.before.before.before.before) ∙ zero;
             rising = rw table at (sym c.rising.ensures ∙ c.if-rising.true);
           }),
       (omega arith, λ z. table),
@@ -140,9 +127,10 @@ returns_5 : tie.Need-returns-else-rising
 returns_5 c =
     let all = c in
     let join = all in
-    let past = opened all.before.before in
-    let table = joined_for_law _ _ _ _ _ past.open_plan-opening.ensures.1.1 (join.join_entries-joining.ensures.1.1 all.if-joining-ne0.false) join.count_in-n.ensures in (
-      sym (wrong_order _ _ (start (judged past)).requires (right (judged past)) (opening past) (sym (joining join.before.before.before.before) ∙ all.if-joining-ne0.false) (rw table at (sym c.rising.ensures ∙ c.if-rising.false))),
+    let past = all.before.before.before.before.before.before.before in
+    let zero : all.join_entries-joining.result ≡ 0 = omega arith in
+    let table = joined_for_law _ _ _ _ _ past.open_plan-opening.ensures.1.1 (join.join_entries-joining.ensures.1.1 zero) join.count_in-n.ensures in (
+      sym (wrong_order _ _ (start (judged past)).requires (right (judged past)) (opening past) (sym (joining join.before.before.before.before) ∙ zero) (rw table at (sym c.rising.ensures ∙ c.if-rising.false))),
       (omega arith, λ z. absurd (omega arith)),
     )
 
@@ -158,8 +146,14 @@ build_spec =
     returns_2
     count_in_requires
     join_entries_requires
-    same_length_2
-    returns_3
+    (λ c. search rules)
+    (λ c.
+    let past = c.before.before.before.before.before in
+    let number = joining c.before.before in
+    let some : (c.join_entries-joining.result ≡ 0 → ⊥) = λ e. omega (arith, e) in (
+      number ∙ sym (wrong_join _ _ (start (judged past)).requires (right (judged past)) (opening past) (λ z. some (number ∙ z))),
+      (omega arith, λ z. absurd (some z)),
+    ))
     rising_requires
     same_length_3
     returns_4

@@ -21,9 +21,6 @@ amount_is c = c.grains-amount.ensures ∙ ap grains c.natural-2.ensures
 natural_requires : tie.Need-natural-requires
 natural_requires c κs = search rules
 
-returns : tie.Need-returns-then-natural-eq0
-returns c = not_waiting _ _ (omega arith)
-
 add_natural : tie.Need-overflow_add-natural
 add_natural c = search rules
 
@@ -44,14 +41,14 @@ returns_2 c =
     let past = c in
     c.enough.ensures
     ∙ ap (λ (n : ℕ). enough s.args.table.now n s.args.k) (amount_is c.before)
-    ∙ sym (is_waiting s.args.table.now s.args.k (λ e. past.if-natural-eq0.false (past.natural.ensures ∙ e)))
+    ∙ sym (is_waiting s.args.table.now s.args.k (λ e. omega (arith, e)))
 
 pub ready_spec : {M : Type 1} → statement M
 ready_spec =
     tie.close
     (tie.spec
     natural_requires
-    returns
+    (λ c. not_waiting _ _ (omega arith))
     add_natural
     natural_requires_2
     grains_requires

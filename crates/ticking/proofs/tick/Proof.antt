@@ -23,18 +23,18 @@ use Rattle.ticking.proofs.tick.Tie as tie
 abbrev start : tie.After-tick_refusal-number → tie.Start
 start c = c.before
 
-abbrev past : tie.After-run-counts → tie.Else-number-ne0
-past c = c.before.before.before.before
+abbrev past : tie.After-run-counts → tie.After-tick_refusal-number
+past c = c.before.before.before.before.before
 
 -- The number is that of the definition.
 number : (c : tie.After-tick_refusal-number) → let s = (start c).args in c.tick_refusal-number.result ≡ tick_refusal s.table.now s.first.now s.second.now
 number c = c.tick_refusal-number.ensures.0
 
-none : (c : tie.Else-number-ne0) → let s = (start c.before).args in tick_refusal s.table.now s.first.now s.second.now ≡ 0
-none c = omega (arith, number c.before, c.if-number-ne0.false)
+none : (c : tie.After-tick_refusal-number) → c.tick_refusal-number.result ≡ 0 → let s = (start c).args in tick_refusal s.table.now s.first.now s.second.now ≡ 0
+none c zero = omega (arith, number c, zero)
 
-order : (c : tie.Else-number-ne0) → InOrder (start c.before).args.table.now
-order c = facts _ (tick_passed _ _ _ (none c)).order
+order : (c : tie.After-run-counts) → InOrder c.args.table.now
+order c = facts _ (tick_passed _ _ _ (none (past c) (omega arith))).order
 
 -- A count of the code is that of the definition, and small.
 counted : (t : List ℤ) (p n : ℕ) → entry_length * n ≡ length (port_entries t p) → n ≡ port_count t p
@@ -47,7 +47,7 @@ small t f p n e = omega (arith, e, few t f p, port_entries_law t f p)
 both : (c : tie.After-run-counts) → (c.run-counts.result.first ≤ nodes * most_waiting) × (c.run-counts.result.second ≤ nodes * most_waiting)
 both c =
     let counts = c.run-counts.ensures.1.1.1 in
-    (small _ (order (past c)) first_port _ counts.0, small _ (order (past c)) second_port _ counts.1)
+    (small _ (order c) first_port _ counts.0, small _ (order c) second_port _ counts.1)
 
 values : {a b x y : ℤ} → a ≡ b → x ≡ y → accepted (a ∷ x ∷ []) ≡ accepted (b ∷ y ∷ [])
 values p q = cc
@@ -58,29 +58,8 @@ tick_refusal_requires c κs = search rules
 refusal_of_requires : tie.Need-refusal_of-requires
 refusal_of_requires c κs = search rules
 
-same_length : tie.Need-shape_of-table-then-number-ne0
-same_length c = search rules
-
-same_length_2 : tie.Need-shape_of-first-then-number-ne0
-same_length_2 c = search rules
-
-same_length_3 : tie.Need-shape_of-second-then-number-ne0
-same_length_3 c = search rules
-
-returns : tie.Need-returns-then-number-ne0
-unfolding told_ticked tick_answer tick_table tick_first tick_second
-returns c =
-    let same = number c.before.before in
-    let some : c.tick_refusal-number.result ≡ 0 → ⊥ = λ e. omega (arith, c.if-number-ne0.true) in (
-      ap refused (c.refusal_of.ensures ∙ same) ∙ sym (outcome_refused _ _ (λ e. some (same ∙ e))),
-      (
-        sym (kept_old _ _ _ (λ e. some (same ∙ e))),
-        (sym (kept_old _ _ _ (λ e. some (same ∙ e))), sym (kept_old _ _ _ (λ e. some (same ∙ e)))),
-      ),
-    )
-
 run_requires : tie.Need-run-counts-requires
-run_requires c κs = let p = tick_passed _ _ _ (none c.before.before.before) in (p.order, p.first, p.second)
+run_requires c κs = let p = tick_passed _ _ _ (none c.before.before.before.before (omega arith)) in (p.order, p.first, p.second)
 
 whole_requires : tie.Need-whole-requires
 whole_requires c κs = omega (arith, both c.before.before.before)
@@ -101,7 +80,7 @@ returns_2 : tie.Need-returns
 unfolding told_ticked tick_answer tick_table tick_first tick_second
 returns_2 c =
     let made = c in
-    let zero = none (past made.before.before.before.before.before) in
+    let zero = none (past made.before.before.before.before.before) (omega arith) in
     let done = made.run-counts.ensures in (
       values
           (to_z-of_z w64 c.whole.result (sfits_of c.whole.type_inv) ∙ c.whole.ensures ∙ ap pos (counted _ first_port _ done.1.1.1.0))
@@ -114,15 +93,24 @@ returns_2 c =
     )
 
 pub tick_spec : {M : Type 1} → statement M
+unfolding told_ticked tick_answer tick_table tick_first tick_second
 tick_spec =
     tie.close
     (tie.spec
     tick_refusal_requires
     refusal_of_requires
-    same_length
-    same_length_2
-    same_length_3
-    returns
+    (λ c. search rules)
+    (λ c. search rules)
+    (λ c. search rules)
+    (λ c.
+    let same = number c.before.before in
+    let some : (c.tick_refusal-number.result ≡ 0 → ⊥) = λ e. omega (arith, e) in (
+      ap refused (c.refusal_of.ensures ∙ same) ∙ sym (outcome_refused _ _ (λ e. some (same ∙ e))),
+      (
+        sym (kept_old _ _ _ (λ e. some (same ∙ e))),
+        (sym (kept_old _ _ _ (λ e. some (same ∙ e))), sym (kept_old _ _ _ (λ e. some (same ∙ e)))),
+      ),
+    ))
     run_requires
     whole_requires
     whole_requires_2
