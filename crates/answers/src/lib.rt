@@ -1,12 +1,12 @@
-// What a call answers: the enums of the answers and of the refusals, and the numbers of these.
+// What a call answers: a value, or why it is refused; and the numbers of the refusals.
 #![tactic(auto)]
 
-ghost use Rattle.std.specs.Prelude.{◌≡◌, [], ◌∷◌, ◌≤◌};
-ghost use Rattle.definitions.specs.Refusals.{last_refusal, outcome, number_told};
-ghost use Rattle.answers.specs.Answers.{number_of, told};
+ghost use Rattle.std.specs.Prelude.{◌≡◌, ◌≤◌};
+ghost use Rattle.definitions.specs.Refusals.{last_refusal};
+ghost use Rattle.answers.specs.Answers.{number_of, number_in, Numbered};
 
 // The causes of refusal, in the order of their numbers.
-#[derive(Clone, Copy)]
+#[derive(Clone, Copy, PartialEq, Eq)]
 pub enum Refusal {
     NotInOrder,
     OutsideLimits,
@@ -64,76 +64,20 @@ impl Refusal {
     pub const TIMETABLE_WRONG: u64 = 17;
 }
 
-// What a call answers: its number, 0 where it has no other, or why it is refused.
-#[derive(Clone, Copy)]
-pub enum Answer {
-    Accepted(i64),
-    Refused(Refusal),
-}
-
 // What tick answers: how many were dispatched to the first port and to the second.
 #[derive(Clone, Copy)]
-pub enum Ticked {
-    Dispatched { first: i64, second: i64 },
-    Refused(Refusal),
+pub struct Dispatched {
+    pub first: i64,
+    pub second: i64,
 }
 
 // What look answers.
 #[derive(Clone, Copy)]
-pub enum Seen {
-    Node {
-        rate: i64,
-        balance: i64,
-        waiting: i64,
-        lost: i64,
-    },
-    Refused(Refusal),
-}
-
-// What same answers.
-#[derive(Clone, Copy)]
-pub enum Compared {
-    Same,
-    Different,
-    Refused(Refusal),
-}
-
-// The refusal of a number.
-pub fn refusal_of(number: u64) -> Refusal
-    requires { (1 ≤ number) × (number ≤ last_refusal) }
-    ensures { number_of result ≡ number }
-{
-    match number {
-        Refusal::NOT_IN_ORDER => Refusal::NotInOrder,
-        Refusal::OUTSIDE_LIMITS => Refusal::OutsideLimits,
-        Refusal::NOT_THERE => Refusal::NotThere,
-        Refusal::IN_USE => Refusal::InUse,
-        Refusal::WRONG_NODE => Refusal::WrongNode,
-        Refusal::LEVEL_TOO_LOW => Refusal::LevelTooLow,
-        Refusal::SHARES_ABOVE => Refusal::SharesAbove,
-        Refusal::DEPTH_ABOVE => Refusal::DepthAbove,
-        Refusal::NOT_EMPTY => Refusal::NotEmpty,
-        Refusal::IN_DEBT => Refusal::InDebt,
-        Refusal::QUEUE_FULL => Refusal::QueueFull,
-        Refusal::COUNT_AT_END => Refusal::CountAtEnd,
-        Refusal::BUFFER_SHORT => Refusal::BufferShort,
-        Refusal::PLAN_WRONG => Refusal::PlanWrong,
-        Refusal::PLAN_OUT_OF_ORDER => Refusal::PlanOutOfOrder,
-        Refusal::STATED_WRONG => Refusal::StatedWrong,
-        _ => Refusal::TimetableWrong,
-    }
-}
-
-// The answer of a call: its value where the number of the refusal is 0.
-pub fn answered(number: u64, value: i64) -> Answer
-    requires { number ≤ last_refusal }
-    ensures { told result ≡ outcome number (value ∷ []) }
-{
-    if number == 0 {
-        Answer::Accepted(value)
-    } else {
-        Answer::Refused(refusal_of(number))
-    }
+pub struct Seen {
+    pub rate: i64,
+    pub balance: i64,
+    pub waiting: i64,
+    pub lost: i64,
 }
 
 // The number of a refusal.
@@ -162,14 +106,55 @@ pub fn number_of(why: Refusal) -> u64
     }
 }
 
+impl From<Refusal> for u64 {
+    ghost from_gives = { λ why n. n ≡ number_of why };
+
+    fn from(why: Refusal) -> u64 {
+        number_of(why)
+    }
+}
+
+// A number that no refusal has.
+#[derive(Clone, Copy, PartialEq, Eq)]
+pub struct NoRefusal(pub u64);
+
+impl TryFrom<u64> for Refusal {
+    type Error = NoRefusal;
+
+    ghost try_from_gives = { Numbered };
+
+    fn try_from(number: u64) -> Result<Refusal, NoRefusal> {
+        match number {
+            Refusal::NOT_IN_ORDER => Ok(Refusal::NotInOrder),
+            Refusal::OUTSIDE_LIMITS => Ok(Refusal::OutsideLimits),
+            Refusal::NOT_THERE => Ok(Refusal::NotThere),
+            Refusal::IN_USE => Ok(Refusal::InUse),
+            Refusal::WRONG_NODE => Ok(Refusal::WrongNode),
+            Refusal::LEVEL_TOO_LOW => Ok(Refusal::LevelTooLow),
+            Refusal::SHARES_ABOVE => Ok(Refusal::SharesAbove),
+            Refusal::DEPTH_ABOVE => Ok(Refusal::DepthAbove),
+            Refusal::NOT_EMPTY => Ok(Refusal::NotEmpty),
+            Refusal::IN_DEBT => Ok(Refusal::InDebt),
+            Refusal::QUEUE_FULL => Ok(Refusal::QueueFull),
+            Refusal::COUNT_AT_END => Ok(Refusal::CountAtEnd),
+            Refusal::BUFFER_SHORT => Ok(Refusal::BufferShort),
+            Refusal::PLAN_WRONG => Ok(Refusal::PlanWrong),
+            Refusal::PLAN_OUT_OF_ORDER => Ok(Refusal::PlanOutOfOrder),
+            Refusal::STATED_WRONG => Ok(Refusal::StatedWrong),
+            Refusal::TIMETABLE_WRONG => Ok(Refusal::TimetableWrong),
+            _ => Err(NoRefusal(number)),
+        }
+    }
+}
+
 // The number of the refusal in an answer, or 0.
-#[tactic(auto, unfolding(crate::specs::Answers::told, definitions::specs::Refusals::number_told))]
-pub fn number_told(answer: Answer) -> u64
-    ensures number { result ≡ number_told (told answer) }
+#[tactic(auto, unfolding(crate::specs::Answers::number_in))]
+pub fn number_told<T: Drop>(answer: Result<T, Refusal>) -> u64
+    ensures number { result ≡ number_in answer }
     ensures small { result ≤ last_refusal }
 {
     match answer {
-        Answer::Accepted(_) => 0,
-        Answer::Refused(why) => number_of(why),
+        Ok(_) => 0,
+        Err(why) => number_of(why),
     }
 }

@@ -19,12 +19,13 @@ use Rattle.numbers.proofs.Steps.{for_reaches}
 use Rattle.definitions.specs.Limits.{nodes}
 use Rattle.definitions.specs.Places.{waiting, size, arrival}
 use Rattle.definitions.specs.Tree.{tree_of, node_above}
-use Rattle.definitions.specs.declared.Supply.{Supply}
+use Rattle.definitions.specs.declared.Supplier.{Supplier}
+use Rattle.std.specs.Prelude.{Option}
 use Rattle.definitions.specs.Tick.{nobody, grains, enough, supplier_from, supply, is_found, node_found, steps_found, supplier, steps_above, supplied, better, goes_before, choice, next}
 use Rattle.definitions.specs.Choice.{HasSupplier, GoesNext, SeenIn}
 
 -- What a search that finds a supplier has climbed, from node k at level l and so many steps above the client.
-record Climbed (t : List ℤ) (amount steps l k : ℕ) (s : Supply) : Type 0 where
+record Climbed (t : List ℤ) (amount steps l k : ℕ) (s : Option Supplier) : Type 0 where
   up : ℕ
   count : steps_found s ≡ steps + up
   within : up ≤ l

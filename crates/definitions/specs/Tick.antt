@@ -1,6 +1,6 @@
 -- Tick, in four steps over the table and the dispatch entries so far, which are then divided by port. Document 01, "Calls", and
 -- document 02, (c) and (g).
-use Rattle.std.specs.Prelude.{ℕ, zero, suc, ◌+◌, ◌*◌, ◌-◌, ◌/◌, Bool, true, false, not, cond, ◌&&◌, ◌||◌, List, [], ◌∷◌, ◌++◌, length, drop, eqb, ltb, ℤ, pos, ◌+ℤ◌, ◌-ℤ◌}
+use Rattle.std.specs.Prelude.{ℕ, zero, suc, ◌+◌, ◌*◌, ◌-◌, ◌/◌, Bool, true, false, not, cond, ◌&&◌, ◌||◌, List, [], ◌∷◌, ◌++◌, length, drop, eqb, ltb, ℤ, pos, ◌+ℤ◌, ◌-ℤ◌, Option, Some, None}
 use Rattle.std.specs.Int.Signed.{le_z}
 use Rattle.numbers.specs.Whole.{plus}
 use Rattle.numbers.specs.Tests.{every}
@@ -11,8 +11,7 @@ use Rattle.definitions.specs.Tree.{tree_of, count_if}
 use Rattle.definitions.specs.Cost.{cost}
 use Rattle.definitions.specs.Order.{in_order}
 use Rattle.definitions.specs.Refusals.{cause, first, Outcome, outcome, kept}
-use Rattle.definitions.specs.declared.Supply.{Supply}
-use Rattle.definitions.specs.declared.Supply.TheVariants.{Node, Nobody}
+use Rattle.definitions.specs.declared.Supplier.{Supplier}
 
 -- What a request of this size is charged, in grains: its cost x 1000.
 unfoldable pub grains : ℕ → ℕ
@@ -27,28 +26,28 @@ abbrev pub nobody : ℕ
 nobody = nodes
 
 -- The search for a supplier on the way from node k, at level l and so many steps above the client, up to the root, both
--- included: it answers the first node with enough balance and the steps, or nobody where none has.
-unfoldable pub supplier_from : List ℤ → ℕ → ℕ → ℕ → ℕ → Supply
-supplier_from t amount steps zero k = cond (enough t amount k) (Node k steps) Nobody
+-- included: it answers the first node with enough balance and the steps, or none where none has.
+unfoldable pub supplier_from : List ℤ → ℕ → ℕ → ℕ → ℕ → Option Supplier
+supplier_from t amount steps zero k = cond (enough t amount k) (Some (record { node = k; steps = steps })) None
 supplier_from t amount steps (suc l) k =
-    cond (enough t amount k) (Node k steps) (supplier_from t amount (steps + 1) l ((tree_of t).parent k))
+    cond (enough t amount k) (Some (record { node = k; steps = steps })) (supplier_from t amount (steps + 1) l ((tree_of t).parent k))
 
 -- Its answer for client k's oldest request. Steps count from the client: 0 is the client itself.
-unfoldable pub supply : List ℤ → ℕ → Supply
+unfoldable pub supply : List ℤ → ℕ → Option Supplier
 supply t k = supplier_from t (grains (size t k 0)) 0 ((tree_of t).level k) k
 
 -- Whether such an answer has a supplier, which node it is, and the steps; nobody and 0 where there is none.
-unfoldable pub is_found : Supply → Bool
-is_found (Node node steps) = true
-is_found Nobody = false
+unfoldable pub is_found : Option Supplier → Bool
+is_found (Some supplier) = true
+is_found None = false
 
-unfoldable pub node_found : Supply → ℕ
-node_found (Node node steps) = node
-node_found Nobody = nobody
+unfoldable pub node_found : Option Supplier → ℕ
+node_found (Some supplier) = supplier.node
+node_found None = nobody
 
-unfoldable pub steps_found : Supply → ℕ
-steps_found (Node node steps) = steps
-steps_found Nobody = 0
+unfoldable pub steps_found : Option Supplier → ℕ
+steps_found (Some supplier) = supplier.steps
+steps_found None = 0
 
 -- The supplier of client k's oldest request, and how many steps it is above the client.
 unfoldable pub supplier : List ℤ → ℕ → ℕ

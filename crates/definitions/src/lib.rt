@@ -1,9 +1,9 @@
 // The type of the code that the definitions speak of; they stand in specs/.
 #![tactic(auto)]
 
-// What a search for a supplier answers: a node and how many steps it is above the client, or nobody.
+// The node that supplies a request, and how many steps it is above the client.
 #[derive(Clone, Copy)]
-pub enum Supply {
-    Node { node: usize, steps: usize },
-    Nobody,
+pub struct Supplier {
+    pub node: usize,
+    pub steps: usize,
 }

@@ -1,5 +1,5 @@
 -- A test over the numbers below a bound passes just where it passes at each of them.
-use Prim.Native.Nat.{ℕ, zero, suc, ◌+◌, ◌-◌, ◌<◌}
+use Prim.Native.Nat.{ℕ, zero, suc, ◌+◌, ◌-◌, ◌<◌, ◌≤◌}
 use native.Mathlib.Numerals.{add-one}
 use native.Mathlib.Decide.{ℕ_discrete}
 use native.Mathlib.Omega.{arith}
@@ -51,12 +51,19 @@ all_cong n p q h =
     (λ t. all_intro n q (λ k l. sym (h k l) ∙ all_at n p t k l))
     (λ t. all_intro n p (λ k l. h k l ∙ all_at n q t k l))
 
--- One turn of a loop that joins tests, and its end.
+-- The start of a loop that joins tests, one turn of it, and its end.
+pub all_first : (p : ℕ → Bool) → true ≡ all_below 0 p
+unfolding all_below
+all_first p = refl
+
 pub all_grows : (n : ℕ) (p : ℕ → Bool) (ok b : Bool) → ok ≡ all_below n p → b ≡ p n → (ok && b) ≡ all_below (n + 1) p
 all_grows n p ok b e f = ap (λ (x : Bool). x && b) e ∙ ap (λ (x : Bool). all_below n p && x) f ∙ sym (all_next n p)
 
 pub all_done : (m n : ℕ) (p : ℕ → Bool) (ok : Bool) → ok ≡ all_below m p → m ≡ n → ok ≡ all_below n p
 all_done m n p ok e end = e ∙ ap (λ (i : ℕ). all_below i p) end
+
+pub all_upto : (m n : ℕ) (p : ℕ → Bool) (ok : Bool) → ok ≡ all_below m p → m ≤ n → n ≤ m → ok ≡ all_below n p
+all_upto m n p ok e a b = all_done m n p ok e (omega arith)
 
 -- A test over two neighbouring stretches.
 all_append : (n m : ℕ) (p : ℕ → Bool) → all_below (n + m) p ≡ (all_below n p && all_below m (λ j. p (n + j)))
@@ -75,3 +82,6 @@ all_append n m p =
 -- A test that is made part by part: one part more.
 pub all_part : (n m : ℕ) (p : ℕ → Bool) (ok b : Bool) → ok ≡ all_below n p → b ≡ all_below m (λ j. p (n + j)) → (ok && b) ≡ all_below (n + m) p
 all_part n m p ok b e f = ap (λ (x : Bool). x && b) e ∙ ap (λ (x : Bool). all_below n p && x) f ∙ sym (all_append n m p)
+
+-- A loop that joins tests: what `search` needs of it.
+pub ruleset all_loop = (all_first, all_grows, all_upto)

@@ -59,3 +59,6 @@ last_test e = ap (λ (x : Bool). x ∷ []) e
 
 pub joined_as : {a : Bool} {r s : List Bool} → (a ∷ r) ≡ s → joined a r ≡ every s
 joined_as {a = a} {r = r} e = joined_every a r ∙ ap every e
+
+-- Tests that code joins by `&`: what `search` needs of them.
+pub ruleset tests = (joined_as, same_tests, last_test)

@@ -1,5 +1,5 @@
 -- Repeated steps over the numbers below a bound: what each step keeps holds after all of them.
-use Prim.Native.Nat.{ℕ, zero, suc, ◌+◌, ◌<◌}
+use Prim.Native.Nat.{ℕ, zero, suc, ◌+◌, ◌<◌, ◌≤◌}
 use native.Mathlib.Numerals.{add-one}
 use native.Mathlib.Omega.{arith}
 use mathlib.Core.Path.{◌≡◌, refl, sym, ap, ◌∙◌}
@@ -30,3 +30,16 @@ for_reaches P (suc n) f h a p = h n (for_below n f a) (omega arith) (for_reaches
 
 pub for_keeps : {A : Type 0} (P : A → Type 0) (n : ℕ) (f : ℕ → A → A) → ((k : ℕ) (a : A) → k < n → P a → P (f k a)) → (a : A) → P a → P (for_below n f a)
 for_keeps P n f h a p = for_reaches (λ k. P) n f h a p
+
+-- The start and the end of a loop that takes a step for each number.
+pub for_first : {A : Type 0} (f : ℕ → A → A) (a : A) → a ≡ for_below 0 f a
+unfolding for_below
+for_first f a = refl
+
+pub for_upto : {A : Type 0} (m n : ℕ) (f : ℕ → A → A) (a b : A) → b ≡ for_below m f a → m ≤ n → n ≤ m → b ≡ for_below n f a
+for_upto m n f a b e h l =
+    let end : m ≡ n = omega arith in
+    e ∙ ap (λ (i : ℕ). for_below i f a) end
+
+-- A loop that takes a step for each number: what `search` needs of it.
+pub ruleset for_loop = (for_first, turned, for_upto)

@@ -2,7 +2,7 @@
 use Prim.Native.Nat.{ℕ, zero, suc, ◌+◌, ◌*◌, ◌≤◌, ◌<◌}
 use native.Mathlib.Numerals.{add-one}
 use native.Mathlib.Omega.{arith}
-use mathlib.Core.Path.{◌≡◌, refl, sym, ap}
+use mathlib.Core.Path.{◌≡◌, refl, sym, ap, ◌∙◌}
 use lib.IntN.{ℤ, ◌+ℤ◌}
 use Rattle.numbers.specs.Whole.{plus, minus}
 use Rattle.numbers.specs.Below.{sum_below, sum_ℤ_below}
@@ -15,6 +15,22 @@ sum_suc n f = refl
 
 pub sum_next : (n : ℕ) (f : ℕ → ℕ) → sum_below (n + 1) f ≡ sum_below n f + f n
 sum_next n f = rw add-one (sum_suc n f)
+
+-- The start of a loop that sums, one turn of it, and its end.
+pub sum_first : (f : ℕ → ℕ) → 0 ≡ sum_below 0 f
+unfolding sum_below
+sum_first f = refl
+
+pub sum_grows : (n : ℕ) (f : ℕ → ℕ) (sum term : ℕ) → sum ≡ sum_below n f → term ≡ f n → sum + term ≡ sum_below (n + 1) f
+sum_grows n f sum term e h = rw (e, h) (sym (sum_next n f))
+
+pub sum_upto : (m n : ℕ) (f : ℕ → ℕ) (sum : ℕ) → sum ≡ sum_below m f → m ≤ n → n ≤ m → sum ≡ sum_below n f
+sum_upto m n f sum e a b =
+    let end : m ≡ n = omega arith in
+    e ∙ ap (λ (i : ℕ). sum_below i f) end
+
+-- A loop that sums: what `search` needs of it.
+pub ruleset sum_loop = (sum_first, sum_grows, sum_upto)
 
 pub sum_cong : (n : ℕ) (f g : ℕ → ℕ) → ((k : ℕ) → k < n → f k ≡ g k) → sum_below n f ≡ sum_below n g
 unfolding sum_below

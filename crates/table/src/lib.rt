@@ -1,15 +1,14 @@
 // The account table: a lent slice of 2,568 signed numbers, its limits and places, and open.
 #![tactic(auto)]
 
-ghost use Rattle.std.specs.Prelude.{◌≡◌, ◌+◌, ◌*◌, ◌<◌, ◌≤◌, ◌^◌, length, pos};
+ghost use Rattle.std.specs.Prelude.{◌≡◌, ◌+◌, ◌*◌, ◌<◌, ◌≤◌, ◌^◌, pos};
 ghost use Rattle.numbers.specs.Whole.{plus, minus, same_ℤ};
-ghost use Rattle.definitions.specs.Limits.{table_length, header_length, record_length, nodes, depth_at, share_limit, port_limit, greatest_depth, grain_scale};
+ghost use Rattle.definitions.specs.Limits.{header_length, record_length, nodes, depth_at, share_limit, port_limit, greatest_depth, grain_scale};
 ghost use Rattle.definitions.specs.Places.{place, put, header, put_header, count, depth_grains};
-ghost use Rattle.definitions.specs.Refusals.{last_refusal};
-ghost use Rattle.definitions.specs.Calls.{blank, opened, open_limits, open_refusal, open_table, open_answer};
+ghost use Rattle.definitions.specs.Calls.{blank, opened, open_limits, open_table, open_answer};
 ghost use Rattle.answers.specs.Answers.{told};
 
-use answers::{Answer, Refusal};
+use answers::Refusal;
 
 pub mod queue;
 pub mod tree;
@@ -20,6 +19,9 @@ pub struct PortCounts {
     pub first: usize,
     pub second: usize,
 }
+
+// The numbers of an account table that has the right length.
+pub type AccountTable = [i64; Table::LENGTH];
 
 #[derive(Clone, Copy)]
 pub struct Table {}
@@ -120,6 +122,7 @@ impl Table {
     pub const PORTS: usize = 2;
 
     // The greatest share of a kind.
+    #[tactic(auto, unfolding(definitions::specs::Limits::share_limit))]
     pub fn share_limit(kind: u64) -> u64
         ensures { result ≡ share_limit kind }
     {
@@ -130,6 +133,7 @@ impl Table {
     }
 
     // The greatest port of a sort: of a class it is zero.
+    #[tactic(auto, unfolding(definitions::specs::Limits::port_limit))]
     pub fn port_limit(sort: u64) -> u64
         ensures { result ≡ port_limit sort }
     {
@@ -140,72 +144,76 @@ impl Table {
     }
 
     // What stands at place p of node k.
-    pub fn get(table: &[i64], k: usize, p: usize) -> i64
-        requires { (length table.now ≡ table_length) × (k < nodes) × (p < record_length) }
+    #[tactic(auto, unfolding(definitions::specs::Places::place))]
+    pub fn get(table: &AccountTable, k: usize, p: usize) -> i64
+        requires { (k < nodes) × (p < record_length) }
         ensures { result ≡ place table.now k p }
     {
         table[Table::HEADER + Table::RECORD * k + p]
     }
 
     // The natural part of it.
-    pub fn natural(table: &[i64], k: usize, p: usize) -> u64
-        requires { (length table.now ≡ table_length) × (k < nodes) × (p < record_length) }
+    pub fn natural(table: &AccountTable, k: usize, p: usize) -> u64
+        requires { (k < nodes) × (p < record_length) }
         ensures { result ≡ plus (place table.now k p) }
     {
         numbers::natural(Table::get(table, k, p))
     }
 
     // It as a natural number, where it is not negative.
-    pub fn unsigned(table: &[i64], k: usize, p: usize) -> u64
-        requires { (length table.now ≡ table_length) × (k < nodes) × (p < record_length) × (minus (place table.now k p) ≡ 0) }
+    pub fn unsigned(table: &AccountTable, k: usize, p: usize) -> u64
+        requires { (k < nodes) × (p < record_length) × (minus (place table.now k p) ≡ 0) }
         ensures { result ≡ plus (place table.now k p) }
     {
         numbers::unsigned(Table::get(table, k, p))
     }
 
     // Whether it is the same in two tables.
-    pub fn same_place(first: &[i64], second: &[i64], k: usize, p: usize) -> bool
-        requires { (length first.now ≡ table_length) × (length second.now ≡ table_length) × (k < nodes) × (p < record_length) }
+    pub fn same_place(first: &AccountTable, second: &AccountTable, k: usize, p: usize) -> bool
+        requires { (k < nodes) × (p < record_length) }
         ensures { result ≡ same_ℤ (place first.now k p) (place second.now k p) }
     {
         numbers::equal(Table::get(first, k, p), Table::get(second, k, p))
     }
 
     // Writes v there.
-    pub fn put(table: &mut [i64], k: usize, p: usize, v: i64)
-        requires { (length table.old ≡ table_length) × (k < nodes) × (p < record_length) }
+    #[tactic(auto, unfolding(definitions::specs::Places::put))]
+    pub fn put(table: &mut AccountTable, k: usize, p: usize, v: i64)
+        requires { (k < nodes) × (p < record_length) }
         ensures { table.new ≡ put table.old k p v }
     {
         table[Table::HEADER + Table::RECORD * k + p] = v;
     }
 
     // Writes a natural number there.
-    pub fn put_natural(table: &mut [i64], k: usize, p: usize, v: u64)
-        requires { (length table.old ≡ table_length) × (k < nodes) × (p < record_length) × (v < 2 ^ 63) }
+    pub fn put_natural(table: &mut AccountTable, k: usize, p: usize, v: u64)
+        requires { (k < nodes) × (p < record_length) × (v < 2 ^ 63) }
         ensures { table.new ≡ put table.old k p (pos v) }
     {
         Table::put(table, k, p, numbers::whole(v));
     }
 
     // What stands at place p of the header.
-    pub fn heading(table: &[i64], p: usize) -> i64
-        requires { (length table.now ≡ table_length) × (p < header_length) }
+    #[tactic(auto, unfolding(definitions::specs::Places::header))]
+    pub fn heading(table: &AccountTable, p: usize) -> i64
+        requires { p < header_length }
         ensures { result ≡ header table.now p }
     {
         table[p]
     }
 
     // The count of accepted requests.
-    pub fn count(table: &[i64]) -> u64
-        requires { length table.now ≡ table_length }
+    #[tactic(auto, unfolding(definitions::specs::Places::count))]
+    pub fn count(table: &AccountTable) -> u64
         ensures { result ≡ count table.now }
     {
         numbers::natural(Table::heading(table, 0))
     }
 
     // Writes the count of accepted requests.
-    pub fn put_count(table: &mut [i64], n: u64)
-        requires { (length table.old ≡ table_length) × (n < 2 ^ 63) }
+    #[tactic(auto, unfolding(definitions::specs::Places::put_header))]
+    pub fn put_count(table: &mut AccountTable, n: u64)
+        requires { n < 2 ^ 63 }
         ensures { table.new ≡ put_header table.old 0 (pos n) }
     {
         let count = numbers::whole(n);
@@ -221,28 +229,26 @@ impl Table {
     }
 
     // The depth of node k in grains.
-    pub fn depth_grains(table: &[i64], k: usize) -> u64
-        requires { (length table.now ≡ table_length) × (k < nodes) × (plus (place table.now k depth_at) ≤ greatest_depth) }
+    #[tactic(auto, unfolding(definitions::specs::Places::depth_grains))]
+    pub fn depth_grains(table: &AccountTable, k: usize) -> u64
+        requires { (k < nodes) × (plus (place table.now k depth_at) ≤ greatest_depth) }
         ensures { result ≡ depth_grains table.now k }
     {
         Table::grains(Table::natural(table, k, Table::DEPTH))
     }
 
     // Writes 0 everywhere.
-    fn clear(table: &mut [i64])
-        requires { length table.old ≡ table_length }
+    #[tactic(auto, unfolding(definitions::specs::Calls::blank))]
+    fn clear(table: &mut AccountTable)
         ensures { table.new ≡ blank }
     {
-        let mut i: usize = 0;
-        while i < table.len() {
-            table[i] = 0;
-            i += 1;
-        }
+        *table = [0; Table::LENGTH];
     }
 
     // Makes the root in a table of zeros.
-    fn put_root(table: &mut [i64], rate: i64, depth: i64)
-        requires { (length table.old ≡ table_length) × (table.old ≡ blank) }
+    #[tactic(auto, unfolding(definitions::specs::Calls::opened))]
+    fn put_root(table: &mut AccountTable, rate: i64, depth: i64)
+        requires { table.old ≡ blank }
         ensures { table.new ≡ opened rate depth }
     {
         Table::put_natural(table, 0, Table::SORT, Table::CLASS);
@@ -260,31 +266,19 @@ impl Table {
         rate_fits & depth_fits
     }
 
-    // The number of the first cause that turns open back, or 0.
-    fn open_refusal(table: &[i64], rate: i64, depth: i64) -> u64
-        ensures first { result ≡ open_refusal table.now rate depth }
-        ensures small { result ≤ last_refusal }
-    {
-        if table.len() != Table::LENGTH {
-            return Refusal::NOT_IN_ORDER;
-        }
-        if !Table::open_limits(rate, depth) {
-            return Refusal::OUTSIDE_LIMITS;
-        }
-        0
-    }
-
     // Zeroes the table and makes the root with balance 0. Document 01, "Calls".
-    pub fn open(table: &mut [i64], rate: i64, depth: i64) -> Answer
+    pub fn open(table: &mut [i64], rate: i64, depth: i64) -> Result<i64, Refusal>
         ensures answer { told result ≡ open_answer table.old rate depth }
         ensures table { table.new ≡ open_table table.old rate depth }
     {
-        let number = Table::open_refusal(table, rate, depth);
-        if number != 0 {
-            return answers::answered(number, 0);
+        let Some(numbers) = table.as_mut_array() else {
+            return Err(Refusal::NotInOrder);
+        };
+        if !Table::open_limits(rate, depth) {
+            return Err(Refusal::OutsideLimits);
         }
-        Table::clear(table);
-        Table::put_root(table, rate, depth);
-        Answer::Accepted(0)
+        Table::clear(numbers);
+        Table::put_root(numbers, rate, depth);
+        Ok(0)
     }
 }

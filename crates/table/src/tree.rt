@@ -3,64 +3,67 @@ ghost use Rattle.std.specs.Prelude.{◌≡◌, ◌<◌, length};
 ghost use Rattle.definitions.specs.Limits.{table_length, nodes};
 ghost use Rattle.definitions.specs.Tree.{tree_of, there, is_class, is_client, is_fixed, is_stated, child_of, childless};
 
-use crate::Table;
+use crate::{AccountTable, Table};
 
 // Whether node k is there.
-pub fn there(table: &[i64], k: usize) -> bool
-    requires { (length table.now ≡ table_length) × (k < nodes) }
+#[tactic(auto, unfolding(definitions::specs::Tree::there, definitions::specs::Tree::tree_of))]
+pub fn there(table: &AccountTable, k: usize) -> bool
+    requires { k < nodes }
     ensures { result ≡ there (tree_of table.now) k }
 {
     Table::natural(table, k, Table::SORT) != Table::UNUSED
 }
 
-pub fn is_class(table: &[i64], k: usize) -> bool
-    requires { (length table.now ≡ table_length) × (k < nodes) }
+#[tactic(auto, unfolding(definitions::specs::Tree::is_class, definitions::specs::Tree::tree_of))]
+pub fn is_class(table: &AccountTable, k: usize) -> bool
+    requires { k < nodes }
     ensures { result ≡ is_class (tree_of table.now) k }
 {
     Table::natural(table, k, Table::SORT) == Table::CLASS
 }
 
-pub fn is_client(table: &[i64], k: usize) -> bool
-    requires { (length table.now ≡ table_length) × (k < nodes) }
+#[tactic(auto, unfolding(definitions::specs::Tree::is_client, definitions::specs::Tree::tree_of))]
+pub fn is_client(table: &AccountTable, k: usize) -> bool
+    requires { k < nodes }
     ensures { result ≡ is_client (tree_of table.now) k }
 {
     Table::natural(table, k, Table::SORT) == Table::CLIENT
 }
 
 // Whether the share of node k is fixed.
-pub fn is_fixed(table: &[i64], k: usize) -> bool
-    requires { (length table.now ≡ table_length) × (k < nodes) }
+#[tactic(auto, unfolding(definitions::specs::Tree::is_fixed, definitions::specs::Tree::tree_of))]
+pub fn is_fixed(table: &AccountTable, k: usize) -> bool
+    requires { k < nodes }
     ensures { result ≡ is_fixed (tree_of table.now) k }
 {
     Table::natural(table, k, Table::KIND) == Table::FIXED
 }
 
 // Whether the share of node k is stated.
-pub fn is_stated(table: &[i64], k: usize) -> bool
-    requires { (length table.now ≡ table_length) × (k < nodes) }
+#[tactic(auto, unfolding(definitions::specs::Tree::is_stated, definitions::specs::Tree::tree_of))]
+pub fn is_stated(table: &AccountTable, k: usize) -> bool
+    requires { k < nodes }
     ensures { result ≡ is_stated (tree_of table.now) k }
 {
     Table::natural(table, k, Table::KIND) == Table::STATED
 }
 
 // Whether node k is a child of class c.
-pub fn child_of(table: &[i64], c: usize, k: usize) -> bool
-    requires { (length table.now ≡ table_length) × (k < nodes) }
+pub fn child_of(table: &AccountTable, c: usize, k: usize) -> bool
+    requires { k < nodes }
     ensures { result ≡ child_of (tree_of table.now) c k }
 {
     there(table, k) & (k != 0) & (Table::natural(table, k, Table::PARENT) == c as u64)
 }
 
 // Whether class c has no children.
-pub fn childless(table: &[i64], c: usize) -> bool
-    requires { length table.now ≡ table_length }
+#[tactic(auto, using(numbers::proofs::All::all_loop), unfolding(definitions::specs::Tree::childless))]
+pub fn childless(table: &AccountTable, c: usize) -> bool
     ensures { result ≡ childless (tree_of table.now) c }
 {
     let mut none = true;
-    let mut k: usize = 0;
-    while k < Table::NODES {
+    for k in 0..Table::NODES {
         none = none & !child_of(table, c, k);
-        k += 1;
     }
     none
 }
