@@ -1,6 +1,6 @@
 -- A charge, one node at a time: lowering a balance leaves the tree as it was and raises no debt by more than the amount, so a
 -- table that can be charged at all levels left can be charged at the rest after each of them.
-use Prim.Native.Nat.{ℕ, zero, suc, ◌+◌, ◌*◌, ◌-◌, ◌^◌, ◌≤◌, ◌<◌}
+use Prim.Native.Nat.{ℕ, zero, suc, ◌+◌, ◌*◌, ◌^◌, ◌≤◌, ◌<◌}
 use mathlib.Core.Path.{◌≡◌, refl, ◌∙◌}
 use mathlib.Core.List.{List}
 use native.Mathlib.Omega.{arith}
@@ -23,10 +23,10 @@ unfolding charge
 charge_last t amount zero k e = refl
 charge_last t amount (suc l) k e = absurd (omega arith)
 
-pub charge_above : (t : List ℤ) (amount l k : ℕ) → 0 < l → charge t amount l k ≡ charge (lower t amount k) amount (l - 1) ((tree_of t).parent k)
+pub charge_above : (t : List ℤ) (amount l m k : ℕ) → l ≡ m + 1 → charge t amount l k ≡ charge (lower t amount k) amount m ((tree_of t).parent k)
 unfolding charge
-charge_above t amount zero k e = absurd (omega arith)
-charge_above t amount (suc l) k e = let less : suc l - 1 ≡ l = omega arith in rw less
+charge_above t amount zero m k e = absurd (omega arith)
+charge_above t amount (suc l) m k e = let less : m ≡ l = omega arith in rw less refl
 
 pub lower_length : (t : List ℤ) (amount k : ℕ) → length (lower t amount k) ≡ length t
 unfolding lower
@@ -69,16 +69,13 @@ chargeable_first t w amount l small few =
       debt = λ j h. omega (arith, w.debt j h, mul-le-mul_right amount few);
     }
 
-pub chargeable_next : (tree : Tree) (amount l : ℕ) (u : List ℤ) → Chargeable tree amount l u → 0 < l → (k : ℕ) → k < nodes → Chargeable tree amount (l - 1) (lower u amount k)
-chargeable_next tree amount zero u r more k low = absurd (omega arith)
-chargeable_next tree amount (suc l) u r more k low =
-    let less : suc l - 1 ≡ l = omega arith in
-    rw less
-    (record {
+pub chargeable_next : (tree : Tree) (amount l m : ℕ) (u : List ℤ) → Chargeable tree amount l u → l ≡ m + 1 → (k : ℕ) → k < nodes → Chargeable tree amount m (lower u amount k)
+chargeable_next tree amount l m u r more k low =
+    record {
       long = lower_length u amount k ∙ r.long;
       same = lower_tree u amount k ∙ r.same;
-      debt = λ j h. omega (arith, r.debt j h, lower_debt u amount k j r.long low);
-    })
+      debt = λ j h. let e : suc l * amount ≡ suc m * amount + amount = rw more (omega arith) in omega (arith, r.debt j h, lower_debt u amount k j r.long low);
+    }
 
 pub chargeable_here : (tree : Tree) (amount l : ℕ) (u : List ℤ) → Chargeable tree amount l u → (k : ℕ) → k < nodes → minus (balance u k) + amount ≤ 2 ^ 63
 chargeable_here tree amount l u r k low = omega (arith, r.debt k low)

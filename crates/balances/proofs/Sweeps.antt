@@ -1,8 +1,8 @@
 -- A sweep over the nodes, one step at each, of which each touches the record of its own node alone: it finds every node as it
 -- was at first. So the limits of the table at first hold where a step reads.
 use Prim.Native.Nat.{ℕ, zero, suc, ◌+◌, ◌^◌, ◌≤◌, ◌<◌}
-use mathlib.Core.Path.{◌≡◌, refl, sym, ap, ◌∙◌}
-use mathlib.Core.Bool.{true, false, cond}
+use mathlib.Core.Path.{◌≡◌, refl, ap, ◌∙◌}
+use mathlib.Core.Bool.{cond}
 use mathlib.Core.List.{List}
 use native.Mathlib.Omega.{arith}
 use lib.IntN.{ℤ, pos, ◌+ℤ◌}
@@ -40,12 +40,6 @@ cutting_own k u j p hp ne =
     by_test test
     (λ e. ap (λ (w : List ℤ). place w j p) (cond_true test u v e))
     (λ e. ap (λ (w : List ℤ). place w j p) (cond_false test u v e) ∙ place_put_node u k balance_at (pos (depth_grains u k)) j p (omega arith) hp ne)
-
-pub cut_stays : (t : List ℤ) (k : ℕ) → le_z (balance t k) (pos (depth_grains t k)) ≡ true → t ≡ cutting k t
-cut_stays t k e = sym (cond_true (le_z (balance t k) (pos (depth_grains t k))) t (put t k balance_at (pos (depth_grains t k))) e)
-
-pub cut_falls : (t : List ℤ) (k : ℕ) → le_z (balance t k) (pos (depth_grains t k)) ≡ false → put t k balance_at (pos (depth_grains t k)) ≡ cutting k t
-cut_falls t k e = sym (cond_false (le_z (balance t k) (pos (depth_grains t k))) t (put t k balance_at (pos (depth_grains t k))) e)
 
 module _ (t : List ℤ) (w : Within t) (k : ℕ) (low : k < nodes) (u : List ℤ) where
   pub growth_fits : u ≡ for_below k growth t → plus (balance u k) + rate u k < 2 ^ 63
