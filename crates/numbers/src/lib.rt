@@ -5,6 +5,8 @@ ghost use Rattle.std.specs.Prelude.{◌≡◌, ◌+◌, ◌^◌, ◌<◌, ◌≤
 ghost use Rattle.std.specs.Int.Signed.{le_z};
 ghost use Rattle.numbers.specs.Whole.{plus, minus, same_ℤ, within_ℤ};
 
+// Kept: comparisons and conversions are functions, since contracts speak of a whole number by its two parts, of which no clause of std does.
+
 // The natural part of `z`: `z` itself, and 0 where it is negative.
 pub fn natural(z: i64) -> u64
     ensures { result ≡ plus z }
@@ -20,11 +22,11 @@ pub fn unsigned(z: i64) -> u64
     z as u64
 }
 
-// The negative part of `z`: its size where it is negative, and else 0. Minus the least i64 is no i64, so one is added first.
+// The negative part of `z`: its size where it is negative, and else 0.
 pub fn negative(z: i64) -> u64
     ensures { result ≡ minus z }
 {
-    if z < 0 { natural(-(z + 1)) + 1 } else { 0 }
+    if z < 0 { z.unsigned_abs() } else { 0 }
 }
 
 // `n` as a whole number.

@@ -21,6 +21,8 @@ pub struct PortCounts {
 }
 
 // The numbers of an account table that has the right length.
+// Kept: `k < nodes` and `p < record_length` stay clauses. A type for the numbers of nodes and places would stand as `k.number` in every
+// clause and index, and say no more.
 pub type AccountTable = [i64; Table::LENGTH];
 
 #[derive(Clone, Copy)]
@@ -97,6 +99,7 @@ impl Table {
     pub const SEEN: usize = 4;
 
     // Sorts and kinds.
+    // Kept: sorts, kinds and ports are numbers here, since a lent table holds them and C hands them over.
     pub const UNUSED: u64 = 0;
 
     pub const CLASS: u64 = 1;
@@ -161,6 +164,7 @@ impl Table {
     }
 
     // It as a natural number, where it is not negative.
+    // Kept beside `natural`: it asks more and tests nothing, which the test of a whole table needs to be quick.
     pub fn unsigned(table: &AccountTable, k: usize, p: usize) -> u64
         requires { (k < nodes) × (p < record_length) × (minus (place table.now k p) ≡ 0) }
         ensures { result ≡ plus (place table.now k p) }

@@ -1,6 +1,6 @@
 // The waiting requests of one node that a table shows.
-ghost use Rattle.std.specs.Prelude.{◌≡◌, ◌<◌, ◌≤◌, length};
-ghost use Rattle.definitions.specs.Limits.{table_length, nodes, most_waiting};
+ghost use Rattle.std.specs.Prelude.{◌≡◌, ◌<◌, ◌≤◌};
+ghost use Rattle.definitions.specs.Limits.{nodes, most_waiting};
 ghost use Rattle.definitions.specs.Places.{waiting, arrival};
 ghost use Rattle.definitions.specs.Order.{differs_at};
 

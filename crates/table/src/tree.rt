@@ -1,9 +1,11 @@
 // Tests of one node of the tree that a table shows.
-ghost use Rattle.std.specs.Prelude.{◌≡◌, ◌<◌, length};
-ghost use Rattle.definitions.specs.Limits.{table_length, nodes};
+ghost use Rattle.std.specs.Prelude.{◌≡◌, ◌<◌};
+ghost use Rattle.definitions.specs.Limits.{nodes};
 ghost use Rattle.definitions.specs.Tree.{tree_of, there, is_class, is_client, is_fixed, is_stated, child_of, childless};
 
 use crate::{AccountTable, Table};
+
+// Kept: these tests stay functions of their own, one for each definition of `Tree`. One function over the number would be `==` by another name.
 
 // Whether node k is there.
 #[tactic(auto, unfolding(definitions::specs::Tree::there, definitions::specs::Tree::tree_of))]
