@@ -98,6 +98,17 @@ module _ (which : Summand) (t : List ℤ) where
             ];
       }
 
+-- A node that is there: the sum of its class has room for its term, and has it once it is added.
+module _ (which : Summand) (t : List ℤ) (k : ℕ) (s : Summable which t) (above : 0 < k) (low : k < nodes) (here : there (tree_of t) k ≡ true) where
+  pub sums_room : (p n : ℕ) (sums : List ℕ) → SumsBelow which t k sums → p ≡ (tree_of t).parent k → n ≡ term which t k → (p < nodes) × (get_or sums p 0 + n < 2 ^ 64)
+  sums_room p n sums f is amount =
+      let parent : p < nodes = omega (arith, s.parent k low here (λ e. omega arith)) in
+      (parent, omega (arith, s.small k low here (λ e. omega arith), sums_small which t s k (omega arith) sums f p parent))
+
+  pub sums_added : (p n : ℕ) (sums new : List ℕ) → SumsBelow which t k sums → p ≡ (tree_of t).parent k → n ≡ term which t k → new ≡ set sums p (get_or sums p 0 + n) → SumsBelow which t (k + 1) new
+  sums_added p n sums new f is amount e =
+      rw e (sums_next which t sums k p n here (λ z. omega arith) (sym is) (omega (arith, s.parent k low here (λ z. omega arith))) amount f)
+
 -- A balance is not on both sides of 0.
 pub one_side : (t : List ℤ) (k : ℕ) → min (term Credits t k) (term Debts t k) ≡ 0
 unfolding term

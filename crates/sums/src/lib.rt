@@ -1,16 +1,17 @@
 // Sums over the children of a class.
 #![tactic(auto)]
 
-ghost use Rattle.std.specs.Prelude.{◌≡◌, cond, ◌+◌, ◌-◌, ◌^◌, ◌≤◌, ◌<◌, min, length, get_or, set, eqb, ltb};
-ghost use Rattle.definitions.specs.Limits.{table_length, nodes, root, kinds, fixed, weighted, stated, whole_share, greatest_rate};
+ghost use Rattle.std.specs.Prelude.{◌≡◌, cond, ◌+◌, ◌-◌, ◌^◌, ◌≤◌, ◌<◌, min, get_or, set, eqb, ltb};
+ghost use Rattle.definitions.specs.Limits.{nodes, root, kinds, fixed, weighted, stated, whole_share, greatest_rate};
 ghost use Rattle.definitions.specs.Tree.{tree_of, child_of, count_if, sum_under};
 ghost use Rattle.definitions.specs.Rates.{kind_share, kind_sum, fixed_sum, stated_sum};
 ghost use Rattle.treelaws.specs.Stated.{stated_wrong_with};
 ghost use Rattle.sums.specs.Sums.{term, Summable, SumsBelow, Shareable, share_sums, sum_at, ShareSums};
 
-use table::{Table, tree};
+use table::{AccountTable, Table, tree};
 
 // What is summed. Shares are those of one kind; credits are the natural parts of the balances, debts the negative parts.
+// Kept: the new form is no plainer: the contracts name the summand, and would have to say of a closure what it gives at each node.
 #[derive(Clone, Copy)]
 pub enum Summand {
     Shares(u64),
@@ -29,8 +30,9 @@ pub struct UnderClass {
 }
 
 // The share of node k where it is of this kind, else 0.
-pub fn kind_share(table: &[i64], kind: u64, k: usize) -> u64
-    requires { (length table.now ≡ table_length) × (k < nodes) }
+#[tactic(auto, unfolding(definitions::specs::Rates::kind_share, definitions::specs::Tree::tree_of))]
+pub fn kind_share(table: &AccountTable, kind: u64, k: usize) -> u64
+    requires { k < nodes }
     ensures { result ≡ kind_share (tree_of table.now) kind k }
 {
     let share = Table::natural(table, k, Table::SHARE);
@@ -41,8 +43,9 @@ pub fn kind_share(table: &[i64], kind: u64, k: usize) -> u64
 }
 
 // The summand of node k.
-pub fn term(table: &[i64], which: Summand, k: usize) -> u64
-    requires { (length table.now ≡ table_length) × (k < nodes) }
+#[tactic(auto, unfolding(crate::specs::Sums::term, definitions::specs::Tree::tree_of, definitions::specs::Places::rate, definitions::specs::Places::balance))]
+pub fn term(table: &AccountTable, which: Summand, k: usize) -> u64
+    requires { k < nodes }
     ensures { result ≡ term which table.now k }
 {
     match which {
@@ -55,8 +58,9 @@ pub fn term(table: &[i64], which: Summand, k: usize) -> u64
 }
 
 // The summand of node k where it is a child of class c, else 0.
-fn child_term(table: &[i64], which: Summand, c: usize, k: usize) -> u64
-    requires { (length table.now ≡ table_length) × (k < nodes) }
+#[tactic(auto, unfolding(definitions::specs::Tree::count_if))]
+fn child_term(table: &AccountTable, which: Summand, c: usize, k: usize) -> u64
+    requires { k < nodes }
     ensures { result ≡ count_if (child_of (tree_of table.now) c k) (term which table.now) k }
 {
     if tree::child_of(table, c, k) {
@@ -66,22 +70,21 @@ fn child_term(table: &[i64], which: Summand, c: usize, k: usize) -> u64
 }
 
 // The sum under class c.
-pub fn sum_under(table: &[i64], which: Summand, c: usize) -> u64
-    requires { (length table.now ≡ table_length) × Summable which table.now }
+pub fn sum_under(table: &AccountTable, which: Summand, c: usize) -> u64
+    requires { Summable which table.now }
     ensures { result ≡ sum_under (tree_of table.now) c (term which table.now) }
 {
-    let mut sum: u64 = 0;
-    let mut k: usize = 0;
-    while k < Table::NODES {
+    let mut sum = 0;
+    for k in 0..Table::NODES {
         sum += child_term(table, which, c, k);
-        k += 1;
     }
     sum
 }
 
 // The sum of the shares of one kind under class c, with a share of any kind in the place of an old one of that kind.
-fn sum_with(table: &[i64], summed: u64, c: usize, old: u64, kind: u64, share: u64) -> u64
-    requires { (length table.now ≡ table_length) × (Summable (Summand.Shares summed) table.now) × (old ≤ kind_sum (tree_of table.now) summed c) × (share ≤ greatest_rate) }
+#[tactic(auto, unfolding(crate::specs::Sums::term, definitions::specs::Rates::kind_sum))]
+fn sum_with(table: &AccountTable, summed: u64, c: usize, old: u64, kind: u64, share: u64) -> u64
+    requires { (Summable (Summand.Shares summed) table.now) × (old ≤ kind_sum (tree_of table.now) summed c) × (share ≤ greatest_rate) }
     ensures { result ≡ kind_sum (tree_of table.now) summed c + cond (eqb kind summed) share 0 - old }
 {
     let sum = sum_under(table, Summand::Shares(summed), c);
@@ -92,8 +95,8 @@ fn sum_with(table: &[i64], summed: u64, c: usize, old: u64, kind: u64, share: u6
 }
 
 // Whether the fixed shares under class c would be above 10,000 with a share of this kind in the place of an old fixed share.
-pub fn shares_above(table: &[i64], c: usize, old: u64, kind: u64, share: u64) -> bool
-    requires { (length table.now ≡ table_length) × (Summable (Summand.Shares fixed) table.now) × (old ≤ fixed_sum (tree_of table.now) c) × (share ≤ greatest_rate) }
+pub fn shares_above(table: &AccountTable, c: usize, old: u64, kind: u64, share: u64) -> bool
+    requires { (Summable (Summand.Shares fixed) table.now) × (old ≤ fixed_sum (tree_of table.now) c) × (share ≤ greatest_rate) }
     ensures { result ≡ ltb whole_share (fixed_sum (tree_of table.now) c + cond (eqb kind fixed) share 0 - old) }
 {
     Table::WHOLE_SHARE < sum_with(table, Table::FIXED, c, old, kind, share)
@@ -101,8 +104,9 @@ pub fn shares_above(table: &[i64], c: usize, old: u64, kind: u64, share: u64) ->
 
 // Whether a share of this kind under class c, in the place of an old stated rate, would be stated elsewhere than under the root
 // or make the stated rates exceed the disk's.
-pub fn stated_wrong(table: &[i64], c: usize, old: u64, kind: u64, share: u64) -> bool
-    requires { (length table.now ≡ table_length) × (Summable (Summand.Shares stated) table.now) × (old ≤ stated_sum (tree_of table.now) root) × (share ≤ greatest_rate) }
+#[tactic(auto, unfolding(treelaws::specs::Stated::stated_wrong_with, definitions::specs::Places::rate))]
+pub fn stated_wrong(table: &AccountTable, c: usize, old: u64, kind: u64, share: u64) -> bool
+    requires { (Summable (Summand.Shares stated) table.now) × (old ≤ stated_sum (tree_of table.now) root) × (share ≤ greatest_rate) }
     ensures { result ≡ stated_wrong_with table.now c old kind share }
 {
     if kind != Table::STATED {
@@ -117,12 +121,12 @@ fn add_to(sums: &mut [u64; Table::NODES], c: usize, amount: u64)
     requires { (c < nodes) × (get_or sums.old c 0 + amount < 2 ^ 64) }
     ensures { sums.new ≡ set sums.old c (get_or sums.old c 0 + amount) }
 {
-    sums[c] = sums[c] + amount;
+    sums[c] += amount;
 }
 
 // Adds the summand of node k, where it is there, to the sum of its class.
-pub fn add_node(table: &[i64], which: Summand, sums: &mut [u64; Table::NODES], k: usize)
-    requires { (length table.now ≡ table_length) × Summable which table.now × (0 < k) × (k < nodes) × SumsBelow which table.now k sums.old }
+pub fn add_node(table: &AccountTable, which: Summand, sums: &mut [u64; Table::NODES], k: usize)
+    requires { Summable which table.now × (0 < k) × (k < nodes) × SumsBelow which table.now k sums.old }
     ensures { SumsBelow which table.now (k + 1) sums.new }
 {
     if !tree::there(table, k) {
@@ -134,14 +138,14 @@ pub fn add_node(table: &[i64], which: Summand, sums: &mut [u64; Table::NODES], k
 
 // Adds two summands of node k, where it is there, to their sums of its class. One of the two is 0, so one sum alone is written.
 pub fn add_one_of(
-    table: &[i64],
+    table: &AccountTable,
     first: Summand,
     firsts: &mut [u64; Table::NODES],
     second: Summand,
     seconds: &mut [u64; Table::NODES],
     k: usize,
 )
-    requires { (length table.now ≡ table_length) × Summable first table.now × Summable second table.now × (0 < k) × (k < nodes) × (min (term first table.now k) (term second table.now k) ≡ 0) × SumsBelow first table.now k firsts.old × SumsBelow second table.now k seconds.old }
+    requires { Summable first table.now × Summable second table.now × (0 < k) × (k < nodes) × (min (term first table.now k) (term second table.now k) ≡ 0) × SumsBelow first table.now k firsts.old × SumsBelow second table.now k seconds.old }
     ensures { SumsBelow first table.now (k + 1) firsts.new × SumsBelow second table.now (k + 1) seconds.new }
 {
     if !tree::there(table, k) {
@@ -150,7 +154,8 @@ pub fn add_one_of(
     let c = Table::natural(table, k, Table::PARENT) as usize;
     let one = term(table, first, k);
     let amount = one + term(table, second, k);
-    if 0 < one {
+    let is_first = 0 < one;
+    if is_first {
         add_to(firsts, c, amount);
     } else {
         add_to(seconds, c, amount);
@@ -167,8 +172,8 @@ pub fn sum_at(c: usize, kind: usize) -> usize
 }
 
 // Adds the share of node k, where it is there, to the sum of its kind under its class.
-pub fn add_share(table: &[i64], shares: &mut [u64; Table::SHARE_SUMS], k: usize)
-    requires { (length table.now ≡ table_length) × Shareable (tree_of table.now) × (0 < k) × (k < nodes) × ShareSums (tree_of table.now) k shares.old }
+pub fn add_share(table: &AccountTable, shares: &mut [u64; Table::SHARE_SUMS], k: usize)
+    requires { Shareable (tree_of table.now) × (0 < k) × (k < nodes) × ShareSums (tree_of table.now) k shares.old }
     ensures { ShareSums (tree_of table.now) (k + 1) shares.new }
 {
     if !tree::there(table, k) {
@@ -177,18 +182,16 @@ pub fn add_share(table: &[i64], shares: &mut [u64; Table::SHARE_SUMS], k: usize)
     let c = Table::natural(table, k, Table::PARENT) as usize;
     let kind = Table::natural(table, k, Table::KIND) as usize;
     let at = sum_at(c, kind);
-    shares[at] = shares[at] + Table::natural(table, k, Table::SHARE);
+    shares[at] += Table::natural(table, k, Table::SHARE);
 }
 
 // The sums of the shares of each kind under all classes, in one pass from sums of 0. The root is nobody's child.
-pub fn share_sums(table: &[i64], shares: &mut [u64; Table::SHARE_SUMS])
-    requires { (length table.now ≡ table_length) × Shareable (tree_of table.now) × ShareSums (tree_of table.now) 1 shares.old }
+pub fn share_sums(table: &AccountTable, shares: &mut [u64; Table::SHARE_SUMS])
+    requires { Shareable (tree_of table.now) × ShareSums (tree_of table.now) 1 shares.old }
     ensures { ShareSums (tree_of table.now) nodes shares.new }
 {
-    let mut k: usize = 1;
-    while k < Table::NODES {
+    for k in 1..Table::NODES {
         add_share(table, shares, k);
-        k += 1;
     }
 }
 
