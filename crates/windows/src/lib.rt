@@ -2,104 +2,130 @@
 #![tactic(auto)]
 
 ghost use Rattle.std.specs.Prelude.{◌≡◌, cond, ℕ, ◌+◌, ◌*◌, ◌<◌, length, get_or};
-ghost use Rattle.numbers.specs.Whole.{plus, within_ℤ};
+ghost use Rattle.numbers.specs.Whole.{plus};
 ghost use Rattle.numbers.specs.Below.{all_below};
-ghost use Rattle.definitions.specs.Limits.{table_length, nodes};
+ghost use Rattle.definitions.specs.Limits.{nodes};
 ghost use Rattle.definitions.specs.Tree.{tree_of};
-ghost use Rattle.hourlaws.specs.Windows.{window_length, window_share_at, window_count, window_number, window_node, window_share, covers, window_formed, share_fits, shares_fit, share_in};
+ghost use Rattle.hourlaws.specs.Windows.{window_length, window_node_at, window_start_at, window_end_at, window_share_at, window_count, window_number, window_node, window_share, covers, window_formed, share_fits, shares_fit, share_in};
 
-use table::Table;
+use table::{AccountTable, Table};
 
 // Numbers of a window, and which is which.
 pub const WINDOW: usize = 4;
 
-pub const NODE: usize = 0;
+const NODE: usize = 0;
 
-pub const START: usize = 1;
+const START: usize = 1;
 
-pub const END: usize = 2;
+const END: usize = 2;
 
-pub const SHARE: usize = 3;
+const SHARE: usize = 3;
 
 // Minutes of a week, which is the last end of a window.
 pub const WEEK: u64 = 10080;
 
-// Number p of window i.
-pub fn get(windows: &[i64], i: usize, p: usize) -> i64
-    requires { window_length * i + p < length windows.now }
-    ensures { result ≡ window_number windows.now i p }
-{
-    windows[WINDOW * i + p]
+// The numbers of one window, right or not.
+#[derive(Clone, Copy)]
+pub struct Window {
+    pub node: i64,
+    pub start: i64,
+    pub end: i64,
+    pub share: i64,
 }
 
-// The natural part of it.
-pub fn number(windows: &[i64], i: usize, p: usize) -> u64
-    requires { window_length * i + p < length windows.now }
-    ensures { result ≡ plus (window_number windows.now i p) }
-{
-    numbers::natural(get(windows, i, p))
-}
+impl Window {
+    // Window i.
+    #[tactic(auto, unfolding(hourlaws::specs::Windows::window_number))]
+    pub fn at(windows: &[i64], i: usize) -> Window
+        requires { window_length * i + window_share_at < length windows.now }
+        ensures node { result.node ≡ window_number windows.now i window_node_at }
+        ensures start { result.start ≡ window_number windows.now i window_start_at }
+        ensures end { result.end ≡ window_number windows.now i window_end_at }
+        ensures share { result.share ≡ window_number windows.now i window_share_at }
+    {
+        let from = WINDOW * i;
+        Window {
+            node: windows[from + NODE],
+            start: windows[from + START],
+            end: windows[from + END],
+            share: windows[from + SHARE],
+        }
+    }
 
-// Whether it lies between `low` and `high`, both included.
-fn number_within(windows: &[i64], i: usize, p: usize, low: u64, high: u64) -> bool
-    requires { window_length * i + p < length windows.now }
-    ensures { result ≡ within_ℤ low high (window_number windows.now i p) }
-{
-    numbers::within(get(windows, i, p), low, high)
+    // The natural parts of its numbers.
+    pub fn node(self) -> usize
+        ensures { result ≡ plus self.node }
+    {
+        numbers::natural(self.node) as usize
+    }
+
+    pub fn start(self) -> u64
+        ensures { result ≡ plus self.start }
+    {
+        numbers::natural(self.start)
+    }
+
+    pub fn end(self) -> u64
+        ensures { result ≡ plus self.end }
+    {
+        numbers::natural(self.end)
+    }
+
+    pub fn share(self) -> u64
+        ensures { result ≡ plus self.share }
+    {
+        numbers::natural(self.share)
+    }
 }
 
 // Whether window i is right for a plan's table.
-fn window_formed(plan: &[i64], windows: &[i64], i: usize) -> bool
-    requires { (length plan.now ≡ table_length) × (window_length * i + window_share_at < length windows.now) }
+fn window_formed(plan: &AccountTable, windows: &[i64], i: usize) -> bool
+    requires { window_length * i + window_share_at < length windows.now }
     ensures { result ≡ window_formed (tree_of plan.now) windows.now i }
 {
-    let start = number_within(windows, i, START, 0, WEEK);
-    let end = number_within(windows, i, END, 0, WEEK);
-    let rises = number(windows, i, START) < number(windows, i, END);
-    let node = number_within(windows, i, NODE, 1, Table::LAST_NODE);
+    let window = Window::at(windows, i);
+    let start = numbers::within(window.start, 0, WEEK);
+    let end = numbers::within(window.end, 0, WEEK);
+    let rises = window.start() < window.end();
+    let node = numbers::within(window.node, 1, Table::LAST_NODE);
     if !node {
         return false;
     }
-    let there = table::tree::there(plan, number(windows, i, NODE) as usize);
+    let there = table::tree::there(plan, window.node());
     start & end & rises & node & there
 }
 
 // Whether every window is.
-pub fn windows_formed(plan: &[i64], windows: &[i64]) -> bool
-    requires { length plan.now ≡ table_length }
+#[tactic(auto, using(numbers::proofs::All::all_loop))]
+pub fn windows_formed(plan: &AccountTable, windows: &[i64]) -> bool
     ensures { result ≡ all_below (window_count windows.now) (window_formed (tree_of plan.now) windows.now) }
 {
-    let n = windows.len() / WINDOW;
     let mut ok = true;
-    let mut i: usize = 0;
-    while i < n {
+    for i in 0..windows.len() / WINDOW {
         ok = ok & window_formed(plan, windows, i);
-        i += 1;
     }
     ok
 }
 
 // Whether the share of window i is in the limits of its node's kind.
-fn share_fits(plan: &[i64], windows: &[i64], i: usize) -> bool
-    requires { (length plan.now ≡ table_length) × (window_length * i + window_share_at < length windows.now) × (window_node windows.now i < nodes) }
+fn share_fits(plan: &AccountTable, windows: &[i64], i: usize) -> bool
+    requires { (window_length * i + window_share_at < length windows.now) × (window_node windows.now i < nodes) }
     ensures { result ≡ share_fits (tree_of plan.now) windows.now i }
 {
-    let k = number(windows, i, NODE) as usize;
-    let most = Table::share_limit(Table::natural(plan, k, Table::KIND));
-    number_within(windows, i, SHARE, 1, most)
+    let window = Window::at(windows, i);
+    let most = Table::share_limit(Table::natural(plan, window.node(), Table::KIND));
+    numbers::within(window.share, 1, most)
 }
 
 // Whether every window's share is.
-pub fn shares_fit(plan: &[i64], windows: &[i64]) -> bool
-    requires { (length plan.now ≡ table_length) × ((i : ℕ) → i < window_count windows.now → window_node windows.now i < nodes) }
+#[tactic(auto, using(numbers::proofs::All::all_loop), unfolding(hourlaws::specs::Windows::shares_fit))]
+pub fn shares_fit(plan: &AccountTable, windows: &[i64]) -> bool
+    requires { (i : ℕ) → i < window_count windows.now → window_node windows.now i < nodes }
     ensures { result ≡ shares_fit (tree_of plan.now) windows.now }
 {
-    let n = windows.len() / WINDOW;
     let mut ok = true;
-    let mut i: usize = 0;
-    while i < n {
+    for i in 0..windows.len() / WINDOW {
         ok = ok & share_fits(plan, windows, i);
-        i += 1;
     }
     ok
 }
@@ -109,49 +135,39 @@ fn covers(windows: &[i64], i: usize, m: u64) -> bool
     requires { window_length * i + window_share_at < length windows.now }
     ensures { result ≡ covers windows.now i (window_node windows.now i) m }
 {
-    let start = number(windows, i, START) <= m;
-    let end = m < number(windows, i, END);
+    let window = Window::at(windows, i);
+    let start = window.start() <= m;
+    let end = m < window.end();
     start & end
 }
 
 // Writes the share that window i gives its node, where it covers minute m.
 fn share_by(windows: &[i64], i: usize, m: u64, shares: &mut [u64; Table::NODES])
-    requires { (window_length * i + window_share_at < length windows.now) × (window_node windows.now i < nodes) × (length shares.old ≡ nodes) }
-    ensures long { length shares.new ≡ nodes }
-    ensures at { (k : ℕ) → k < nodes → get_or shares.new k 0 ≡ cond (covers windows.now i k m) (window_share windows.now i) (get_or shares.old k 0) }
+    requires { (window_length * i + window_share_at < length windows.now) × (window_node windows.now i < nodes) }
+    ensures { (k : ℕ) → k < nodes → get_or shares.new k 0 ≡ cond (covers windows.now i k m) (window_share windows.now i) (get_or shares.old k 0) }
 {
-    if !covers(windows, i, m) {
-        return;
+    if covers(windows, i, m) {
+        let window = Window::at(windows, i);
+        shares[window.node()] = window.share();
     }
-    let k = number(windows, i, NODE) as usize;
-    let share = number(windows, i, SHARE);
-    shares[k] = share;
 }
 
 // Writes the plan's shares.
-fn plan_shares(plan: &[i64], shares: &mut [u64; Table::NODES])
-    requires { (length plan.now ≡ table_length) × (length shares.old ≡ nodes) }
-    ensures long { length shares.new ≡ nodes }
-    ensures at { (k : ℕ) → k < nodes → get_or shares.new k 0 ≡ (tree_of plan.now).share k }
+fn plan_shares(plan: &AccountTable, shares: &mut [u64; Table::NODES])
+    ensures { (k : ℕ) → k < nodes → get_or shares.new k 0 ≡ (tree_of plan.now).share k }
 {
-    let mut k: usize = 0;
-    while k < Table::NODES {
-        let share = Table::natural(plan, k, Table::SHARE);
-        shares[k] = share;
-        k += 1;
+    for k in 0..Table::NODES {
+        shares[k] = Table::natural(plan, k, Table::SHARE);
     }
 }
 
 // Writes the share of each node at minute m.
-pub fn shares_at(plan: &[i64], windows: &[i64], m: u64, shares: &mut [u64; Table::NODES])
-    requires { (length plan.now ≡ table_length) × ((i : ℕ) → i < window_count windows.now → window_node windows.now i < nodes) × (length shares.old ≡ nodes) }
+pub fn shares_at(plan: &AccountTable, windows: &[i64], m: u64, shares: &mut [u64; Table::NODES])
+    requires { (i : ℕ) → i < window_count windows.now → window_node windows.now i < nodes }
     ensures { (k : ℕ) → k < nodes → get_or shares.new k 0 ≡ share_in (tree_of plan.now) windows.now m k }
 {
     plan_shares(plan, shares);
-    let n = windows.len() / WINDOW;
-    let mut i: usize = 0;
-    while i < n {
+    for i in 0..windows.len() / WINDOW {
         share_by(windows, i, m, shares);
-        i += 1;
     }
 }
