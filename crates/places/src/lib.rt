@@ -8,7 +8,7 @@ ghost use Rattle.definitions.specs.Places.{place, waiting};
 ghost use Rattle.definitions.specs.Order.{is_zero, header_in_order, root_in_order, limits_kept, spare_in_order};
 ghost use Rattle.places.specs.Zeros.{zeros};
 
-use table::Table;
+use table::{AccountTable, Table, queue};
 
 // Zero just where both are.
 fn either(a: i64, b: i64) -> i64
@@ -23,41 +23,38 @@ pub fn zeros(table: &[i64], first: usize, n: usize) -> bool
     ensures { result ≡ zeros table.now first n }
 {
     let mut bits: i64 = 0;
-    let mut p: usize = 0;
-    while p < n {
-        bits = either(bits, table[first + p]);
-        p += 1;
+    for z in &table[first..first + n] {
+        bits = either(bits, *z);
     }
     numbers::equal(bits, 0)
 }
 
 // Whether place p of node k lies between two numbers, both included.
-pub fn place_within(table: &[i64], k: usize, p: usize, low: u64, high: u64) -> bool
-    requires { (length table.now ≡ table_length) × (k < nodes) × (p < record_length) }
+pub fn place_within(table: &AccountTable, k: usize, p: usize, low: u64, high: u64) -> bool
+    requires { (k < nodes) × (p < record_length) }
     ensures { result ≡ within_ℤ low high (place table.now k p) }
 {
     numbers::within(Table::get(table, k, p), low, high)
 }
 
 // Whether n stands at place p of node k.
-fn place_is(table: &[i64], k: usize, p: usize, n: u64) -> bool
-    requires { (length table.now ≡ table_length) × (k < nodes) × (p < record_length) × (n < 2 ^ 63) }
+fn place_is(table: &AccountTable, k: usize, p: usize, n: u64) -> bool
+    requires { (k < nodes) × (p < record_length) × (n < 2 ^ 63) }
     ensures { result ≡ same_ℤ (place table.now k p) (pos n) }
 {
     numbers::equal(Table::get(table, k, p), numbers::whole(n))
 }
 
 // The negative part of what stands at place p of node k.
-pub fn negative(table: &[i64], k: usize, p: usize) -> u64
-    requires { (length table.now ≡ table_length) × (k < nodes) × (p < record_length) }
+pub fn negative(table: &AccountTable, k: usize, p: usize) -> u64
+    requires { (k < nodes) × (p < record_length) }
     ensures { result ≡ minus (place table.now k p) }
 {
     numbers::negative(Table::get(table, k, p))
 }
 
 // Whether the header is in order.
-pub fn header_in_order(table: &[i64]) -> bool
-    requires { length table.now ≡ table_length }
+pub fn header_in_order(table: &AccountTable) -> bool
     ensures { result ≡ header_in_order table.now }
 {
     let count = numbers::within(Table::heading(table, 0), 0, Table::GREATEST_COUNT);
@@ -66,8 +63,7 @@ pub fn header_in_order(table: &[i64]) -> bool
 }
 
 // Whether the root is as it must be.
-pub fn root_in_order(table: &[i64]) -> bool
-    requires { length table.now ≡ table_length }
+pub fn root_in_order(table: &AccountTable) -> bool
     ensures { result ≡ root_in_order table.now }
 {
     let sort = place_is(table, 0, Table::SORT, Table::CLASS);
@@ -80,8 +76,8 @@ pub fn root_in_order(table: &[i64]) -> bool
 }
 
 // Whether the places of node k keep their limits.
-pub fn limits_kept(table: &[i64], k: usize) -> bool
-    requires { (length table.now ≡ table_length) × (k < nodes) }
+pub fn limits_kept(table: &AccountTable, k: usize) -> bool
+    requires { k < nodes }
     ensures { result ≡ limits_kept table.now k }
 {
     let sort = place_within(table, k, Table::SORT, Table::CLASS, Table::CLIENT);
@@ -99,12 +95,12 @@ pub fn limits_kept(table: &[i64], k: usize) -> bool
 
 // Whether the places of node k that hold nothing are zero. Most queues are empty, and one test of a fixed length takes less
 // time.
-pub fn spare_in_order(table: &[i64], k: usize) -> bool
-    requires { (length table.now ≡ table_length) × (k < nodes) × (waiting table.now k ≤ most_waiting) }
+pub fn spare_in_order(table: &AccountTable, k: usize) -> bool
+    requires { (k < nodes) × (waiting table.now k ≤ most_waiting) }
     ensures { result ≡ spare_in_order table.now k }
 {
     let first = Table::HEADER + Table::RECORD * k;
-    let held = Table::REQUEST * Table::natural(table, k, Table::WAITING) as usize;
+    let held = Table::REQUEST * queue::waiting(table, k);
     if held == 0 {
         return zeros(table, first + Table::SPARE, Table::RECORD - Table::SPARE);
     }
