@@ -14,6 +14,7 @@ const WORD_VALUES: u64 = 4294967296;
 const HALF_VALUES: u32 = 65536;
 
 // a x b, wrapping at 32 bits.
+#[tactic(auto, using(crate::proofs::Draws::product_fits))]
 pub fn wrapping_product(a: u32, b: u32) -> u32
     ensures { result ≡ (a * b) % 2 ^ 32 }
 {
@@ -22,13 +23,15 @@ pub fn wrapping_product(a: u32, b: u32) -> u32
 }
 
 // The new state of a draw.
+#[tactic(auto, using(crate::proofs::Draws::next_wraps))]
 pub fn next_state(state: u32) -> u32
     ensures { result ≡ next_state state }
 {
-    std::num::wrapping_add_u32(wrapping_product(state, MULTIPLIER), INCREMENT)
+    wrapping_product(state, MULTIPLIER).wrapping_add(INCREMENT)
 }
 
 // What is drawn when a state is new: its upper 16 bits.
+#[tactic(auto, unfolding(crate::specs::Draws::upper))]
 pub fn upper(state: u32) -> u64
     ensures drawn { result ≡ upper state }
     ensures small { result < 2 ^ 16 }
