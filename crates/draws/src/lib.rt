@@ -14,6 +14,7 @@ const WORD_VALUES: u64 = 4294967296;
 const HALF_VALUES: u32 = 65536;
 
 // a x b, wrapping at 32 bits.
+// Kept: a named form of document 01 needs it: a product proved against its remainder, and no `wrapping_mul`.
 #[tactic(auto, using(crate::proofs::Draws::product_fits))]
 pub fn wrapping_product(a: u32, b: u32) -> u32
     ensures { result ≡ (a * b) % 2 ^ 32 }

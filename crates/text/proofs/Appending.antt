@@ -1,14 +1,14 @@
 -- Bytes appended one behind the other.
-use Prim.Native.Nat.{ℕ, ◌+◌, ◌≤◌, ◌<◌}
+use Prim.Native.Nat.{ℕ, ◌+◌, ◌-◌, ◌≤◌}
 use mathlib.Core.Path.{◌≡◌, sym, ap, ◌∙◌}
-use mathlib.Core.List.{List, [], ◌∷◌, ◌++◌}
-use native.Mathlib.Numerals.{add-one}
+use mathlib.Core.List.{List, [], ◌++◌}
 use native.Mathlib.Omega.{arith}
-use lib.ListN.{length, take, drop, set, get_or, length-append}
-use lib.Seq.{length-take-le, take-suc, take_at}
+use lib.ListN.{length, take, drop, length-append}
+use lib.Seq.{take_at, drop-drop}
+use borrow.Rule.Slice.PartMut.{put_mid}
 use Rattle.io.specs.Counts.{IsPrefixLen}
 use Rattle.planformat.specs.Written.{written}
-use Rattle.planformat.proofs.Written.{written_one, written_more, written_none, written_front}
+use Rattle.planformat.proofs.Written.{written_more, written_none, written_front}
 use Rattle.text.specs.Appended.{Appended}
 
 module _ (b : List ℕ) (a : ℕ) where
@@ -27,14 +27,15 @@ module _ (b : List ℕ) (a : ℕ) where
         behind = omega (arith, h.behind, more.behind, length-append u v);
       }
 
-  -- One byte more of a piece, as a loop goes.
-  pub copied_next : (piece now : List ℕ) (i : ℕ) → a + length piece ≤ length b → i < length piece → length now ≡ length b → now ≡ written b a (take i piece) → set now (a + i) (get_or piece i 0) ≡ written b a (take (i + 1) piece)
-  copied_next piece now i room here long so_far =
-      let size = length-take-le i piece (omega arith) in
-      written_one now (a + i) (get_or piece i 0) (omega arith)
-      ∙ ap (λ (x : List ℕ). written x (a + i) (get_or piece i 0 ∷ [])) so_far
-      ∙ written_more b a (take i piece) (omega arith) (a + i) (get_or piece i 0 ∷ []) (omega arith)
-      ∙ ap (written b a) (sym (take-suc piece i 0 here) ∙ ap (λ (n : ℕ). take n piece) (sym (add-one i)))
+  -- A piece copied over a part of the buffer.
+  pub append_copied : (piece part : List ℕ) (next : ℕ) → part ≡ piece → next ≡ a + length piece → Appended b a piece (put_mid a (next - a) b part) next
+  unfolding written
+  append_copied piece part next same behind =
+      let long : next - a ≡ length piece = omega arith in
+      record {
+        bytes = rw (same, long) (ap (λ (rest : List ℕ). take a b ++ (piece ++ rest)) (drop-drop (length piece) a b));
+        behind = behind;
+      }
 
 -- What is appended from the start on stands at the start, and the next place counts its bytes.
 module _ (b u after : List ℕ) (next : ℕ) (h : Appended b 0 u after next) where

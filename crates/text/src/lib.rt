@@ -1,42 +1,78 @@
-// Pieces of a text, each put from place a on, and the line of a refusal. The answer is the place behind it.
+// A text in a buffer, put piece by piece, and the line of a refusal.
 #![tactic(auto)]
 
-ghost use Rattle.std.specs.Prelude.{◌+◌, ◌≤◌, length};
+ghost use Rattle.std.specs.Prelude.{◌≡◌, ◌+◌, ◌≤◌, length, take, replicate};
 ghost use Rattle.text.specs.Appended.{Appended};
 ghost use Rattle.text.specs.Text.{most_digits, longest_refused, decimal, refused_line};
 
 // The most digits of a number of 64 bits.
 pub const MOST_DIGITS: usize = 20;
 
-// Bytes as they are.
-pub fn put_text(text: &mut [u8], a: usize, piece: &[u8]) -> usize
-    requires { a + length piece.now ≤ length text.old }
-    ensures { Appended text.old a piece.now text.new result }
-{
-    let mut i: usize = 0;
-    while i < piece.len() {
-        text[a + i] = piece[i];
-        i += 1;
+// A buffer with a text at its start, and how long the text is.
+#[derive(Drop)]
+pub struct Text<const N: usize> {
+    pub bytes: [u8; N],
+    pub length: usize,
+    pub ghost within: { length ≤ N },
+}
+
+impl<const N: usize> Text<N> {
+    // No text, in a buffer of zeros.
+    pub fn new() -> Self
+        ensures length { result.length ≡ 0 }
+        ensures bytes { result.bytes ≡ replicate N 0 }
+    {
+        Text {
+            bytes: [0; N],
+            length: 0,
+        }
     }
-    a + i
-}
 
-// The decimal digits of n.
-pub fn put_decimal(text: &mut [u8], a: usize, n: u64) -> usize
-    requires { a + most_digits ≤ length text.old }
-    ensures { Appended text.old a (decimal n) text.new result }
-{
-    let mut digits = [0u8; MOST_DIGITS];
-    let count = io::decimal(n, &mut digits);
-    put_text(text, a, &digits[..count])
-}
+    // No text, and the bytes of the buffer as they are.
+    pub fn clear(&mut self)
+        ensures length { self.new.length ≡ 0 }
+        ensures bytes { self.new.bytes ≡ self.old.bytes }
+    {
+        self.length = 0;
+    }
 
-// The line of a refusal, from the start on.
-pub fn put_refused(text: &mut [u8], number: u64) -> usize
-    requires { longest_refused ≤ length text.old }
-    ensures { Appended text.old 0 (refused_line number) text.new result }
-{
-    let number_at = put_text(text, 0, b"refused ");
-    let end = put_decimal(text, number_at, number);
-    put_text(text, end, b"\n")
+    // The text so far.
+    pub fn so_far(&self) -> &[u8]
+        ensures { result.now ≡ take self.now.length self.now.bytes }
+    {
+        &self.bytes[..self.length]
+    }
+
+    // Puts bytes as they are.
+    #[tactic(auto, using(crate::proofs::Appending::append_copied))]
+    pub fn put_text(&mut self, piece: &[u8])
+        requires { self.old.length + length piece.now ≤ N }
+        ensures { Appended self.old.bytes self.old.length piece.now self.new.bytes self.new.length }
+    {
+        let end = self.length + piece.len();
+        let bytes = &mut self.bytes[..];
+        bytes[self.length..end].copy_from_slice(piece);
+        self.length = end;
+    }
+
+    // Puts the decimal digits of n.
+    pub fn put_decimal(&mut self, n: u64)
+        requires { self.old.length + most_digits ≤ N }
+        ensures { Appended self.old.bytes self.old.length (decimal n) self.new.bytes self.new.length }
+    {
+        let mut digits = [0u8; MOST_DIGITS];
+        let count = io::decimal(n, &mut digits);
+        self.put_text(&digits[..count]);
+    }
+
+    // Puts the line of a refusal.
+    #[tactic(auto, using(crate::proofs::Decimal::decimal_short))]
+    pub fn put_refused(&mut self, number: u64)
+        requires { self.old.length + longest_refused ≤ N }
+        ensures { Appended self.old.bytes self.old.length (refused_line number) self.new.bytes self.new.length }
+    {
+        self.put_text(b"refused ");
+        self.put_decimal(number);
+        self.put_text(b"\n");
+    }
 }
