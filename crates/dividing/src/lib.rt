@@ -8,7 +8,7 @@ ghost use Rattle.definitions.specs.Rates.{left_rate, unstated_rate, child_rate};
 ghost use Rattle.dividing.specs.Divisions.{Divided, Divides};
 
 use sums::UnderClass;
-use table::{Table, tree};
+use table::{AccountTable, Table, tree};
 
 // What the rate of a fixed or weighted child is part of: it is `whole` x share / `parts`, rounded down.
 #[derive(Clone, Copy)]
@@ -18,16 +18,15 @@ pub struct Division {
 }
 
 // What the stated rates leave of a class's rate, which they may exceed in a table that is not in order.
+#[tactic(auto, unfolding(definitions::specs::Rates::unstated_rate))]
 fn unstated_rate(rate: u64, stated: u64) -> u64
     ensures { result ≡ unstated_rate rate stated }
 {
-    if rate < stated {
-        return 0;
-    }
-    rate - stated
+    rate.saturating_sub(stated)
 }
 
 // What the fixed shares leave of a rate, rounded down.
+#[tactic(auto, using(sums::proofs::Rated::product_small), unfolding(definitions::specs::Rates::left_rate))]
 fn left_rate(rate: u64, fixed: u64) -> u64
     requires { (rate ≤ greatest_rate) × (fixed ≤ whole_share) }
     ensures { result ≡ left_rate rate fixed }
@@ -37,7 +36,7 @@ fn left_rate(rate: u64, fixed: u64) -> u64
 
 // The division that gives node k, not the root and not stated, its rate, from its class's rate and the sums under its class: a
 // fixed share divides what the stated rates leave of that rate, a weighted one what the fixed shares leave of this.
-pub fn division_of(table: &[i64], k: usize, rate: u64, sums: UnderClass) -> Division
+pub fn division_of(table: &AccountTable, k: usize, rate: u64, sums: UnderClass) -> Division
     requires { Divided table.now k rate sums × (is_stated (tree_of table.now) k ≡ false) }
     ensures { Divides (tree_of table.now) rate k result }
 {
@@ -56,7 +55,8 @@ pub fn division_of(table: &[i64], k: usize, rate: u64, sums: UnderClass) -> Divi
 }
 
 // The rate of node k, not the root, from its class's rate and the sums under its class: a stated one is its share.
-pub fn child_rate(table: &[i64], k: usize, rate: u64, sums: UnderClass) -> u64
+#[tactic(auto, unfolding(definitions::specs::Tree::tree_of))]
+pub fn child_rate(table: &AccountTable, k: usize, rate: u64, sums: UnderClass) -> u64
     requires { Divided table.now k rate sums }
     ensures { result ≡ child_rate (tree_of table.now) rate k }
 {
