@@ -10,22 +10,18 @@ pub const BYTE_VALUES: u64 = 256;
 
 pub const PAIR_VALUES: u64 = 65536;
 
-fn wide(b: u8) -> u64
-    ensures { result ≡ b }
-{
-    b as u64
-}
-
 // The byte at place i.
+#[tactic(auto, unfolding(planformat::specs::Bytes::byte_at))]
 pub fn byte(s: &[u8], i: usize) -> u64
     requires { i < length s.now }
     ensures byte { result ≡ byte_at s.now i }
     ensures small { result < byte_values }
 {
-    wide(s[i])
+    u64::from(s[i])
 }
 
 // The integer of the two bytes, and of the four bytes, from place i on.
+#[tactic(auto, unfolding(planformat::specs::Bytes::le2))]
 pub fn pair(s: &[u8], i: usize) -> u64
     requires { i + 1 < length s.now }
     ensures pair { result ≡ le2 s.now i }
@@ -34,6 +30,7 @@ pub fn pair(s: &[u8], i: usize) -> u64
     byte(s, i) + BYTE_VALUES * byte(s, i + 1)
 }
 
+#[tactic(auto, unfolding(planformat::specs::Bytes::le4))]
 pub fn four(s: &[u8], i: usize) -> u64
     requires { i + 3 < length s.now }
     ensures four { result ≡ le4 s.now i }
@@ -43,6 +40,7 @@ pub fn four(s: &[u8], i: usize) -> u64
 }
 
 // The share of a plan of this edition, from place i on.
+#[tactic(auto, unfolding(planformat::specs::Format::share_length, planformat::specs::Format::share_values, planformat::specs::Format::share_from))]
 pub fn share(s: &[u8], edition: Edition, i: usize) -> u64
     requires { i + share_length edition ≤ length s.now }
     ensures share { result ≡ share_from edition s.now i }

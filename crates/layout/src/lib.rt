@@ -2,7 +2,7 @@
 // and document 02, (f).
 #![tactic(auto)]
 
-pub use planformat::{Edition, Node, Share, Sort};
+pub use planformat::{Edition, Kind, NoEdition, Node, Share, Sort};
 use table::Table;
 
 pub mod bodies;
@@ -13,11 +13,6 @@ pub mod bytes;
 pub struct Format {}
 
 impl Format {
-    // The numbers of the editions.
-    pub const FIRST_EDITION: u64 = 1;
-
-    pub const SECOND_EDITION: u64 = 2;
-
     // The four bytes FF before the head of the second edition, and the integer that they make.
     pub const MARK_BYTE: u64 = 0xFF;
 
@@ -52,22 +47,4 @@ impl Format {
 
     // Places of a body, which begins with its kind.
     pub const BODY_SHARE: usize = 1;
-}
-
-// The kinds of a body.
-#[derive(Clone, Copy)]
-pub struct Kind {}
-
-impl Kind {
-    pub const CLASS_FIXED: u64 = 0;
-
-    pub const CLASS_WEIGHTED: u64 = 1;
-
-    pub const CLIENT_FIXED: u64 = 2;
-
-    pub const CLIENT_WEIGHTED: u64 = 3;
-
-    pub const CLASS_STATED: u64 = 4;
-
-    pub const CLIENT_STATED: u64 = 5;
 }
