@@ -9,6 +9,7 @@ ghost use Rattle.windows.specs.Timed.{Timed};
 ghost use Rattle.cells.specs.Cells.{part_minutes, week_parts, cell_count, cell_at, cell_value, value_in, Filled, Ranged, reaches, clear_in, FilledBy, Marked, MarkedBy};
 
 use table::Table;
+use windows::Window;
 
 // Minutes of a part, parts of the week, and cells of a part.
 pub const PART: usize = 32;
@@ -19,15 +20,13 @@ pub const CELLS: usize = Table::NODES * PART;
 
 // Writes v into the cells from `from` up to, but not including, `to`, and answers whether all of them were 0.
 fn fill(cells: &mut [u64; CELLS], from: usize, to: usize, v: u64) -> bool
-    requires { (length cells.old ≡ cell_count) × (from ≤ to) × (to ≤ cell_count) }
+    requires { (from ≤ to) × (to ≤ cell_count) }
     ensures { Filled cells.old cells.new from to v result }
 {
     let mut clear = true;
-    let mut x = from;
-    while x < to {
+    for x in from..to {
         clear = clear & (cells[x] == 0);
         cells[x] = v;
-        x += 1;
     }
     clear
 }
@@ -36,13 +35,7 @@ fn fill(cells: &mut [u64; CELLS], from: usize, to: usize, v: u64) -> bool
 fn before(minute: u64, first: u64) -> usize
     ensures { result ≡ min (minute - first) part_minutes }
 {
-    if minute <= first {
-        return 0;
-    }
-    if minute - first < PART as u64 {
-        return (minute - first) as usize;
-    }
-    PART
+    minute.saturating_sub(first).min(PART as u64) as usize
 }
 
 // The cell of node k at minute j of the part.
@@ -64,9 +57,10 @@ fn cover_of(windows: &[i64], i: usize, first: u64) -> Cover
     requires { Timed windows.now i }
     ensures { Ranged windows.now i first result.from result.to }
 {
-    let k = windows::number(windows, i, windows::NODE) as usize;
-    let from = before(windows::number(windows, i, windows::START), first);
-    let to = before(windows::number(windows, i, windows::END), first);
+    let window = Window::at(windows, i);
+    let k = window.node();
+    let from = before(window.start(), first);
+    let to = before(window.end(), first);
     Cover {
         from: cell_at(k, from),
         to: cell_at(k, to),
@@ -74,49 +68,40 @@ fn cover_of(windows: &[i64], i: usize, first: u64) -> Cover
 }
 
 // What window i writes into its cells: its share and one more.
+#[tactic(auto, unfolding(crate::specs::Cells::cell_value))]
 fn value_of(windows: &[i64], i: usize) -> u64
     requires { window_length * i + window_share_at < length windows.now }
     ensures { result ≡ cell_value windows.now i }
 {
-    let share = windows::number(windows, i, windows::SHARE);
-    if share <= Table::GREATEST_RATE {
-        return share + 1;
-    }
-    Table::GREATEST_RATE + 1
+    Window::at(windows, i).share().min(Table::GREATEST_RATE) + 1
 }
 
 // Fills the cells of the minutes that window i covers, and answers whether all of them were 0.
 fn fill_window(cells: &mut [u64; CELLS], windows: &[i64], i: usize, first: u64) -> bool
-    requires { (length cells.old ≡ cell_count) × Timed windows.now i }
+    requires { Timed windows.now i }
     ensures { FilledBy windows.now first i cells.old cells.new result }
 {
     let at = cover_of(windows, i, first);
-    let from = at.from;
-    let to = at.to;
-    let v = value_of(windows, i);
-    fill(cells, from, to, v)
+    fill(cells, at.from, at.to, value_of(windows, i))
 }
 
 // Marks a minute, where it is one of the part that begins at `first`.
 fn mark(turns: &mut [bool; PART], minute: u64, first: u64)
-    requires { length turns.old ≡ part_minutes }
     ensures { Marked first minute turns.old turns.new }
 {
-    if minute < first {
-        return;
-    }
-    if minute - first < PART as u64 {
+    if first <= minute && minute - first < PART as u64 {
         turns[(minute - first) as usize] = true;
     }
 }
 
 // Marks the start and the end of window i.
 fn mark_window(turns: &mut [bool; PART], windows: &[i64], i: usize, first: u64)
-    requires { (length turns.old ≡ part_minutes) × (window_length * i + window_share_at < length windows.now) }
+    requires { window_length * i + window_share_at < length windows.now }
     ensures { MarkedBy windows.now first i turns.old turns.new }
 {
-    mark(turns, windows::number(windows, i, windows::START), first);
-    mark(turns, windows::number(windows, i, windows::END), first);
+    let window = Window::at(windows, i);
+    mark(turns, window.start(), first);
+    mark(turns, window.end(), first);
 }
 
 // Whether window i has a minute in the part that begins at `first`, or ends where it begins.
@@ -124,8 +109,9 @@ fn reaches(windows: &[i64], i: usize, first: u64) -> bool
     requires { (window_length * i + window_share_at < length windows.now) × (first ≤ week_parts * part_minutes) }
     ensures { result ≡ reaches windows.now i first }
 {
-    let ends = first <= windows::number(windows, i, windows::END);
-    let starts = windows::number(windows, i, windows::START) < first + PART as u64;
+    let window = Window::at(windows, i);
+    let ends = first <= window.end();
+    let starts = window.start() < first + PART as u64;
     ends & starts
 }
 
@@ -137,7 +123,7 @@ fn add_window(
     i: usize,
     first: u64,
 ) -> bool
-    requires { (length cells.old ≡ cell_count) × (length turns.old ≡ part_minutes) × Timed windows.now i × (first ≤ week_parts * part_minutes) }
+    requires { Timed windows.now i × (first ≤ week_parts * part_minutes) }
     ensures filled { FilledBy windows.now first i cells.old cells.new result }
     ensures marked { MarkedBy windows.now first i turns.old turns.new }
 {
@@ -155,17 +141,14 @@ pub fn add_windows(
     windows: &[i64],
     first: u64,
 ) -> bool
-    requires { (length cells.old ≡ cell_count) × (length turns.old ≡ part_minutes) × ((i : ℕ) → i < window_count windows.now → Timed windows.now i) × (first ≤ week_parts * part_minutes) × ((k j : ℕ) → j < part_minutes → get_or cells.old (cell_at k j) 0 ≡ 0) × ((j : ℕ) → j < part_minutes → get_or turns.old j false ≡ eqb (first + j) 0) }
+    requires { ((i : ℕ) → i < window_count windows.now → Timed windows.now i) × (first ≤ week_parts * part_minutes) × ((k j : ℕ) → j < part_minutes → get_or cells.old (cell_at k j) 0 ≡ 0) × ((j : ℕ) → j < part_minutes → get_or turns.old j false ≡ eqb (first + j) 0) }
     ensures apart { result ≡ all_below (window_count windows.now) (clear_in windows.now first) }
     ensures cells { (k j : ℕ) → j < part_minutes → get_or cells.new (cell_at k j) 0 ≡ value_in windows.now (window_count windows.now) k (first + j) }
     ensures turns { (j : ℕ) → j < part_minutes → get_or turns.new j false ≡ turn windows.now (first + j) }
 {
-    let n = windows.len() / windows::WINDOW;
     let mut clear = true;
-    let mut i: usize = 0;
-    while i < n {
+    for i in 0..windows.len() / windows::WINDOW {
         clear = clear & add_window(cells, turns, windows, i, first);
-        i += 1;
     }
     clear
 }
