@@ -9,9 +9,10 @@ ghost use Rattle.sums.specs.Sums.{ShareSums};
 ghost use Rattle.ratetest.specs.Following.{rate_follows, Testable};
 
 use dividing::Division;
-use table::{Table, tree};
+use table::{AccountTable, Table, tree};
 
 // Whether a rate is that of a child with this share, by the division: its quotient rounded down.
+#[tactic(auto, using(sums::proofs::Rated::product_small, crate::proofs::Following::quotient_by_product))]
 fn is_part(rate: u64, share: u64, by: Division) -> bool
     requires { (rate ≤ greatest_rate) × (share ≤ greatest_rate) × (by.whole ≤ greatest_rate) × (0 < by.parts) × (by.parts ≤ nodes * whole_share) }
     ensures { result ≡ eqb rate (by.whole * share / by.parts) }
@@ -22,7 +23,7 @@ fn is_part(rate: u64, share: u64, by: Division) -> bool
 }
 
 // Whether the rate of node k, where it is there, is the one that its class's rate, as it stands, gives it.
-fn rate_follows(table: &[i64], shares: &[u64; Table::SHARE_SUMS], k: usize) -> bool
+fn rate_follows(table: &AccountTable, shares: &[u64; Table::SHARE_SUMS], k: usize) -> bool
     requires { Testable table.now × ShareSums (tree_of table.now) nodes shares.now × (0 < k) × (k < nodes) }
     ensures { result ≡ test_if (there (tree_of table.now) k) (rate_follows table.now) k }
 {
@@ -41,15 +42,13 @@ fn rate_follows(table: &[i64], shares: &[u64; Table::SHARE_SUMS], k: usize) -> b
 }
 
 // Whether every rate is that of document 01, "Rates", as document 02, (f), has it, by the sums.
-pub fn rates_in_order(table: &[i64], shares: &[u64; Table::SHARE_SUMS]) -> bool
+pub fn rates_in_order(table: &AccountTable, shares: &[u64; Table::SHARE_SUMS]) -> bool
     requires { Testable table.now × ShareSums (tree_of table.now) nodes shares.now }
     ensures { result ≡ each_node (tree_of table.now) (rate_in_order table.now) }
 {
     let mut ok = true;
-    let mut k: usize = 1;
-    while k < Table::NODES {
+    for k in 1..Table::NODES {
         ok = ok & rate_follows(table, shares, k);
-        k += 1;
     }
     ok
 }

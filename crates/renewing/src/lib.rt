@@ -1,27 +1,28 @@
 // The renewal of the rates below a class. Document 02, (e).
 #![tactic(auto)]
 
-ghost use Rattle.std.specs.Prelude.{◌≡◌, ◌+◌, ◌*◌, ◌<◌, length};
-ghost use Rattle.definitions.specs.Limits.{table_length, nodes};
+ghost use Rattle.std.specs.Prelude.{◌≡◌, ◌+◌, ◌*◌, ◌<◌};
+ghost use Rattle.definitions.specs.Limits.{nodes};
 ghost use Rattle.definitions.specs.Tree.{tree_of};
 ghost use Rattle.definitions.specs.Renewal.{renewed_below};
 ghost use Rattle.sums.specs.Rated.{Rated};
 ghost use Rattle.renewing.specs.Renewal.{at_level, Descent, Onward};
 ghost use Rattle.sums.specs.Sums.{ShareSums};
 
-use table::{Table, tree};
+use table::{AccountTable, Table, tree};
 
 // Whether node k is there at a level.
-fn at_level(table: &[i64], k: usize, level: u64) -> bool
-    requires { (length table.now ≡ table_length) × (k < nodes) }
+fn at_level(table: &AccountTable, k: usize, level: u64) -> bool
+    requires { k < nodes }
     ensures { result ≡ at_level (tree_of table.now) level k }
 {
     tree::there(table, k) & (Table::natural(table, k, Table::LEVEL) == level)
 }
 
 // Gives node k its rate and marks it, where it stands at this level below class c: its parent is c or is marked.
+// Kept: the new form is no plainer: of a struct of sums, marks and class every contract would have to say that two of them stay.
 fn renew_node(
-    table: &mut [i64],
+    table: &mut AccountTable,
     shares: &[u64; Table::SHARE_SUMS],
     below: &mut [bool; Table::NODES],
     c: usize,
@@ -35,7 +36,8 @@ fn renew_node(
         return;
     }
     let parent = Table::natural(table, k, Table::PARENT) as usize;
-    if !((parent == c) | below[parent]) {
+    let is_below = (parent == c) | below[parent];
+    if !is_below {
         return;
     }
     let rate = Table::natural(table, parent, Table::RATE);
@@ -46,7 +48,7 @@ fn renew_node(
 
 // Renews the nodes at one level below class c, where those above have their rates.
 fn renew_level(
-    table: &mut [i64],
+    table: &mut AccountTable,
     shares: &[u64; Table::SHARE_SUMS],
     below: &mut [bool; Table::NODES],
     c: usize,
@@ -55,24 +57,21 @@ fn renew_level(
     requires { Descent table.old c (level * nodes) below.old × ShareSums (tree_of table.old) nodes shares.now × (0 < level) }
     ensures { Onward table.old table.new c (level * nodes + nodes) below.new }
 {
-    let mut k: usize = 0;
-    while k < Table::NODES {
+    for k in 0..Table::NODES {
         renew_node(table, shares, below, c, level, k);
-        k += 1;
     }
 }
 
 // Renews the rates below class c from the class's own, level by level. Every other rate may be right or wrong, and stays.
-pub fn renew_below(table: &mut [i64], c: usize)
+pub fn renew_below(table: &mut AccountTable, c: usize)
     requires { Rated table.old c }
     ensures { table.new ≡ renewed_below table.old c }
 {
-    let mut shares: [u64; Table::SHARE_SUMS] = [0; Table::SHARE_SUMS];
+    let mut shares = [0; Table::SHARE_SUMS];
     sums::share_sums(table, &mut shares);
-    let mut below: [bool; Table::NODES] = [false; Table::NODES];
-    let mut level = Table::natural(table, c, Table::LEVEL) + 1;
-    while level <= Table::LAST_LEVEL {
+    let mut below = [false; Table::NODES];
+    let first = Table::natural(table, c, Table::LEVEL) + 1;
+    for level in first..Table::LAST_LEVEL + 1 {
         renew_level(table, &shares, &mut below, c, level);
-        level += 1;
     }
 }
