@@ -5,32 +5,14 @@ ghost use Rattle.std.specs.Prelude.{◌≡◌, ◌+◌, ◌*◌, ◌≤◌, ◌<
 ghost use Rattle.numbers.specs.Below.{all_below};
 ghost use Rattle.planformat.specs.Bytes.{byte_values, four_values, byte_at};
 ghost use Rattle.planformat.specs.Nodes.{share_in, held_by, entry_by};
-ghost use Rattle.planformat.specs.Format.{second_edition, edition_number, edition_of, mark_byte, mark_length, head_length, long_share, depth_length, body_share_at, last_count, last_kind, start_of, share_length, body_length, entry_at, body_at, plan_length, share_values, edition_in, count_in, entry_in, entry_formed, formed};
+ghost use Rattle.planformat.specs.Format.{mark_byte, mark_length, head_length, long_share, depth_length, body_share_at, last_count, last_kind, start_of, share_length, body_length, entry_at, body_at, plan_length, share_values, edition_in, count_in, entry_in, entry_formed, formed};
+ghost use Rattle.planformat.specs.Numbers.{kind_number};
 ghost use Rattle.planformat.specs.Framed.{Framed};
 
-use layout::{Edition, Format, Kind, Node, bodies, bytes};
-
-// The number of an edition, and the edition of a number.
-pub fn edition_number(edition: Edition) -> u64
-    ensures number { result ≡ edition_number edition }
-    ensures small { result ≤ second_edition }
-{
-    match edition {
-        Edition::First => Format::FIRST_EDITION,
-        Edition::Second => Format::SECOND_EDITION,
-    }
-}
-
-pub fn edition_of(number: u64) -> Edition
-    ensures { result ≡ edition_of number }
-{
-    if number == Format::FIRST_EDITION {
-        return Edition::First;
-    }
-    Edition::Second
-}
+use layout::{Edition, Format, Kind, bytes};
 
 // Where the head begins.
+#[tactic(auto, unfolding(planformat::specs::Format::start_of))]
 pub fn start_of(edition: Edition) -> usize
     ensures start { result ≡ start_of edition }
     ensures small { result ≤ mark_length }
@@ -42,6 +24,7 @@ pub fn start_of(edition: Edition) -> usize
 }
 
 // Bytes of a share.
+#[tactic(auto, unfolding(planformat::specs::Format::share_length))]
 pub fn share_length(edition: Edition) -> usize
     ensures length { result ≡ share_length edition }
     ensures small { result ≤ long_share }
@@ -61,12 +44,13 @@ fn body_length(edition: Edition) -> usize
 }
 
 // The greatest kind.
-fn last_kind(edition: Edition) -> u64
-    ensures { result ≡ last_kind edition }
+#[tactic(auto, unfolding(planformat::specs::Format::last_kind))]
+fn last_kind(edition: Edition) -> Kind
+    ensures { kind_number result ≡ last_kind edition }
 {
     match edition {
-        Edition::First => Kind::CLIENT_WEIGHTED,
-        Edition::Second => Kind::CLIENT_STATED,
+        Edition::First => Kind::ClientWeighted,
+        Edition::Second => Kind::ClientStated,
     }
 }
 
@@ -94,6 +78,7 @@ pub fn plan_length(edition: Edition, n: usize) -> usize
 }
 
 // Whether bytes begin with four bytes FF.
+#[tactic(auto, using(numbers::proofs::All::all_loop))]
 fn marked(s: &[u8]) -> bool
     ensures { result ≡ all_below mark_length (λ i. eqb (byte_at s.now i) mark_byte) }
 {
@@ -101,22 +86,22 @@ fn marked(s: &[u8]) -> bool
         return false;
     }
     let mut all = true;
-    let mut i: usize = 0;
-    while i < Format::MARK_LENGTH {
+    for i in 0..Format::MARK_LENGTH {
         all = all & (bytes::byte(s, i) == Format::MARK_BYTE);
-        i += 1;
     }
     all
 }
 
 // The edition of plan bytes.
+#[tactic(auto, unfolding(planformat::specs::Format::edition_in))]
 pub fn edition_in(s: &[u8]) -> Edition
     ensures { result ≡ edition_in s.now }
 {
     if marked(s) {
-        return Edition::Second;
+        Edition::Second
+    } else {
+        Edition::First
     }
-    Edition::First
 }
 
 // The count that stands in the bytes.
@@ -134,20 +119,19 @@ fn entry_formed(s: &[u8], edition: Edition, n: usize, i: usize) -> bool
 {
     let body = body_at(edition, n, i);
     let offset = bytes::pair(s, entry_at(edition, i) + Format::ENTRY_OFFSET);
-    let kind_right = bytes::byte(s, body) <= last_kind(edition);
+    let kind_right = bytes::byte(s, body) <= u64::from(last_kind(edition));
     (offset == body as u64) & kind_right
 }
 
 // Whether all offsets and kinds are right.
+#[tactic(auto, using(numbers::proofs::All::all_loop))]
 fn entries_formed(s: &[u8], edition: Edition, n: usize) -> bool
     requires { Framed s.now edition n }
     ensures { result ≡ all_below n (entry_formed s.now) }
 {
     let mut ok = true;
-    let mut i: usize = 0;
-    while i < n {
+    for i in 0..n {
         ok = ok & entry_formed(s, edition, n, i);
-        i += 1;
     }
     ok
 }
@@ -168,27 +152,4 @@ pub fn formed(s: &[u8]) -> bool
         return false;
     }
     entries_formed(s, edition, n)
-}
-
-// The node of entry i and its body.
-pub fn node_at(s: &[u8], edition: Edition, n: usize, i: usize) -> Node
-    requires { Framed s.now edition n × (i < n) × ((entry_in s.now i).kind ≤ last_kind edition) }
-    ensures entry { entry_by result ≡ entry_in s.now i }
-    ensures small { (result.number < byte_values) × (result.parent < byte_values) × (share_in (held_by result.sort) < share_values edition) × (result.depth < four_values) }
-{
-    let at = entry_at(edition, i);
-    let body = body_at(edition, n, i);
-    let number = bytes::byte(s, at);
-    let parent = bytes::byte(s, at + Format::ENTRY_PARENT);
-    let kind = bytes::byte(s, body);
-    let at_share = body + Format::BODY_SHARE;
-    let share = bytes::share(s, edition, at_share);
-    let depth = bytes::four(s, at_share + share_length(edition));
-    let sort = bodies::sort_of(kind, share);
-    Node {
-        number,
-        parent,
-        sort,
-        depth,
-    }
 }
