@@ -7,7 +7,7 @@ ghost use Rattle.definitions.specs.Tree.{tree_of, is_class, test_if};
 ghost use Rattle.definitions.specs.Order.{parent_in_order};
 ghost use Rattle.records.specs.Record.{class_placed, balance_within, node_in_order, record_in_order, records_in_order};
 
-use table::{Table, tree};
+use table::{AccountTable, Table, tree};
 
 // Whether n is the next number after m.
 fn follows(n: u64, m: u64) -> bool
@@ -20,8 +20,9 @@ fn follows(n: u64, m: u64) -> bool
 }
 
 // Whether the parent of node k is a class one level above it.
-fn parent_in_order(table: &[i64], k: usize) -> bool
-    requires { (length table.now ≡ table_length) × (k < nodes) × ((tree_of table.now).parent k < nodes) }
+#[tactic(auto, unfolding(definitions::specs::Tree::tree_of))]
+fn parent_in_order(table: &AccountTable, k: usize) -> bool
+    requires { (k < nodes) × ((tree_of table.now).parent k < nodes) }
     ensures { result ≡ parent_in_order (tree_of table.now) k }
 {
     let parent = Table::natural(table, k, Table::PARENT) as usize;
@@ -34,8 +35,8 @@ fn parent_in_order(table: &[i64], k: usize) -> bool
 }
 
 // Whether node k, where it is a class, has level 0 to 3 and nothing waiting.
-fn class_placed(table: &[i64], k: usize) -> bool
-    requires { (length table.now ≡ table_length) × (k < nodes) }
+fn class_placed(table: &AccountTable, k: usize) -> bool
+    requires { k < nodes }
     ensures { result ≡ test_if (is_class (tree_of table.now) k) (class_placed table.now) k }
 {
     let class = tree::is_class(table, k);
@@ -45,8 +46,9 @@ fn class_placed(table: &[i64], k: usize) -> bool
 }
 
 // Whether the balance of node k keeps its own limits.
-fn balance_within(table: &[i64], k: usize) -> bool
-    requires { (length table.now ≡ table_length) × (k < nodes) × ((tree_of table.now).depth k ≤ greatest_depth) }
+#[tactic(auto, unfolding(definitions::specs::Tree::tree_of, definitions::specs::Places::depth_grains))]
+fn balance_within(table: &AccountTable, k: usize) -> bool
+    requires { (k < nodes) × ((tree_of table.now).depth k ≤ greatest_depth) }
     ensures { result ≡ balance_within table.now k }
 {
     let grains = Table::depth_grains(table, k);
@@ -58,8 +60,8 @@ fn balance_within(table: &[i64], k: usize) -> bool
 }
 
 // Whether node k, which is there, is in order as far as its record and its parent's tell.
-fn node_in_order(table: &[i64], k: usize) -> bool
-    requires { (length table.now ≡ table_length) × (k < nodes) }
+fn node_in_order(table: &AccountTable, k: usize) -> bool
+    requires { k < nodes }
     ensures { result ≡ node_in_order table.now k }
 {
     if !places::limits_kept(table, k) {
@@ -74,8 +76,8 @@ fn node_in_order(table: &[i64], k: usize) -> bool
 }
 
 // Whether record k is in order, used or not.
-fn record_in_order(table: &[i64], k: usize) -> bool
-    requires { (length table.now ≡ table_length) × (k < nodes) }
+fn record_in_order(table: &AccountTable, k: usize) -> bool
+    requires { k < nodes }
     ensures { result ≡ record_in_order table.now k }
 {
     if !tree::there(table, k) {
@@ -85,15 +87,13 @@ fn record_in_order(table: &[i64], k: usize) -> bool
 }
 
 // Whether every record is in order.
-pub fn records_in_order(table: &[i64]) -> bool
-    requires { length table.now ≡ table_length }
+#[tactic(auto, using(numbers::proofs::All::all_loop), unfolding(crate::specs::Record::records_in_order))]
+pub fn records_in_order(table: &AccountTable) -> bool
     ensures { result ≡ records_in_order table.now }
 {
     let mut ok = true;
-    let mut k: usize = 0;
-    while k < Table::NODES {
+    for k in 0..Table::NODES {
         ok = ok & record_in_order(table, k);
-        k += 1;
     }
     ok
 }
