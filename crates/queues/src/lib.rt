@@ -10,14 +10,14 @@ ghost use Rattle.definitions.specs.Order.{request_in_order, queue_in_order, diff
 ghost use Rattle.queues.specs.Waiting.{waiting_in_order};
 ghost use Rattle.queues.specs.Marks.{marks, mark_of, MarkedBelow};
 
-use table::{Table, queue};
+use table::{AccountTable, Table, queue};
 
 // How many marks there are: a prime, so that numbers in equal steps have different marks, unless the step is a multiple of it.
 const MARKS: usize = 4093;
 
 // Whether request i of node k arrived after the one before it.
-fn rising(table: &[i64], k: usize, i: usize) -> bool
-    requires { (length table.now ≡ table_length) × (k < nodes) × (i < most_waiting) }
+fn rising(table: &AccountTable, k: usize, i: usize) -> bool
+    requires { (k < nodes) × (i < most_waiting) }
     ensures { result ≡ (eqb i 0 || ltb (arrival table.now k (i - 1)) (arrival table.now k i)) }
 {
     if i == 0 {
@@ -27,8 +27,9 @@ fn rising(table: &[i64], k: usize, i: usize) -> bool
 }
 
 // Whether request i of node k is in order.
-fn request_in_order(table: &[i64], k: usize, i: usize) -> bool
-    requires { (length table.now ≡ table_length) × (k < nodes) × (i < most_waiting) × ((tree_of table.now).depth k ≤ greatest_depth) }
+#[tactic(auto, unfolding(definitions::specs::Tree::tree_of))]
+fn request_in_order(table: &AccountTable, k: usize, i: usize) -> bool
+    requires { (k < nodes) × (i < most_waiting) × ((tree_of table.now).depth k ≤ greatest_depth) }
     ensures { result ≡ request_in_order table.now k i }
 {
     let place = Table::QUEUE + Table::REQUEST * i;
@@ -41,21 +42,20 @@ fn request_in_order(table: &[i64], k: usize, i: usize) -> bool
 }
 
 // Whether every request of node k is in order.
-fn queue_in_order(table: &[i64], k: usize) -> bool
-    requires { (length table.now ≡ table_length) × (k < nodes) × (waiting table.now k ≤ most_waiting) × ((tree_of table.now).depth k ≤ greatest_depth) }
+#[tactic(auto, using(numbers::proofs::All::all_loop), unfolding(definitions::specs::Order::queue_in_order))]
+fn queue_in_order(table: &AccountTable, k: usize) -> bool
+    requires { (k < nodes) × (waiting table.now k ≤ most_waiting) × ((tree_of table.now).depth k ≤ greatest_depth) }
     ensures { result ≡ queue_in_order table.now k }
 {
-    let n = queue::waiting(table, k);
     let mut ok = true;
-    let mut i: usize = 0;
-    while i < n {
+    for i in 0..queue::waiting(table, k) {
         ok = ok & request_in_order(table, k, i);
-        i += 1;
     }
     ok
 }
 
 // The mark of arrival number a.
+#[tactic(auto, unfolding(crate::specs::Marks::mark_of))]
 fn mark_of(a: u64) -> usize
     ensures { (result ≡ mark_of a) × (result < marks) }
 {
@@ -63,22 +63,21 @@ fn mark_of(a: u64) -> usize
 }
 
 // Whether it differs from those of every node below k.
-fn differs_below(table: &[i64], a: u64, k: usize) -> bool
-    requires { (length table.now ≡ table_length) × (k ≤ nodes) × ((j : ℕ) → j < nodes → waiting table.now j ≤ most_waiting) }
+#[tactic(auto, using(numbers::proofs::All::all_loop))]
+fn differs_below(table: &AccountTable, a: u64, k: usize) -> bool
+    requires { (k ≤ nodes) × ((j : ℕ) → j < nodes → waiting table.now j ≤ most_waiting) }
     ensures { result ≡ all_below k (differs_at table.now a) }
 {
     let mut ok = true;
-    let mut j: usize = 0;
-    while j < k {
+    for j in 0..k {
         ok = ok & queue::differs_at(table, a, j);
-        j += 1;
     }
     ok
 }
 
 // The same where the marks of every node below k are set: a number whose mark is not set need not be compared.
-fn differs_marked(table: &[i64], marked: &[bool; MARKS], a: u64, k: usize) -> bool
-    requires { (length table.now ≡ table_length) × (k ≤ nodes) × ((j : ℕ) → j < nodes → waiting table.now j ≤ most_waiting) × MarkedBelow table.now marked.now k }
+fn differs_marked(table: &AccountTable, marked: &[bool; MARKS], a: u64, k: usize) -> bool
+    requires { (k ≤ nodes) × ((j : ℕ) → j < nodes → waiting table.now j ≤ most_waiting) × MarkedBelow table.now marked.now k }
     ensures { result ≡ all_below k (differs_at table.now a) }
 {
     if !marked[mark_of(a)] {
@@ -88,36 +87,33 @@ fn differs_marked(table: &[i64], marked: &[bool; MARKS], a: u64, k: usize) -> bo
 }
 
 // Whether the arrival numbers of node k differ from those of every lower node. Sets the marks of node k.
-fn arrivals_differ(table: &[i64], marked: &mut [bool; MARKS], k: usize) -> bool
-    requires { (length table.now ≡ table_length) × (k < nodes) × ((j : ℕ) → j < nodes → waiting table.now j ≤ most_waiting) × MarkedBelow table.now marked.old k }
+#[tactic(auto, using(numbers::proofs::All::all_loop), unfolding(definitions::specs::Order::arrivals_differ))]
+fn arrivals_differ(table: &AccountTable, marked: &mut [bool; MARKS], k: usize) -> bool
+    requires { (k < nodes) × ((j : ℕ) → j < nodes → waiting table.now j ≤ most_waiting) × MarkedBelow table.now marked.old k }
     ensures differ { result ≡ arrivals_differ table.now k }
     ensures marked { MarkedBelow table.now marked.new (k + 1) }
 {
-    let n = queue::waiting(table, k);
     let mut ok = true;
-    let mut i: usize = 0;
-    while i < n {
+    for i in 0..queue::waiting(table, k) {
         let a = queue::arrival(table, k, i);
         ok = ok & differs_marked(table, marked, a, k);
         marked[mark_of(a)] = true;
-        i += 1;
     }
     ok
 }
 
 // Whether every waiting request is in order.
-pub fn queues_in_order(table: &[i64]) -> bool
-    requires { (length table.now ≡ table_length) × ((j : ℕ) → j < nodes → waiting table.now j ≤ most_waiting) × ((j : ℕ) → j < nodes → (tree_of table.now).depth j ≤ greatest_depth) }
+#[tactic(auto, using(numbers::proofs::All::all_loop))]
+pub fn queues_in_order(table: &AccountTable) -> bool
+    requires { ((j : ℕ) → j < nodes → waiting table.now j ≤ most_waiting) × ((j : ℕ) → j < nodes → (tree_of table.now).depth j ≤ greatest_depth) }
     ensures { result ≡ all_below nodes (waiting_in_order table.now) }
 {
-    let mut marked: [bool; MARKS] = [false; MARKS];
+    let mut marked = [false; MARKS];
     let mut ok = true;
-    let mut k: usize = 0;
-    while k < Table::NODES {
+    for k in 0..Table::NODES {
         let queue = queue_in_order(table, k);
         let differ = arrivals_differ(table, &mut marked, k);
         ok = ok & queue & differ;
-        k += 1;
     }
     ok
 }
