@@ -11,7 +11,7 @@ ghost use Rattle.planlaws.specs.Writing.{write_answer, write_buffer};
 ghost use Rattle.hourlaws.specs.SetMinute.{set_minute_answer, set_minute_table};
 ghost use Rattle.cabinet.specs.Exported.{exported, exported_bare, shown};
 
-use answers::{Answer, Compared, Refusal, Seen, Ticked};
+use answers::Refusal;
 use table::Table;
 
 // The negated number of a refusal.
@@ -22,23 +22,23 @@ fn negated(why: Refusal) -> i64
 }
 
 // The number of an answer.
-fn answer_number(answer: Answer) -> i64
+fn answer_number(answer: Result<i64, Refusal>) -> i64
     ensures { result ≡ exported (told answer) }
 {
     match answer {
-        Answer::Accepted(value) => value,
-        Answer::Refused(why) => negated(why),
+        Ok(value) => value,
+        Err(why) => negated(why),
     }
 }
 
 // The number of what same answers.
-fn compared_number(compared: Compared) -> i64
+fn compared_number(compared: Result<bool, Refusal>) -> i64
     ensures { result ≡ exported (told_compared compared) }
 {
     match compared {
-        Compared::Same => 1,
-        Compared::Different => 0,
-        Compared::Refused(why) => negated(why),
+        Ok(true) => 1,
+        Ok(false) => 0,
+        Err(why) => negated(why),
     }
 }
 
@@ -112,16 +112,12 @@ pub fn hds_tick(
     ensures second { second.new ≡ tick_second table.old first.old second.old }
     ensures counts { counts.new ≡ shown (tick_answer table.old first.old second.old) counts.old }
 {
-    let made = ticking::tick(table, first, second);
-    match made {
-        Ticked::Dispatched {
-            first: to_first,
-            second: to_second,
-        } => {
-            *counts = [to_first, to_second];
+    match ticking::tick(table, first, second) {
+        Ok(made) => {
+            *counts = [made.first, made.second];
             0
         }
-        Ticked::Refused(why) => negated(why),
+        Err(why) => negated(why),
     }
 }
 
@@ -130,18 +126,12 @@ pub fn hds_look(table: &[i64], node: i64, seen: &mut [i64; Table::SEEN]) -> i64
     ensures answer { result ≡ exported_bare (look_answer table.now node) }
     ensures seen { seen.new ≡ shown (look_answer table.now node) seen.old }
 {
-    let found = looking::look(table, node);
-    match found {
-        Seen::Node {
-            rate,
-            balance,
-            waiting,
-            lost,
-        } => {
-            *seen = [rate, balance, waiting, lost];
+    match looking::look(table, node) {
+        Ok(found) => {
+            *seen = [found.rate, found.balance, found.waiting, found.lost];
             0
         }
-        Seen::Refused(why) => negated(why),
+        Err(why) => negated(why),
     }
 }
 
