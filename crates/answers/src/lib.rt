@@ -109,8 +109,8 @@ pub fn number_of(why: Refusal) -> u64
 impl From<Refusal> for u64 {
     ghost from_gives = { λ why n. n ≡ number_of why };
 
-    fn from(why: Refusal) -> u64 {
-        number_of(why)
+    fn from(refusal: Refusal) -> u64 {
+        number_of(refusal)
     }
 }
 
