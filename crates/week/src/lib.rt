@@ -1,9 +1,9 @@
 // The shares of a timetable at every minute of the week. Document 02, (h).
 #![tactic(auto)]
 
-ghost use Rattle.std.specs.Prelude.{◌≡◌, ℕ, ◌+◌, ◌*◌, ◌≤◌, ◌<◌, length, get_or, leb};
+ghost use Rattle.std.specs.Prelude.{◌≡◌, ℕ, ◌+◌, ◌*◌, ◌≤◌, ◌<◌, get_or, leb};
 ghost use Rattle.numbers.specs.Below.{all_below};
-ghost use Rattle.definitions.specs.Limits.{table_length, nodes, kinds};
+ghost use Rattle.definitions.specs.Limits.{nodes, kinds};
 ghost use Rattle.definitions.specs.Tree.{tree_of};
 ghost use Rattle.hourlaws.specs.Windows.{window_count};
 ghost use Rattle.sums.specs.Sums.{sum_at, ShareSums};
@@ -11,7 +11,7 @@ ghost use Rattle.windows.specs.Timed.{Timed};
 ghost use Rattle.cells.specs.Cells.{part_minutes, week_parts};
 ghost use Rattle.week.specs.Week.{cell_share, cell_tree, Shared, Small, MinuteJudged, TurnJudged, TurnsJudged, PartJudged, WeekJudged};
 
-use table::Table;
+use table::{AccountTable, Table};
 
 // What the week shows: whether no two windows of a node overlap, whether the fixed shares are at most 10,000 under each class at
 // every minute, and whether the stated rates are at most the disk's.
@@ -30,8 +30,8 @@ struct Within {
 }
 
 // The share of node k at minute j of the part. The plan's is read before the cell is tested, so that the compiler can select.
-fn share_at(plan: &[i64], part: &[u64; cells::CELLS], j: usize, k: usize) -> u64
-    requires { (length plan.now ≡ table_length) × (j < part_minutes) × (k < nodes) }
+fn share_at(plan: &AccountTable, part: &[u64; cells::CELLS], j: usize, k: usize) -> u64
+    requires { (j < part_minutes) × (k < nodes) }
     ensures { result ≡ cell_share (tree_of plan.now) part.now j k }
 {
     let share = Table::natural(plan, k, Table::SHARE);
@@ -43,8 +43,9 @@ fn share_at(plan: &[i64], part: &[u64; cells::CELLS], j: usize, k: usize) -> u64
 }
 
 // Adds the share of node k at minute j of the part, where it is there, to the sum of its kind under its class.
+// Kept: the new form is no plainer: one function of this and sums::add_share would have to be told the tree that has the shares.
 fn add_node(
-    plan: &[i64],
+    plan: &AccountTable,
     part: &[u64; cells::CELLS],
     j: usize,
     sums: &mut [u64; Table::SHARE_SUMS],
@@ -59,12 +60,12 @@ fn add_node(
     let c = Table::natural(plan, k, Table::PARENT) as usize;
     let kind = Table::natural(plan, k, Table::KIND) as usize;
     let at = sums::sum_at(c, kind);
-    sums[at] = sums[at] + share_at(plan, part, j, k);
+    sums[at] += share_at(plan, part, j, k);
 }
 
 // The sums of each kind under all classes.
 fn add_nodes(
-    plan: &[i64],
+    plan: &AccountTable,
     part: &[u64; cells::CELLS],
     j: usize,
     sums: &mut [u64; Table::SHARE_SUMS],
@@ -72,33 +73,30 @@ fn add_nodes(
     requires { Shared plan.now × Small part.now × (j < part_minutes) × ShareSums (cell_tree (tree_of plan.now) part.now j) 1 sums.old }
     ensures { ShareSums (cell_tree (tree_of plan.now) part.now j) nodes sums.new }
 {
-    let mut k: usize = 1;
-    while k < Table::NODES {
+    for k in 1..Table::NODES {
         add_node(plan, part, j, sums, k);
-        k += 1;
     }
 }
 
 // Whether no sum of one kind is above a limit.
+#[tactic(auto, using(numbers::proofs::All::all_loop))]
 fn sums_within(sums: &[u64; Table::SHARE_SUMS], kind: usize, limit: u64) -> bool
     requires { kind < kinds }
     ensures { result ≡ all_below nodes (λ c. leb (get_or sums.now (sum_at c kind) 0) limit) }
 {
     let mut ok = true;
-    let mut c: usize = 0;
-    while c < Table::NODES {
+    for c in 0..Table::NODES {
         ok = ok & (sums[sums::sum_at(c, kind)] <= limit);
-        c += 1;
     }
     ok
 }
 
 // Whether at minute j of the part the fixed shares and the stated rates are within their limits under each class.
-fn judge_minute(plan: &[i64], part: &[u64; cells::CELLS], disk: u64, j: usize) -> Within
+fn judge_minute(plan: &AccountTable, part: &[u64; cells::CELLS], disk: u64, j: usize) -> Within
     requires { Shared plan.now × Small part.now × (j < part_minutes) }
     ensures { MinuteJudged (cell_tree (tree_of plan.now) part.now j) disk result.fixed result.stated }
 {
-    let mut sums: [u64; Table::SHARE_SUMS] = [0; Table::SHARE_SUMS];
+    let mut sums = [0; Table::SHARE_SUMS];
     add_nodes(plan, part, j, &mut sums);
     let fixed = sums_within(&sums, Table::FIXED as usize, Table::WHOLE_SHARE);
     let stated = sums_within(&sums, Table::STATED as usize, disk);
@@ -107,7 +105,7 @@ fn judge_minute(plan: &[i64], part: &[u64; cells::CELLS], disk: u64, j: usize) -
 
 // The same, where the minute is marked.
 fn judge_turn(
-    plan: &[i64],
+    plan: &AccountTable,
     part: &[u64; cells::CELLS],
     turns: &[bool; cells::PART],
     disk: u64,
@@ -127,7 +125,7 @@ fn judge_turn(
 
 // The same at each minute of the part that is marked.
 fn judge_turns(
-    plan: &[i64],
+    plan: &AccountTable,
     part: &[u64; cells::CELLS],
     turns: &[bool; cells::PART],
     disk: u64,
@@ -137,23 +135,21 @@ fn judge_turns(
 {
     let mut fixed = true;
     let mut stated = true;
-    let mut j: usize = 0;
-    while j < cells::PART {
+    for j in 0..cells::PART {
         let minute = judge_turn(plan, part, turns, disk, j);
         fixed = fixed & minute.fixed;
         stated = stated & minute.stated;
-        j += 1;
     }
     Within { fixed, stated }
 }
 
 // What the part of the week that begins at `first` shows.
-fn judge_part(plan: &[i64], windows: &[i64], first: u64) -> Week
+fn judge_part(plan: &AccountTable, windows: &[i64], first: u64) -> Week
     requires { Shared plan.now × ((i : ℕ) → i < window_count windows.now → Timed windows.now i) × (first ≤ week_parts * part_minutes) }
     ensures { PartJudged plan.now windows.now first result.apart result.fixed result.stated }
 {
-    let mut part: [u64; cells::CELLS] = [0; cells::CELLS];
-    let mut turns: [bool; cells::PART] = [false; cells::PART];
+    let mut part = [0; cells::CELLS];
+    let mut turns = [false; cells::PART];
     turns[0] = first == 0;
     let apart = cells::add_windows(&mut part, &mut turns, windows, first);
     let within = judge_turns(plan, &part, &turns, Table::natural(plan, 0, Table::RATE));
@@ -165,20 +161,18 @@ fn judge_part(plan: &[i64], windows: &[i64], first: u64) -> Week
 }
 
 // What the week shows.
-pub fn judge(plan: &[i64], windows: &[i64]) -> Week
+pub fn judge(plan: &AccountTable, windows: &[i64]) -> Week
     requires { Shared plan.now × ((i : ℕ) → i < window_count windows.now → Timed windows.now i) }
     ensures { WeekJudged plan.now windows.now result.apart result.fixed result.stated }
 {
     let mut apart = true;
     let mut fixed = true;
     let mut stated = true;
-    let mut n: usize = 0;
-    while n < cells::PARTS {
+    for n in 0..cells::PARTS {
         let part = judge_part(plan, windows, (n * cells::PART) as u64);
         apart = apart & part.apart;
         fixed = fixed & part.fixed;
         stated = stated & part.stated;
-        n += 1;
     }
     Week {
         apart,
