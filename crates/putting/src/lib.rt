@@ -4,24 +4,18 @@
 ghost use Rattle.std.specs.Prelude.{◌≡◌, [], ◌∷◌, ◌++◌, ◌+◌, ◌≤◌, ◌<◌, length};
 ghost use Rattle.planformat.specs.Bytes.{byte_values, bytes2, bytes4};
 ghost use Rattle.planformat.specs.Format.{head_length, entry_length, body_length, share_length, start_of, mark_bytes, share_bytes};
+ghost use Rattle.planformat.specs.Numbers.{kind_number};
 ghost use Rattle.planformat.specs.Written.{written};
 
-use layout::{Edition, Format, bytes};
-
-fn narrow(n: u64) -> u8
-    requires { n < byte_values }
-    ensures { result ≡ n }
-{
-    n as u8
-}
+use layout::{Edition, Format, Kind, bytes};
 
 // Writes a byte at place a.
+#[tactic(auto, using(planformat::proofs::Written::written_one))]
 pub fn put_byte(buffer: &mut [u8], a: usize, n: u64)
     requires { (a < length buffer.old) × (n < byte_values) }
     ensures { buffer.new ≡ written buffer.old a (n ∷ []) }
 {
-    let b = narrow(n);
-    buffer[a] = b;
+    buffer[a] = n as u8;
 }
 
 // Writes an integer as two bytes, and as four, from place a on.
@@ -42,6 +36,7 @@ pub fn put_four(buffer: &mut [u8], a: usize, n: u64)
 }
 
 // Writes the mark of an edition.
+#[tactic(auto, using(planformat::proofs::Written::written_none), unfolding(planformat::specs::Format::start_of, planformat::specs::Format::mark_bytes))]
 fn put_mark(buffer: &mut [u8], edition: Edition)
     requires { start_of edition ≤ length buffer.old }
     ensures { buffer.new ≡ written buffer.old 0 (mark_bytes edition) }
@@ -82,6 +77,7 @@ pub fn put_entry(buffer: &mut [u8], a: usize, node: u64, parent: u64, offset: u6
 }
 
 // Writes a share.
+#[tactic(auto, unfolding(planformat::specs::Format::share_length, planformat::specs::Format::share_bytes))]
 fn put_share(buffer: &mut [u8], edition: Edition, a: usize, share: u64)
     requires { a + share_length edition ≤ length buffer.old }
     ensures { buffer.new ≡ written buffer.old a (share_bytes edition share) }
@@ -93,11 +89,11 @@ fn put_share(buffer: &mut [u8], edition: Edition, a: usize, share: u64)
 }
 
 // Writes a body.
-pub fn put_body(buffer: &mut [u8], edition: Edition, a: usize, kind: u64, share: u64, depth: u64)
-    requires { (a + body_length edition ≤ length buffer.old) × (kind < byte_values) }
-    ensures { buffer.new ≡ written buffer.old a (kind ∷ share_bytes edition share ++ bytes4 depth) }
+pub fn put_body(buffer: &mut [u8], edition: Edition, a: usize, kind: Kind, share: u64, depth: u64)
+    requires { a + body_length edition ≤ length buffer.old }
+    ensures { buffer.new ≡ written buffer.old a (kind_number kind ∷ share_bytes edition share ++ bytes4 depth) }
 {
-    put_byte(buffer, a, kind);
+    put_byte(buffer, a, u64::from(kind));
     let at = a + Format::BODY_SHARE;
     put_share(buffer, edition, at, share);
     put_four(buffer, at + forms::share_length(edition), depth);
