@@ -1,17 +1,18 @@
 // What turns a join back: the limits of its arguments, and the causes in the tree.
 #![tactic(auto)]
 
-ghost use Rattle.std.specs.Prelude.{◌≡◌, [], ◌∷◌, ◌≤◌, eqb, length};
+ghost use Rattle.std.specs.Prelude.{◌≡◌, [], ◌∷◌, ◌≤◌, eqb};
 ghost use Rattle.numbers.specs.Tests.{every};
-ghost use Rattle.definitions.specs.Limits.{table_length, last_node, last_class_level, class};
+ghost use Rattle.definitions.specs.Limits.{last_node, last_class_level, class};
 ghost use Rattle.definitions.specs.Tree.{tree_of};
-ghost use Rattle.definitions.specs.Refusals.{last_refusal, first};
+ghost use Rattle.definitions.specs.Refusals.{first};
 ghost use Rattle.definitions.specs.Calls.{shares_above, depths_above, stated_wrong, join_limits, sum_causes};
+ghost use Rattle.answers.specs.Answers.{number_in};
 ghost use Rattle.treelaws.specs.Joins.{refusal_of, joined_by};
 ghost use Rattle.admission.specs.NewNodes.{asked, Natural, join_of, Judged, Placeable};
 
 use answers::Refusal;
-use table::Table;
+use table::{AccountTable, Table};
 
 // The joining node: join's arguments as natural numbers.
 #[derive(Clone, Copy)]
@@ -26,6 +27,7 @@ pub struct NewNode {
 }
 
 // Whether join's arguments are within their limits.
+// Kept: the C interface needs it: these seven numbers are the arguments of its call, here and in the next function.
 pub fn join_limits(
     node: i64,
     parent: i64,
@@ -50,6 +52,7 @@ pub fn join_limits(
 }
 
 // The node that they ask for.
+#[tactic(auto, using(definitions::proofs::Refusals::natural_of))]
 pub fn new_node(
     node: i64,
     parent: i64,
@@ -73,8 +76,8 @@ pub fn new_node(
 }
 
 // Whether a class would join under level 3.
-fn level_too_low(table: &[i64], new: NewNode) -> bool
-    requires { (length table.now ≡ table_length) × (new.parent ≤ last_node) }
+fn level_too_low(table: &AccountTable, new: NewNode) -> bool
+    requires { new.parent ≤ last_node }
     ensures { result ≡ every (eqb new.sort class ∷ eqb ((tree_of table.now).level new.parent) last_class_level ∷ []) }
 {
     let joins_class = new.sort == Table::CLASS;
@@ -83,7 +86,7 @@ fn level_too_low(table: &[i64], new: NewNode) -> bool
 }
 
 // Whether the fixed shares under the parent would be above 10,000.
-fn shares_above(table: &[i64], new: NewNode) -> bool
+fn shares_above(table: &AccountTable, new: NewNode) -> bool
     requires { Placeable table.now new }
     ensures { result ≡ shares_above (joined_by table.now (join_of new)) new.parent }
 {
@@ -91,7 +94,7 @@ fn shares_above(table: &[i64], new: NewNode) -> bool
 }
 
 // Whether the depths under the parent would be above its own.
-fn depths_above(table: &[i64], new: NewNode) -> bool
+fn depths_above(table: &AccountTable, new: NewNode) -> bool
     requires { Placeable table.now new }
     ensures { result ≡ depths_above (joined_by table.now (join_of new)) new.parent }
 {
@@ -100,48 +103,46 @@ fn depths_above(table: &[i64], new: NewNode) -> bool
 }
 
 // Whether the node would be stated elsewhere than under the root, or the stated rates would be above the disk's.
-fn stated_wrong(table: &[i64], new: NewNode) -> bool
+fn stated_wrong(table: &AccountTable, new: NewNode) -> bool
     requires { Placeable table.now new }
     ensures { result ≡ stated_wrong (joined_by table.now (join_of new)) }
 {
     sums::stated_wrong(table, new.parent, 0, new.kind, new.share)
 }
 
-// The number of the first cause in the sums that turns the node back, or 0.
-fn sums_refusal(table: &[i64], new: NewNode) -> u64
+// The first cause in the sums that turns the node back.
+fn sums_refusal(table: &AccountTable, new: NewNode) -> Result<(), Refusal>
     requires { Placeable table.now new }
-    ensures first { result ≡ first (sum_causes (joined_by table.now (join_of new)) new.parent) }
-    ensures small { result ≤ last_refusal }
+    ensures first { number_in result ≡ first (sum_causes (joined_by table.now (join_of new)) new.parent) }
 {
     if shares_above(table, new) {
-        return Refusal::SHARES_ABOVE;
+        return Err(Refusal::SharesAbove);
     }
     if depths_above(table, new) {
-        return Refusal::DEPTH_ABOVE;
+        return Err(Refusal::DepthAbove);
     }
     if stated_wrong(table, new) {
-        return Refusal::STATED_WRONG;
+        return Err(Refusal::StatedWrong);
     }
-    0
+    Ok(())
 }
 
-// The number of the first cause in the tree that turns the node back, or 0.
-pub fn tree_refusal(table: &[i64], new: NewNode) -> u64
+// The first cause in the tree that turns the node back.
+pub fn tree_refusal(table: &AccountTable, new: NewNode) -> Result<(), Refusal>
     requires { Judged table.now new }
-    ensures first { result ≡ refusal_of table.now (join_of new) }
-    ensures small { result ≤ last_refusal }
+    ensures first { number_in result ≡ refusal_of table.now (join_of new) }
 {
     if !table::tree::there(table, new.parent) {
-        return Refusal::NOT_THERE;
+        return Err(Refusal::NotThere);
     }
     if table::tree::there(table, new.node) {
-        return Refusal::IN_USE;
+        return Err(Refusal::InUse);
     }
     if table::tree::is_client(table, new.parent) {
-        return Refusal::WRONG_NODE;
+        return Err(Refusal::WrongNode);
     }
     if level_too_low(table, new) {
-        return Refusal::LEVEL_TOO_LOW;
+        return Err(Refusal::LevelTooLow);
     }
     sums_refusal(table, new)
 }
