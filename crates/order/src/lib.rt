@@ -6,30 +6,35 @@ ghost use Rattle.std.specs.Prelude.{◌≡◌};
 ghost use Rattle.definitions.specs.Order.{in_order};
 
 use covering::{classes, totals};
-use table::Table;
+use table::AccountTable;
 
-// Whether a table is in order. Document 01, "The table".
-pub fn in_order(table: &[i64]) -> bool
+// Whether a table of the right length is in order.
+pub fn passes(table: &AccountTable) -> bool
     ensures { result ≡ in_order table.now }
 {
-    if table.len() != Table::LENGTH {
-        return false;
-    }
     let header = places::header_in_order(table);
     let root = places::root_in_order(table);
     let each = records::records_in_order(table);
     if !(header & root & each) {
         return false;
     }
-    let mut shares: [u64; Table::SHARE_SUMS] = [0; Table::SHARE_SUMS];
-    let mut depths: [u64; Table::NODES] = [0; Table::NODES];
-    let mut credits: [u64; Table::NODES] = [0; Table::NODES];
-    let mut debts: [u64; Table::NODES] = [0; Table::NODES];
-    totals::totals(table, &mut shares, &mut depths, &mut credits, &mut debts);
-    if !classes::classes_cover(table, &shares, &depths, &credits, &debts) {
+    let mut sums = totals::ClassSums::none();
+    totals::totals(table, &mut sums);
+    if !classes::classes_cover(table, &sums) {
         return false;
     }
-    let rates = ratetest::rates_in_order(table, &shares);
+    let rates = ratetest::rates_in_order(table, &sums.shares);
     let queues = queues::queues_in_order(table);
     rates & queues
+}
+
+// Whether a table is in order. Document 01, "The table".
+#[tactic(auto, using(crate::proofs::Verdict::other_length))]
+pub fn in_order(table: &[i64]) -> bool
+    ensures { result ≡ in_order table.now }
+{
+    match table.as_array() {
+        Some(table) => passes(table),
+        None => false,
+    }
 }
