@@ -1,8 +1,8 @@
 // The nodes of a table in the order of its plan: by level, then by number; and what the plan says of a node.
 #![tactic(auto)]
 
-ghost use Rattle.std.specs.Prelude.{◌≡◌, cond, not, ◌≤◌, ◌<◌, length, take};
-ghost use Rattle.definitions.specs.Limits.{table_length, nodes};
+ghost use Rattle.std.specs.Prelude.{◌≡◌, not, ℕ, ◌≤◌, ◌<◌, List, take};
+ghost use Rattle.definitions.specs.Limits.{nodes};
 ghost use Rattle.definitions.specs.Tree.{tree_of, there, is_stated, test_if};
 ghost use Rattle.planformat.specs.Kinds.{kind_of};
 ghost use Rattle.planformat.specs.Nodes.{share_in, share_kind_in, held_by, kind_in, entry_by};
@@ -10,82 +10,83 @@ ghost use Rattle.planlaws.specs.Writing.{stands, order, entry_of, any_stated, un
 ghost use Rattle.listing.specs.Listed.{Standing};
 
 use layout::{Edition, Node, Share, Sort};
-use table::Table;
+use std::marker::Model;
+use table::{AccountTable, Table, tree};
 
 // How many pairs of a level and a number there are.
 const STANDINGS: usize = Table::NODES * (Table::LAST_LEVEL as usize + 1);
 
-// Nodes in order, and how many.
-#[derive(Clone, Copy)]
+// Nodes in order: the first `count` of these.
+#[derive(Drop)]
 pub struct Listing {
-    pub nodes: [u64; Table::NODES],
-    pub count: usize,
+    numbers: [u64; Table::NODES],
+    count: usize,
+}
+
+impl Model for Listing {
+    ghost Value = { List ℕ };
+
+    ghost view = { λ l. take l.count l.numbers };
+
+    ghost invariant = { λ l. l.count ≤ nodes };
+}
+
+impl Listing {
+    // These nodes.
+    pub fn nodes(&self) -> &[u64]
+        ensures { result.now ≡ self.now }
+    {
+        &self.numbers[..self.count]
+    }
 }
 
 // Whether node m % NODES is there at level m / NODES and is not the root.
-fn stands(table: &[i64], m: usize) -> bool
-    requires { length table.now ≡ table_length }
+fn stands(table: &AccountTable, m: usize) -> bool
     ensures { result ≡ stands (tree_of table.now) m }
 {
     let k = m % Table::NODES;
-    let there = Table::natural(table, k, Table::SORT) != Table::UNUSED;
+    let there = tree::there(table, k);
     let below = k != 0;
     let level = Table::natural(table, k, Table::LEVEL) == (m / Table::NODES) as u64;
     there & below & level
 }
 
-fn counted(test: bool) -> usize
-    ensures count { result ≡ cond test 1 0 }
-    ensures small { result ≤ 1 }
-{
-    if test { 1 } else { 0 }
-}
-
 // The nodes but for the root, by level, then by number.
-pub fn list_nodes(table: &[i64]) -> Listing
-    requires { length table.now ≡ table_length }
-    ensures nodes { take result.count result.nodes ≡ order (tree_of table.now) }
-    ensures count { result.count ≡ length (order (tree_of table.now)) }
+pub fn list_nodes(table: &AccountTable) -> Listing
+    ensures { result ≡ order (tree_of table.now) }
 {
-    let mut nodes: [u64; Table::NODES] = [0; Table::NODES];
-    let mut count: usize = 0;
-    let mut m: usize = 0;
-    while m < STANDINGS {
-        nodes[count] = (m % Table::NODES) as u64;
-        count += counted(stands(table, m));
-        m += 1;
+    let mut numbers = [0; Table::NODES];
+    let mut count = 0;
+    for m in 0..STANDINGS {
+        numbers[count] = (m % Table::NODES) as u64;
+        count += usize::from(stands(table, m));
     }
-    Listing { nodes, count }
+    Listing { numbers, count }
 }
 
 // Whether node k, where it is there, is not stated.
-fn unstated(table: &[i64], k: usize) -> bool
-    requires { (length table.now ≡ table_length) × (k < nodes) }
+fn unstated(table: &AccountTable, k: usize) -> bool
+    requires { k < nodes }
     ensures { result ≡ test_if (there (tree_of table.now) k) (λ j. not (is_stated (tree_of table.now) j)) k }
 {
-    if Table::natural(table, k, Table::SORT) == Table::UNUSED {
-        return true;
-    }
-    Table::natural(table, k, Table::KIND) != Table::STATED
+    !tree::there(table, k) | !tree::is_stated(table, k)
 }
 
 // Whether a stated node is in the tree.
-fn any_stated(table: &[i64]) -> bool
-    requires { length table.now ≡ table_length }
+#[tactic(auto, using(numbers::proofs::All::all_loop), unfolding(planlaws::specs::Writing::any_stated, definitions::specs::Tree::each_node))]
+fn any_stated(table: &AccountTable) -> bool
     ensures { result ≡ any_stated (tree_of table.now) }
 {
     let mut none = true;
-    let mut k: usize = 0;
-    while k < Table::NODES {
+    for k in 0..Table::NODES {
         none = none & unstated(table, k);
-        k += 1;
     }
     !none
 }
 
 // Whether an edition has no kind for a node of the tree.
-pub fn unwritable(table: &[i64], edition: Edition) -> bool
-    requires { length table.now ≡ table_length }
+#[tactic(auto, unfolding(planlaws::specs::Writing::unwritable))]
+pub fn unwritable(table: &AccountTable, edition: Edition) -> bool
     ensures { result ≡ unwritable edition (tree_of table.now) }
 {
     match edition {
@@ -95,30 +96,29 @@ pub fn unwritable(table: &[i64], edition: Edition) -> bool
 }
 
 // The share of node k: fixed, stated or weighted.
-fn share_at(table: &[i64], k: usize) -> Share
+#[tactic(auto, unfolding(planformat::specs::Nodes::share_in, planformat::specs::Nodes::share_kind_in, definitions::specs::Tree::tree_of))]
+fn share_at(table: &AccountTable, k: usize) -> Share
     requires { Standing table.now k }
     ensures share { share_in result ≡ (tree_of table.now).share k }
     ensures kind { share_kind_in result ≡ (tree_of table.now).kind k }
 {
     let share = Table::natural(table, k, Table::SHARE);
-    let kind = Table::natural(table, k, Table::KIND);
-    if kind == Table::FIXED {
-        return Share::Fixed(share);
+    match Table::natural(table, k, Table::KIND) {
+        Table::FIXED => Share::Fixed(share),
+        Table::STATED => Share::Stated(share),
+        _ => Share::Weighted(share),
     }
-    if kind == Table::STATED {
-        return Share::Stated(share);
-    }
-    Share::Weighted(share)
 }
 
 // The sort of node k, class or client, with its share.
-fn sort_at(table: &[i64], k: usize) -> Sort
+#[tactic(auto, unfolding(planformat::specs::Nodes::held_by, planformat::specs::Nodes::sort_in, planformat::specs::Nodes::kind_in, definitions::specs::Tree::tree_of))]
+fn sort_at(table: &AccountTable, k: usize) -> Sort
     requires { Standing table.now k }
     ensures kind { kind_in result ≡ kind_of ((tree_of table.now).sort k) ((tree_of table.now).kind k) }
     ensures share { share_in (held_by result) ≡ (tree_of table.now).share k }
 {
     let share = share_at(table, k);
-    if Table::natural(table, k, Table::SORT) == Table::CLASS {
+    if tree::is_class(table, k) {
         Sort::Class(share)
     } else {
         Sort::Client(share)
@@ -126,7 +126,7 @@ fn sort_at(table: &[i64], k: usize) -> Sort
 }
 
 // What the plan says of node k.
-pub fn node_of(table: &[i64], k: usize) -> Node
+pub fn node_of(table: &AccountTable, k: usize) -> Node
     requires { Standing table.now k }
     ensures entry { entry_by result ≡ entry_of (tree_of table.now) k }
     ensures small { (result.number < nodes) × (result.parent < nodes) }
