@@ -1,15 +1,11 @@
 -- A node of another level or outside the class is passed, one below the class gets the rate of its parent's child.
 use Rattle.std.proofs.Common.{◌≡◌, ◌<◌, ◌+◌, ◌*◌, ◌∙◌, ℕ, ℤ, pos, List, Bool, true, false, ◌||◌, eqb, get_or, set, sym, ap, arith}
-use Rattle.definitions.specs.Limits.{nodes, fixed, weighted, stated, kinds, rate_at}
+use Rattle.definitions.specs.Limits.{nodes, rate_at}
 use Rattle.definitions.specs.Places.{rate, put}
 use Rattle.definitions.specs.Tree.{tree_of}
-use Rattle.definitions.specs.Rates.{kind_sum, child_rate}
+use Rattle.definitions.specs.Rates.{child_rate}
 use Rattle.definitions.specs.Renewal.{below, rate_below}
-use Rattle.sums.specs.Sums.{ShareSums, sum_at}
-use Rattle.sums.specs.declared.UnderClass.{UnderClass}
-use Rattle.sums.proofs.NodeByNode.{share_sums_end}
-use Rattle.sums.proofs.Rated.{weights_small}
-use Rattle.dividing.specs.Divisions.{Divided}
+use Rattle.dividing.proofs.Divided.{divided}
 use Rattle.renewing.specs.Renewal.{at_level, Descent, Onward}
 use Rattle.renewing.proofs.Descent.{level_at_law, placed, below_root, here_there, marks_tell, parent_le, child_renewed, renewed_small, passed_level, passed_class, renewed_next}
 use Rattle.renewing.proofs.renew_node.Goals as goal
@@ -22,24 +18,6 @@ module _ (t : List ℤ) (c l k : ℕ) (marks : List Bool) (d : Descent t c (l * 
   -- Whether it stands below the class, as the parent tells.
   tells : below (tree_of t) c k ≡ (eqb p c || get_or marks p false)
   tells = rw is (marks_tell t c l k marks d some low at)
-
-  -- What the sums under the parent are.
-  divided : (sums : List ℕ) (by : UnderClass) (r : ℕ) → ShareSums (tree_of t) nodes sums → (by.fixed ≡ get_or sums (sum_at p fixed) 0) × (by.weights ≡ get_or sums (sum_at p weighted) 0) × (by.stated ≡ get_or sums (sum_at p stated) 0) → below (tree_of t) c k ≡ true → r ≡ rate t p → Divided t k r by
-  divided sums by r f u here e =
-      let node = placed t c l k marks d some low at in
-      let summed : (kind : ℕ) → kind < kinds → get_or sums (sum_at p kind) 0 ≡ kind_sum (tree_of t) kind ((tree_of t).parent k) = λ kind h. ap (λ (i : ℕ). get_or sums (sum_at i kind) 0) is ∙ share_sums_end _ _ f _ kind node.parent h in
-      record {
-        long = d.rated.long;
-        not_root = below_root t c l k marks d some low at;
-        low = low;
-        here = here_there t c l k marks d some low at;
-        placed = node;
-        small = omega (arith, ap (rate t) is, parent_le t c l k marks d some low at here);
-        fixed = u.0 ∙ summed fixed (omega arith);
-        weights = u.1 ∙ summed weighted (omega arith);
-        stated = u.2 ∙ summed stated (omega arith);
-        few = omega (arith, u.1, summed weighted (omega arith), weights_small t c d.rated ((tree_of t).parent k));
-      }
 
   -- The rate that is worked out from the parent's.
   worked_out : (r v : ℕ) → r ≡ rate t p → v ≡ child_rate (tree_of t) r k → below (tree_of t) c k ≡ true → v ≡ rate_below (tree_of t) c (rate t c) k
@@ -68,8 +46,9 @@ pub child_rate-renewed-requires : goal.child_rate-renewed-requires
 unfolding tree_of rate
 child_rate-renewed-requires c =
     let at = sym c.at_level.ensures ∙ c.if-not-at_level.false in
-    divided _ _ _ _ _ c.requires.0 c.requires.2 c.requires.3 at _ c.natural-parent.ensures _ _ _ c.requires.1 c.under.ensures
-    (tells _ _ _ _ _ c.requires.0 c.requires.2 c.requires.3 at _ c.natural-parent.ensures ∙ c.if-not-is_below.false) c.natural-rate.ensures
+    let here = tells _ _ _ _ _ c.requires.0 c.requires.2 c.requires.3 at _ c.natural-parent.ensures ∙ c.if-not-is_below.false in
+    divided _ _ c.requires.0.rated _ _ _ _ _ (below_root _ _ _ _ _ c.requires.0 c.requires.2 c.requires.3 at) c.requires.3 (here_there _ _ _ _ _ c.requires.0 c.requires.2 c.requires.3 at) c.natural-parent.ensures c.requires.1 c.under.ensures
+    (omega (arith, ap (rate c.args.table.now) c.natural-parent.ensures, c.natural-rate.ensures, parent_le _ _ _ _ _ c.requires.0 c.requires.2 c.requires.3 at here))
 
 pub put_natural-requires : goal.put_natural-requires
 unfolding tree_of rate
