@@ -12,7 +12,7 @@ use Rattle.answers.specs.Answers.{number_of}
 use Rattle.answers.specs.declared.Refusal.TheVariants.{PlanWrong}
 use Rattle.planformat.specs.Format.{count_in, entry_in, formed}
 use Rattle.view.specs.declared.Body.{Body}
-use Rattle.view.specs.declared.Found.TheVariants as found
+use Rattle.std.specs.Prelude.{Some, Ok}
 use Rattle.view.specs.Views.{BodyAt}
 use Rattle.view.specs.Answer.{body_values, listed_from, body_answer, told_found}
 
@@ -47,6 +47,6 @@ module _ (s : List ℕ) (number : ℕ) where
   answer_no_plan wrong = sym (cond_false _ _ _ wrong)
 
 -- The body that is handed out of entry i tells its values.
-pub body_told : (s : List ℕ) (i : ℕ) (b : Body) → BodyAt s i b → told_found (found.Body b) ≡ accepted (body_values (entry_in s i))
+pub body_told : (s : List ℕ) (i : ℕ) (b : Body) → BodyAt s i b → told_found (Ok (Some b)) ≡ accepted (body_values (entry_in s i))
 unfolding told_found body_values
 body_told s i b h = let kind = h.kind in let share = h.share in let depth = h.depth in cc

@@ -1,16 +1,18 @@
 // The view of a plan. Document 01, "Same tree, and the plan file", and document 02, (f): a plan of either edition has its
-// contents first, then the bodies. Few functions are over the view, and each leaves the work to `parts`, which takes plain
-// bytes. `listed_at` and `body_of` take plain bytes too, and serve all other callers.
+// contents first, then the bodies. Few functions are over the view. `listed_at` and `body_of` take plain bytes, and serve
+// callers that have no view.
 #![tactic(auto)]
 
-ghost use Rattle.std.specs.Prelude.{◌≡◌, true, ◌<◌};
-ghost use Rattle.planformat.specs.Format.{edition_in, count_in, formed};
+ghost use Rattle.std.specs.Prelude.{◌≡◌, true, false, ◌<◌, MatchResult};
+ghost use Rattle.answers.specs.declared.Refusal.TheVariants.{PlanWrong};
+ghost use Rattle.planformat.specs.Bytes.{byte_values, four_values};
+ghost use Rattle.planformat.specs.Nodes.{share_in, held_by, entry_by};
+ghost use Rattle.planformat.specs.Format.{share_values, edition_in, count_in, entry_in, formed};
 ghost use Rattle.view.specs.Views.{Views, EntryAt, BodyAt};
 ghost use Rattle.view.specs.Answer.{body_answer, told_found};
 
-mod parts;
-
-use layout::{Edition, Sort};
+use answers::Refusal;
+use layout::{Edition, Format, Kind, Node, Sort, bodies, bytes};
 
 // What an entry says: a node and its parent. Where its body stands follows from the edition and the count of entries.
 #[derive(Clone, Copy)]
@@ -33,20 +35,13 @@ pub struct Listed {
     pub body: Body,
 }
 
-// The body of a node; or the plan does not list the node; or the bytes are no plan.
-#[derive(Clone, Copy)]
-pub enum Found {
-    Body(Body),
-    NotListed,
-    NotAPlan,
-}
-
 // A plan's bytes, their edition, and how many entries they have.
 #[derive(Clone, Copy)]
 pub struct View<'a> {
     pub bytes: &'a [u8],
     pub edition: Edition,
     pub count: usize,
+    pub ghost views: { Views bytes.now edition count },
 }
 
 impl<'a> View<'a> {
@@ -63,20 +58,64 @@ impl<'a> View<'a> {
         }
     }
 
+    // The view of bytes, where they are a plan's.
+    pub fn read(bytes: &'a [u8]) -> Result<View<'a>, Refusal>
+        ensures { MatchResult result (λ view. view.bytes ≡ bytes.entry) (λ why. (why ≡ PlanWrong) × (formed bytes.now ≡ false)) }
+    {
+        if forms::formed(bytes) {
+            Ok(View::of(bytes))
+        } else {
+            Err(Refusal::PlanWrong)
+        }
+    }
+
+    // The node of entry i and its body.
+    pub fn node(self, i: usize) -> Node
+        requires { i < self.count }
+        ensures entry { entry_by result ≡ entry_in self.entry.bytes.now i }
+        ensures small { (result.number < byte_values) × (result.parent < byte_values) × (share_in (held_by result.sort) < share_values self.entry.edition) × (result.depth < four_values) }
+    {
+        let at = forms::entry_at(self.edition, i);
+        let body = forms::body_at(self.edition, self.count, i);
+        let number = bytes::byte(self.bytes, at);
+        let parent = bytes::byte(self.bytes, at + Format::ENTRY_PARENT);
+        let Ok(kind) = Kind::try_from(bytes::byte(self.bytes, body)) else {
+            unreachable!();
+        };
+        let at_share = body + Format::BODY_SHARE;
+        let share = bytes::share(self.bytes, self.edition, at_share);
+        let depth = bytes::four(self.bytes, at_share + forms::share_length(self.edition));
+        let sort = bodies::sort_of(kind, share);
+        Node {
+            number,
+            parent,
+            sort,
+            depth,
+        }
+    }
+
     // Entry i.
     pub fn entry(self, i: usize) -> Entry
-        requires { Views self.bytes.now self.edition self.count × (i < self.count) }
+        requires { i < self.count }
         ensures { EntryAt self.entry.bytes.now i result }
     {
-        parts::entry_in(self.bytes, self.edition, self.count, i)
+        let listed = self.node(i);
+        Entry {
+            number: listed.number,
+            parent: listed.parent,
+        }
     }
 
     // The body of entry i.
     pub fn body(self, i: usize) -> Body
-        requires { Views self.bytes.now self.edition self.count × (i < self.count) }
+        requires { i < self.count }
         ensures { BodyAt self.entry.bytes.now i result }
     {
-        parts::body_in(self.bytes, self.edition, self.count, i)
+        let node = self.node(i);
+        Body {
+            sort: node.sort,
+            depth: node.depth,
+        }
     }
 }
 
@@ -86,28 +125,21 @@ pub fn listed_at(bytes: &[u8], i: usize) -> Listed
     ensures { EntryAt bytes.now i result.entry × BodyAt bytes.now i result.body }
 {
     let view = View::of(bytes);
-    let entry = view.entry(i);
-    let body = view.body(i);
-    Listed { entry, body }
+    Listed {
+        entry: view.entry(i),
+        body: view.body(i),
+    }
 }
 
-// The body that a plan lists for a node.
-pub fn body_of(bytes: &[u8], number: u64) -> Found
+// The body that a plan lists for a node, or none where it does not list the node.
+pub fn body_of(bytes: &[u8], number: u64) -> Result<Option<Body>, Refusal>
     ensures { told_found result ≡ body_answer bytes.now number }
 {
-    if !forms::formed(bytes) {
-        return Found::NotAPlan;
-    }
-    let n = forms::count_in(bytes, forms::edition_in(bytes));
-    let mut i: usize = 0;
-    while i < n {
-        let here = listed_at(bytes, i);
-        let entry = here.entry;
-        if entry.number == number {
-            let body = here.body;
-            return Found::Body(body);
+    let view = View::read(bytes)?;
+    for i in 0..view.count {
+        if view.entry(i).number == number {
+            return Ok(Some(view.body(i)));
         }
-        i += 1;
     }
-    Found::NotListed
+    Ok(None)
 }
