@@ -12,53 +12,54 @@ pub const MOST_DIGITS: usize = 20;
 #[derive(Drop)]
 pub struct Text<const N: usize> {
     pub bytes: [u8; N],
-    pub length: usize,
-    pub ghost within: { length ≤ N },
+    pub len: usize,
+    pub ghost within: { len ≤ N },
+    pub ghost whole: { length bytes ≡ N },
 }
 
 impl<const N: usize> Text<N> {
     // No text, in a buffer of zeros.
     pub fn new() -> Self
-        ensures length { result.length ≡ 0 }
+        ensures len { result.len ≡ 0 }
         ensures bytes { result.bytes ≡ replicate N 0 }
     {
         Text {
             bytes: [0; N],
-            length: 0,
+            len: 0,
         }
     }
 
     // No text, and the bytes of the buffer as they are.
     pub fn clear(&mut self)
-        ensures length { self.new.length ≡ 0 }
+        ensures len { self.new.len ≡ 0 }
         ensures bytes { self.new.bytes ≡ self.old.bytes }
     {
-        self.length = 0;
+        self.len = 0;
     }
 
     // The text so far.
     pub fn so_far(&self) -> &[u8]
-        ensures { result.now ≡ take self.now.length self.now.bytes }
+        ensures { result.now ≡ take self.now.len self.now.bytes }
     {
-        &self.bytes[..self.length]
+        &self.bytes[..self.len]
     }
 
     // Puts bytes as they are.
     #[tactic(auto, using(crate::proofs::Appending::append_copied))]
     pub fn put_text(&mut self, piece: &[u8])
-        requires { self.old.length + length piece.now ≤ N }
-        ensures { Appended self.old.bytes self.old.length piece.now self.new.bytes self.new.length }
+        requires { self.old.len + length piece.now ≤ N }
+        ensures { Appended self.old.bytes self.old.len piece.now self.new.bytes self.new.len }
     {
-        let end = self.length + piece.len();
+        let end = self.len + piece.len();
         let bytes = &mut self.bytes[..];
-        bytes[self.length..end].copy_from_slice(piece);
-        self.length = end;
+        bytes[self.len..end].copy_from_slice(piece);
+        self.len = end;
     }
 
     // Puts the decimal digits of n.
     pub fn put_decimal(&mut self, n: u64)
-        requires { self.old.length + most_digits ≤ N }
-        ensures { Appended self.old.bytes self.old.length (decimal n) self.new.bytes self.new.length }
+        requires { self.old.len + most_digits ≤ N }
+        ensures { Appended self.old.bytes self.old.len (decimal n) self.new.bytes self.new.len }
     {
         let mut digits = [0u8; MOST_DIGITS];
         let count = io::decimal(n, &mut digits);
@@ -68,8 +69,8 @@ impl<const N: usize> Text<N> {
     // Puts the line of a refusal.
     #[tactic(auto, using(crate::proofs::Decimal::decimal_short))]
     pub fn put_refused(&mut self, number: u64)
-        requires { self.old.length + longest_refused ≤ N }
-        ensures { Appended self.old.bytes self.old.length (refused_line number) self.new.bytes self.new.length }
+        requires { self.old.len + longest_refused ≤ N }
+        ensures { Appended self.old.bytes self.old.len (refused_line number) self.new.bytes self.new.len }
     {
         self.put_text(b"refused ");
         self.put_decimal(number);
