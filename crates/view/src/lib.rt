@@ -69,52 +69,49 @@ impl<'a> View<'a> {
         }
     }
 
-    // The node of entry i and its body.
-    pub fn node(self, i: usize) -> Node
-        requires { i < self.count }
-        ensures entry { entry_by result ≡ entry_in self.entry.bytes.now i }
-        ensures small { (result.number < byte_values) × (result.parent < byte_values) × (share_in (held_by result.sort) < share_values self.entry.edition) × (result.depth < four_values) }
-    {
-        let at = forms::entry_at(self.edition, i);
-        let body = forms::body_at(self.edition, self.count, i);
-        let number = bytes::byte(self.bytes, at);
-        let parent = bytes::byte(self.bytes, at + Format::ENTRY_PARENT);
-        let Ok(kind) = Kind::try_from(bytes::byte(self.bytes, body)) else {
-            unreachable!();
-        };
-        let at_share = body + Format::BODY_SHARE;
-        let share = bytes::share(self.bytes, self.edition, at_share);
-        let depth = bytes::four(self.bytes, at_share + forms::share_length(self.edition));
-        let sort = bodies::sort_of(kind, share);
-        Node {
-            number,
-            parent,
-            sort,
-            depth,
-        }
-    }
-
     // Entry i.
     pub fn entry(self, i: usize) -> Entry
         requires { i < self.count }
-        ensures { EntryAt self.entry.bytes.now i result }
+        ensures told { EntryAt self.entry.bytes.now i result }
+        ensures small { (result.number < byte_values) × (result.parent < byte_values) }
     {
-        let listed = self.node(i);
-        Entry {
-            number: listed.number,
-            parent: listed.parent,
-        }
+        let at = forms::entry_at(self.edition, i);
+        let number = bytes::byte(self.bytes, at);
+        let parent = bytes::byte(self.bytes, at + Format::ENTRY_PARENT);
+        Entry { number, parent }
     }
 
     // The body of entry i.
     pub fn body(self, i: usize) -> Body
         requires { i < self.count }
-        ensures { BodyAt self.entry.bytes.now i result }
+        ensures told { BodyAt self.entry.bytes.now i result }
+        ensures small { (share_in (held_by result.sort) < share_values self.entry.edition) × (result.depth < four_values) }
     {
-        let node = self.node(i);
-        Body {
-            sort: node.sort,
-            depth: node.depth,
+        let at = forms::body_at(self.edition, self.count, i);
+        let Ok(kind) = Kind::try_from(bytes::byte(self.bytes, at)) else {
+            unreachable!();
+        };
+        let at_share = at + Format::BODY_SHARE;
+        let share = bytes::share(self.bytes, self.edition, at_share);
+        let depth = bytes::four(self.bytes, at_share + forms::share_length(self.edition));
+        let sort = bodies::sort_of(kind, share);
+        Body { sort, depth }
+    }
+
+    // The node of entry i and its body.
+    #[tactic(auto, using(planformat::proofs::Codec::same_entry), unfolding(planformat::specs::Nodes::entry_by))]
+    pub fn node(self, i: usize) -> Node
+        requires { i < self.count }
+        ensures entry { entry_by result ≡ entry_in self.entry.bytes.now i }
+        ensures small { (result.number < byte_values) × (result.parent < byte_values) × (share_in (held_by result.sort) < share_values self.entry.edition) × (result.depth < four_values) }
+    {
+        let entry = self.entry(i);
+        let body = self.body(i);
+        Node {
+            number: entry.number,
+            parent: entry.parent,
+            sort: body.sort,
+            depth: body.depth,
         }
     }
 }

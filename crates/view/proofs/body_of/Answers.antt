@@ -20,15 +20,15 @@ pub returns-then-entry-number : goal.returns-then-entry-number
 returns-then-entry-number c =
     let i = c.loop-i.i in
     let within : i < c.in_ok-view.view.count = omega arith in
-    body_told _ i _ c.body.ensures
-    ∙ ap accepted (sym (listed_here _ _ i _ within (sym c.entry.ensures.node ∙ c.if-entry-number.true)))
+    body_told _ i _ c.body.ensures.told
+    ∙ ap accepted (sym (listed_here _ _ i _ within (sym c.entry.ensures.told.node ∙ c.if-entry-number.true)))
     ∙ c.loop-i.invariant
 
 pub loop-i-preserved : goal.loop-i-preserved
 loop-i-preserved c =
     let i = c.loop-i.i in
     let within : i < c.in_ok-view.view.count = omega arith in
-    ap accepted (sym (listed_later _ _ i _ within (λ e. c.if-entry-number.false (c.entry.ensures.node ∙ e)))) ∙ c.loop-i.invariant
+    ap accepted (sym (listed_later _ _ i _ within (λ e. c.if-entry-number.false (c.entry.ensures.told.node ∙ e)))) ∙ c.loop-i.invariant
 
 pub returns : goal.returns
 unfolding told_found
