@@ -1,1 +1,2 @@
+pub mod Length
 mod Verdict

@@ -14,7 +14,7 @@ use lib.IntN.{ℤ, pos}
 use Rattle.numbers.specs.Whole.{plus, minus}
 use Rattle.numbers.specs.Below.{all_below}
 use Rattle.numbers.proofs.Tests.{by_test, true_false, cond_true, cond_false}
-use Rattle.numbers.proofs.Every.{head_holds, head_fails, rest_hold, holds_with, none_left}
+use Rattle.numbers.proofs.Every.{head_holds, rest_hold, holds_with, none_left}
 use Rattle.numbers.proofs.All.{all_at, all_intro}
 use Rattle.numbers.proofs.Parts.{zarith, add_parts, one_is_zero, plus_pos}
 use Rattle.definitions.specs.Limits.{table_length, record_length, nodes, root, sort_at, depth_at, waiting_at, class, client, stated, whole_share, greatest_depth, most_waiting}
@@ -238,8 +238,3 @@ module _ (t : List ℤ) (h : records_in_order t ≡ true) (k : ℕ) (hk : k < no
 pub out_of_order_law : (t : List ℤ) (b : Bool) → (Stages t → b ≡ true) → b ≡ false → false ≡ in_order t
 out_of_order_law t b passes fails =
     sym (by_test (in_order t) (λ h. absurd (true_false (passes (stages t h)) fails)) (λ h. h))
-
--- A table of another length is not in order.
-pub other_length : (t : List ℤ) → (length t ≡ table_length → ⊥) → false ≡ in_order t
-unfolding in_order
-other_length t h = sym (head_fails _ _ (ne_eqb (length t) table_length h))

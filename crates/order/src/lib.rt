@@ -29,7 +29,7 @@ pub fn passes(table: &AccountTable) -> bool
 }
 
 // Whether a table is in order. Document 01, "The table".
-#[tactic(auto, using(crate::proofs::Verdict::other_length))]
+#[tactic(auto, using(crate::proofs::Length::other_length))]
 pub fn in_order(table: &[i64]) -> bool
     ensures { result ≡ in_order table.now }
 {
