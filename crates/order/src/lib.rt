@@ -2,9 +2,11 @@
 // to compute.
 #![tactic(auto)]
 
-ghost use Rattle.std.specs.Prelude.{◌≡◌};
+ghost use Rattle.std.specs.Prelude.{◌≡◌, true, false, MatchResult};
+ghost use Rattle.answers.specs.declared.Refusal.TheVariants.{NotInOrder};
 ghost use Rattle.definitions.specs.Order.{in_order};
 
+use answers::Refusal;
 use covering::{classes, totals};
 use table::AccountTable;
 
@@ -26,6 +28,24 @@ pub fn passes(table: &AccountTable) -> bool
     let rates = ratetest::rates_in_order(table, &sums.shares);
     let queues = queues::queues_in_order(table);
     rates & queues
+}
+
+// A table that is in order.
+#[derive(Clone, Copy)]
+pub struct Ordered<'a> {
+    pub table: &'a AccountTable,
+    pub ghost in_order: { in_order table.now ≡ true },
+}
+
+// The table, where it is in order.
+pub fn judge<'a>(table: &'a AccountTable) -> Result<Ordered<'a>, Refusal>
+    ensures { MatchResult result (λ ordered. (ordered.table ≡ table.entry) × (in_order table.now ≡ true)) (λ why. (why ≡ NotInOrder) × (in_order table.now ≡ false)) }
+{
+    if passes(table) {
+        Ok(Ordered { table })
+    } else {
+        Err(Refusal::NotInOrder)
+    }
 }
 
 // Whether a table is in order. Document 01, "The table".
