@@ -8,32 +8,30 @@ ghost use Rattle.ticklaws.specs.Ports.{gets};
 ghost use Rattle.balances.specs.Within.{Within};
 ghost use Rattle.dispatch.specs.Entries.{table_after, list_after};
 
-mod entries;
+pub mod entries;
 mod queue;
 
-use table::{PortCounts, Table};
+use entries::{Entry, Lists};
+use table::{AccountTable, Table};
 
-// Dispatches the oldest request of client k with node s as supplier, as an entry behind the n that the lists have. Returns how many
-// they have then.
-pub fn dispatch(
-    table: &mut [i64],
-    first: &mut [i64],
-    second: &mut [i64],
-    n: PortCounts,
-    k: usize,
-    s: usize,
-) -> PortCounts
-    requires { Within table.old × (k < nodes) × (s < nodes) × (0 < waiting table.old k) × (entry_length * (n.first + gets first_port (port table.old k)) ≤ length first.old) × (entry_length * (n.second + gets second_port (port table.old k)) ≤ length second.old) }
+// Dispatches the oldest request of client k with node s as supplier, as an entry behind those that the lists have.
+#[tactic(auto, unfolding(definitions::specs::Places::waiting, definitions::specs::Places::port, definitions::specs::Places::tag, definitions::specs::Places::size, definitions::specs::Tick::dispatched, crate::specs::Entries::table_after, crate::specs::Entries::list_after))]
+pub fn dispatch(table: &mut AccountTable, lists: &mut Lists, k: usize, s: usize)
+    requires { Within table.old × (k < nodes) × (s < nodes) × (0 < waiting table.old k) × (entry_length * (lists.old.counts.first + gets first_port (port table.old k)) ≤ length lists.old.first.now) × (entry_length * (lists.old.counts.second + gets second_port (port table.old k)) ≤ length lists.old.second.now) }
     ensures table { table.new ≡ table_after table.old k s }
-    ensures first { first.new ≡ list_after first_port first.old n.first table.old k s }
-    ensures second { second.new ≡ list_after second_port second.old n.second table.old k s }
-    ensures counts { (result.first ≡ n.first + gets first_port (port table.old k)) × (result.second ≡ n.second + gets second_port (port table.old k)) }
+    ensures first { lists.new.first.now ≡ list_after first_port lists.old.first.now lists.old.counts.first table.old k s }
+    ensures second { lists.new.second.now ≡ list_after second_port lists.old.second.now lists.old.counts.second table.old k s }
+    ensures counts { (lists.new.counts.first ≡ lists.old.counts.first + gets first_port (port table.old k)) × (lists.new.counts.second ≡ lists.old.counts.second + gets second_port (port table.old k)) }
+    ensures same { (lists.new.first.ghost_name ≡ lists.old.first.ghost_name) × (lists.new.second.ghost_name ≡ lists.old.second.ghost_name) }
 {
-    let tag = Table::get(table, k, Table::QUEUE + Table::TAG);
-    let size = Table::natural(table, k, Table::QUEUE + Table::SIZE);
+    let entry = Entry {
+        client: k,
+        tag: Table::get(table, k, Table::QUEUE + Table::TAG),
+        size: Table::natural(table, k, Table::QUEUE + Table::SIZE),
+        supplier: s,
+    };
     let port = Table::natural(table, k, Table::PORT);
-    let counts = entries::list_entry(first, second, n, port, k, tag, size, s);
-    balances::charge(table, costs::grains(size), s);
+    lists.list_entry(port, entry);
+    balances::charge(table, costs::grains(entry.size), s);
     queue::take_out(table, k);
-    counts
 }

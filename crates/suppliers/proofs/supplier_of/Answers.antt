@@ -1,10 +1,12 @@
-use Rattle.std.proofs.Common.{arith, ap, ◌∙◌}
-use Rattle.definitions.specs.Places.{size}
+use Rattle.std.proofs.Common.{arith}
 use Rattle.definitions.specs.Tick.{grains}
-use Rattle.balances.proofs.Limits.{grains_at}
+use Rattle.definitions.proofs.Cost.{cost_bounds}
+use Rattle.balances.proofs.Limits.{size_at_law}
 use Rattle.suppliers.proofs.supplier_of.Goals as goal
 
+pub grains-amount-requires : goal.grains-amount-requires
+grains-amount-requires c = omega (arith, size_at_law _ c.requires.0 _ c.requires.1)
+
 pub enough-requires : goal.enough-requires
-unfolding size
-enough-requires c =
-    (c.loop-node.invariant.low, omega (arith, c.grains-amount.ensures ∙ ap grains c.natural.ensures, grains_at _ c.requires.0 _ c.requires.1))
+unfolding grains
+enough-requires c = omega (arith, size_at_law _ c.requires.0 _ c.requires.1, cost_bounds c.natural.result)
