@@ -1,20 +1,20 @@
 // Join: a class or a client under a class.
 #![tactic(auto)]
 
-ghost use Rattle.std.specs.Prelude.{◌≡◌, ◌≤◌};
-ghost use Rattle.definitions.specs.Refusals.{last_refusal};
-ghost use Rattle.answers.specs.Answers.{told};
+ghost use Rattle.std.specs.Prelude.{◌≡◌};
+ghost use Rattle.answers.specs.Answers.{told, number_in};
 ghost use Rattle.definitions.specs.Calls.{join_table, join_answer};
 ghost use Rattle.treelaws.specs.Joins.{refusal_of, joined_by};
 ghost use Rattle.admission.specs.NewNodes.{asked, join_of, Writable};
 
 use admission::NewNode;
-use answers::{Answer, Refusal};
-use table::Table;
+use answers::Refusal;
+use table::{AccountTable, Table};
 
-// The number of the first cause that turns join back, or 0.
+// The first cause that turns join back.
+// Kept: the C interface needs it: these seven numbers are the arguments of its call, here and at join.
 fn join_refusal(
-    table: &[i64],
+    table: &AccountTable,
     node: i64,
     parent: i64,
     sort: i64,
@@ -22,24 +22,21 @@ fn join_refusal(
     share: i64,
     depth: i64,
     port: i64,
-) -> u64
-    ensures first { result ≡ refusal_of table.now (asked node parent sort kind share depth port) }
-    ensures small { result ≤ last_refusal }
+) -> Result<(), Refusal>
+    ensures first { number_in result ≡ refusal_of table.now (asked node parent sort kind share depth port) }
 {
-    if !order::in_order(table) {
-        return Refusal::NOT_IN_ORDER;
+    if !order::passes(table) {
+        return Err(Refusal::NotInOrder);
     }
     if !admission::join_limits(node, parent, sort, kind, share, depth, port) {
-        return Refusal::OUTSIDE_LIMITS;
+        return Err(Refusal::OutsideLimits);
     }
-    admission::tree_refusal(
-        table,
-        admission::new_node(node, parent, sort, kind, share, depth, port),
-    )
+    let new = admission::new_node(node, parent, sort, kind, share, depth, port);
+    admission::tree_refusal(table, new)
 }
 
 // The record of a joining node, with balance 0.
-fn write_node(table: &mut [i64], new: NewNode)
+fn write_node(table: &mut AccountTable, new: NewNode)
     requires { Writable table.old new }
     ensures { table.new ≡ joined_by table.old (join_of new) }
 {
@@ -64,18 +61,16 @@ pub fn join(
     share: i64,
     depth: i64,
     port: i64,
-) -> Answer
+) -> Result<i64, Refusal>
     ensures answer { told result ≡ join_answer table.old node parent sort kind share depth port }
     ensures table { table.new ≡ join_table table.old node parent sort kind share depth port }
 {
-    let number = join_refusal(table, node, parent, sort, kind, share, depth, port);
-    if number != 0 {
-        return answers::answered(number, 0);
-    }
-    write_node(
-        table,
-        admission::new_node(node, parent, sort, kind, share, depth, port),
-    );
-    renewing::renew_below(table, numbers::natural(parent) as usize);
-    Answer::Accepted(0)
+    let Some(table) = table.as_mut_array() else {
+        return Err(Refusal::NotInOrder);
+    };
+    join_refusal(table, node, parent, sort, kind, share, depth, port)?;
+    let new = admission::new_node(node, parent, sort, kind, share, depth, port);
+    write_node(table, new);
+    renewing::renew_below(table, new.parent);
+    Ok(0)
 }
