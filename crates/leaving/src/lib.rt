@@ -9,16 +9,16 @@ ghost use Rattle.definitions.specs.Limits.{table_length, nodes, last_node};
 ghost use Rattle.definitions.specs.Places.{balance, waiting};
 ghost use Rattle.definitions.specs.Tree.{tree_of, is_class, childless};
 ghost use Rattle.definitions.specs.Order.{in_order};
-ghost use Rattle.definitions.specs.Refusals.{last_refusal};
-ghost use Rattle.answers.specs.Answers.{told};
+ghost use Rattle.answers.specs.Answers.{number_in, told};
 ghost use Rattle.definitions.specs.Calls.{cleared, leave_refusal, leave_table, leave_answer};
 
-use answers::{Answer, Refusal};
-use table::Table;
+use answers::Refusal;
+use table::{AccountTable, Table};
 
 // Whether node k has children or waiting requests.
-fn is_busy(table: &[i64], k: usize) -> bool
-    requires { (length table.now ≡ table_length) × (k < nodes) }
+#[tactic(auto, unfolding(definitions::specs::Places::waiting))]
+fn is_busy(table: &AccountTable, k: usize) -> bool
+    requires { k < nodes }
     ensures { result ≡ (not (childless (tree_of table.now) k) || ltb 0 (waiting table.now k)) }
 {
     let has_children = !table::tree::childless(table, k);
@@ -27,8 +27,8 @@ fn is_busy(table: &[i64], k: usize) -> bool
 }
 
 // Whether node k is a class with a balance below 0.
-fn in_debt(table: &[i64], k: usize) -> bool
-    requires { (length table.now ≡ table_length) × (k < nodes) }
+fn in_debt(table: &AccountTable, k: usize) -> bool
+    requires { k < nodes }
     ensures { result ≡ every (is_class (tree_of table.now) k ∷ lt_z (balance table.now k) (pos 0) ∷ []) }
 {
     let class = table::tree::is_class(table, k);
@@ -36,44 +36,43 @@ fn in_debt(table: &[i64], k: usize) -> bool
     class & below
 }
 
-// The number of the first cause in the tree that turns leave of node k back, or 0.
-fn tree_refusal(table: &[i64], k: usize) -> u64
+// The first cause in the tree that turns leave of node k back.
+fn tree_refusal(table: &AccountTable, k: usize) -> Result<(), Refusal>
     requires { (in_order table.now ≡ true) × (within_ℤ 0 last_node (pos k) ≡ true) }
-    ensures first { result ≡ leave_refusal table.now (pos k) }
-    ensures small { result ≤ last_refusal }
+    ensures first { number_in result ≡ leave_refusal table.now (pos k) }
 {
     if !table::tree::there(table, k) {
-        return Refusal::NOT_THERE;
+        return Err(Refusal::NotThere);
     }
     if k == 0 {
-        return Refusal::WRONG_NODE;
+        return Err(Refusal::WrongNode);
     }
     if is_busy(table, k) {
-        return Refusal::NOT_EMPTY;
+        return Err(Refusal::NotEmpty);
     }
     if in_debt(table, k) {
-        return Refusal::IN_DEBT;
+        return Err(Refusal::InDebt);
     }
-    0
+    Ok(())
 }
 
-// The number of the first cause that turns leave back, or 0.
-fn leave_refusal(table: &[i64], node: i64) -> u64
-    ensures first { result ≡ leave_refusal table.now node }
-    ensures small { result ≤ last_refusal }
+// The first cause that turns leave back.
+fn leave_refusal(table: &AccountTable, node: i64) -> Result<(), Refusal>
+    ensures first { number_in result ≡ leave_refusal table.now node }
 {
-    if !order::in_order(table) {
-        return Refusal::NOT_IN_ORDER;
+    if !order::passes(table) {
+        return Err(Refusal::NotInOrder);
     }
     if !numbers::within(node, 0, Table::LAST_NODE) {
-        return Refusal::OUTSIDE_LIMITS;
+        return Err(Refusal::OutsideLimits);
     }
     tree_refusal(table, numbers::natural(node) as usize)
 }
 
 // Zeroes a node's record.
-fn clear_node(table: &mut [i64], k: usize)
-    requires { (length table.old ≡ table_length) × (k < nodes) }
+#[tactic(auto, using(numbers::proofs::Steps::for_loop), unfolding(definitions::specs::Calls::cleared))]
+fn clear_node(table: &mut AccountTable, k: usize)
+    requires { k < nodes }
     ensures { table.new ≡ cleared table.old k }
 {
     for p in 0..Table::RECORD {
@@ -82,17 +81,17 @@ fn clear_node(table: &mut [i64], k: usize)
 }
 
 // Leave. Document 01, "Calls".
-pub fn leave(table: &mut [i64], node: i64) -> Answer
+pub fn leave(table: &mut [i64], node: i64) -> Result<i64, Refusal>
     ensures answer { told result ≡ leave_answer table.old node }
     ensures table { table.new ≡ leave_table table.old node }
 {
-    let number = leave_refusal(table, node);
-    if number != 0 {
-        return answers::answered(number, 0);
-    }
+    let Some(table) = table.as_mut_array() else {
+        return Err(Refusal::NotInOrder);
+    };
+    leave_refusal(table, node)?;
     let k = numbers::natural(node) as usize;
     let parent = Table::natural(table, k, Table::PARENT) as usize;
     clear_node(table, k);
     renewing::renew_below(table, parent);
-    Answer::Accepted(0)
+    Ok(0)
 }
