@@ -8,6 +8,7 @@ ghost use Rattle.hourlaws.specs.Windows.{window_length, window_share_at, window_
 ghost use Rattle.windows.specs.Timed.{Timed};
 ghost use Rattle.cells.specs.Cells.{part_minutes, week_parts, cell_count, cell_at, cell_value, value_in, Filled, Ranged, reaches, clear_in, FilledBy, Marked, MarkedBy};
 
+use std::ops::Range;
 use table::Table;
 use windows::Window;
 
@@ -18,13 +19,13 @@ pub const PARTS: usize = 315;
 
 pub const CELLS: usize = Table::NODES * PART;
 
-// Writes v into the cells from `from` up to, but not including, `to`, and answers whether all of them were 0.
-fn fill(cells: &mut [u64; CELLS], from: usize, to: usize, v: u64) -> bool
-    requires { (from ≤ to) × (to ≤ cell_count) }
-    ensures { Filled cells.old cells.new from to v result }
+// Writes v into the cells of a range, and answers whether all of them were 0.
+fn fill(cells: &mut [u64; CELLS], at: Range<usize>, v: u64) -> bool
+    requires { (at.start ≤ at.end) × (at.end ≤ cell_count) }
+    ensures { Filled cells.old cells.new at.start at.end v result }
 {
     let mut clear = true;
-    for x in from..to {
+    for x in at.start..at.end {
         clear = clear & (cells[x] == 0);
         cells[x] = v;
     }
@@ -46,25 +47,16 @@ pub fn cell_at(k: usize, j: usize) -> usize
     k * PART + j
 }
 
-// The cells of the minutes that window i covers: from .. to - 1.
-#[derive(Clone, Copy)]
-struct Cover {
-    from: usize,
-    to: usize,
-}
-
-fn cover_of(windows: &[i64], i: usize, first: u64) -> Cover
+// The cells of the minutes that window i covers.
+fn cover_of(windows: &[i64], i: usize, first: u64) -> Range<usize>
     requires { Timed windows.now i }
-    ensures { Ranged windows.now i first result.from result.to }
+    ensures { Ranged windows.now i first result.start result.end }
 {
     let window = Window::at(windows, i);
     let k = window.node();
     let from = before(window.start(), first);
     let to = before(window.end(), first);
-    Cover {
-        from: cell_at(k, from),
-        to: cell_at(k, to),
-    }
+    cell_at(k, from)..cell_at(k, to)
 }
 
 // What window i writes into its cells: its share and one more.
@@ -82,7 +74,7 @@ fn fill_window(cells: &mut [u64; CELLS], windows: &[i64], i: usize, first: u64) 
     ensures { FilledBy windows.now first i cells.old cells.new result }
 {
     let at = cover_of(windows, i, first);
-    fill(cells, at.from, at.to, value_of(windows, i))
+    fill(cells, at, value_of(windows, i))
 }
 
 // Marks a minute, where it is one of the part that begins at `first`.
@@ -116,6 +108,7 @@ fn reaches(windows: &[i64], i: usize, first: u64) -> bool
 }
 
 // Fills the cells of window i and marks its start and end, where it reaches the part, and answers whether the cells that it covers were 0.
+// Kept: the new form is no plainer: every method of a struct of cells, turns and first would have to say which of the three it leaves.
 fn add_window(
     cells: &mut [u64; CELLS],
     turns: &mut [bool; PART],
