@@ -1,16 +1,15 @@
 // Change share.
 #![tactic(auto)]
 
-ghost use Rattle.std.specs.Prelude.{◌≡◌, true, ◌≤◌, ◌<◌, pos, length};
-ghost use Rattle.definitions.specs.Limits.{table_length, nodes, root, greatest_rate};
+ghost use Rattle.std.specs.Prelude.{◌≡◌, true, ◌≤◌, ◌<◌, pos};
+ghost use Rattle.definitions.specs.Limits.{nodes, root, greatest_rate};
 ghost use Rattle.definitions.specs.Tree.{tree_of, there};
 ghost use Rattle.definitions.specs.Order.{in_order};
-ghost use Rattle.definitions.specs.Refusals.{last_refusal};
-ghost use Rattle.answers.specs.Answers.{told};
+ghost use Rattle.answers.specs.Answers.{told, number_in};
 ghost use Rattle.definitions.specs.Calls.{change_share_limits, shares_above, stated_wrong, reshared, change_share_refusal, change_share_table, change_share_answer};
 
-use answers::{Answer, Refusal};
-use table::Table;
+use answers::Refusal;
+use table::{AccountTable, Table};
 
 fn change_share_limits(node: i64, kind: i64, share: i64) -> bool
     ensures { result ≡ change_share_limits node kind share }
@@ -23,7 +22,7 @@ fn change_share_limits(node: i64, kind: i64, share: i64) -> bool
 }
 
 // Whether the fixed shares beside node k would be above 10,000.
-fn shares_above(table: &[i64], k: usize, kind: u64, share: u64) -> bool
+fn shares_above(table: &AccountTable, k: usize, kind: u64, share: u64) -> bool
     requires { (in_order table.now ≡ true) × (k < nodes) × (there (tree_of table.now) k ≡ true) × (k ≡ root → ⊥) × (share ≤ greatest_rate) }
     ensures { result ≡ shares_above (reshared table.now k (pos kind) (pos share)) ((tree_of table.now).parent k) }
 {
@@ -33,7 +32,7 @@ fn shares_above(table: &[i64], k: usize, kind: u64, share: u64) -> bool
 }
 
 // Whether node k would be stated elsewhere than under the root, or the stated rates would be above the disk's.
-fn stated_wrong(table: &[i64], k: usize, kind: u64, share: u64) -> bool
+fn stated_wrong(table: &AccountTable, k: usize, kind: u64, share: u64) -> bool
     requires { (in_order table.now ≡ true) × (k < nodes) × (there (tree_of table.now) k ≡ true) × (k ≡ root → ⊥) × (share ≤ greatest_rate) }
     ensures { result ≡ stated_wrong (reshared table.now k (pos kind) (pos share)) }
 {
@@ -42,37 +41,40 @@ fn stated_wrong(table: &[i64], k: usize, kind: u64, share: u64) -> bool
     sums::stated_wrong(table, c, old, kind, share)
 }
 
-// The number of the first cause in the tree that turns change share of node k back, or 0.
-fn tree_refusal(table: &[i64], k: usize, kind: u64, share: u64) -> u64
+// The first cause in the tree that turns change share of node k back.
+fn tree_refusal(table: &AccountTable, k: usize, kind: u64, share: u64) -> Result<(), Refusal>
     requires { (in_order table.now ≡ true) × (change_share_limits (pos k) (pos kind) (pos share) ≡ true) }
-    ensures first { result ≡ change_share_refusal table.now (pos k) (pos kind) (pos share) }
-    ensures small { result ≤ last_refusal }
+    ensures first { number_in result ≡ change_share_refusal table.now (pos k) (pos kind) (pos share) }
 {
     if !table::tree::there(table, k) {
-        return Refusal::NOT_THERE;
+        return Err(Refusal::NotThere);
     }
     if k == 0 {
-        return Refusal::WRONG_NODE;
+        return Err(Refusal::WrongNode);
     }
     if shares_above(table, k, kind, share) {
-        return Refusal::SHARES_ABOVE;
+        return Err(Refusal::SharesAbove);
     }
     if stated_wrong(table, k, kind, share) {
-        return Refusal::STATED_WRONG;
+        return Err(Refusal::StatedWrong);
     }
-    0
+    Ok(())
 }
 
-// The number of the first cause that turns change share back, or 0.
-fn change_share_refusal(table: &[i64], node: i64, kind: i64, share: i64) -> u64
-    ensures first { result ≡ change_share_refusal table.now node kind share }
-    ensures small { result ≤ last_refusal }
+// The first cause that turns change share back.
+fn change_share_refusal(
+    table: &AccountTable,
+    node: i64,
+    kind: i64,
+    share: i64,
+) -> Result<(), Refusal>
+    ensures first { number_in result ≡ change_share_refusal table.now node kind share }
 {
-    if !order::in_order(table) {
-        return Refusal::NOT_IN_ORDER;
+    if !order::passes(table) {
+        return Err(Refusal::NotInOrder);
     }
     if !change_share_limits(node, kind, share) {
-        return Refusal::OUTSIDE_LIMITS;
+        return Err(Refusal::OutsideLimits);
     }
     tree_refusal(
         table,
@@ -83,8 +85,8 @@ fn change_share_refusal(table: &[i64], node: i64, kind: i64, share: i64) -> u64
 }
 
 // A node's kind and share.
-fn write_share(table: &mut [i64], k: usize, kind: i64, share: i64)
-    requires { (length table.old ≡ table_length) × (k < nodes) }
+fn write_share(table: &mut AccountTable, k: usize, kind: i64, share: i64)
+    requires { k < nodes }
     ensures { table.new ≡ reshared table.old k kind share }
 {
     Table::put(table, k, Table::KIND, kind);
@@ -92,17 +94,17 @@ fn write_share(table: &mut [i64], k: usize, kind: i64, share: i64)
 }
 
 // Change share. Document 01, "Calls".
-pub fn change_share(table: &mut [i64], node: i64, kind: i64, share: i64) -> Answer
+pub fn change_share(table: &mut [i64], node: i64, kind: i64, share: i64) -> Result<i64, Refusal>
     ensures answer { told result ≡ change_share_answer table.old node kind share }
     ensures table { table.new ≡ change_share_table table.old node kind share }
 {
-    let number = change_share_refusal(table, node, kind, share);
-    if number != 0 {
-        return answers::answered(number, 0);
-    }
+    let Some(table) = table.as_mut_array() else {
+        return Err(Refusal::NotInOrder);
+    };
+    change_share_refusal(table, node, kind, share)?;
     let k = numbers::natural(node) as usize;
     let parent = Table::natural(table, k, Table::PARENT) as usize;
     write_share(table, k, kind, share);
     renewing::renew_below(table, parent);
-    Answer::Accepted(0)
+    Ok(0)
 }
