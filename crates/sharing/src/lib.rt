@@ -4,11 +4,11 @@
 ghost use Rattle.std.specs.Prelude.{◌≡◌, true, ◌≤◌, ◌<◌, pos};
 ghost use Rattle.definitions.specs.Limits.{nodes, root, greatest_rate};
 ghost use Rattle.definitions.specs.Tree.{tree_of, there};
-ghost use Rattle.definitions.specs.Order.{in_order};
 ghost use Rattle.answers.specs.Answers.{told, number_in};
 ghost use Rattle.definitions.specs.Calls.{change_share_limits, shares_above, stated_wrong, reshared, change_share_refusal, change_share_table, change_share_answer};
 
 use answers::Refusal;
+use order::Ordered;
 use table::{AccountTable, Table};
 
 fn change_share_limits(node: i64, kind: i64, share: i64) -> bool
@@ -22,40 +22,42 @@ fn change_share_limits(node: i64, kind: i64, share: i64) -> bool
 }
 
 // Whether the fixed shares beside node k would be above 10,000.
-fn shares_above(table: &AccountTable, k: usize, kind: u64, share: u64) -> bool
-    requires { (in_order table.now ≡ true) × (k < nodes) × (there (tree_of table.now) k ≡ true) × (k ≡ root → ⊥) × (share ≤ greatest_rate) }
-    ensures { result ≡ shares_above (reshared table.now k (pos kind) (pos share)) ((tree_of table.now).parent k) }
+fn shares_above(ordered: Ordered<'_>, k: usize, kind: u64, share: u64) -> bool
+    requires { (k < nodes) × (there (tree_of ordered.table.now) k ≡ true) × (k ≡ root → ⊥) × (share ≤ greatest_rate) }
+    ensures { result ≡ shares_above (reshared ordered.entry.table.now k (pos kind) (pos share)) ((tree_of ordered.entry.table.now).parent k) }
 {
+    let table = ordered.table;
     let c = Table::natural(table, k, Table::PARENT) as usize;
     let old = sums::kind_share(table, Table::FIXED, k);
     sums::shares_above(table, c, old, kind, share)
 }
 
 // Whether node k would be stated elsewhere than under the root, or the stated rates would be above the disk's.
-fn stated_wrong(table: &AccountTable, k: usize, kind: u64, share: u64) -> bool
-    requires { (in_order table.now ≡ true) × (k < nodes) × (there (tree_of table.now) k ≡ true) × (k ≡ root → ⊥) × (share ≤ greatest_rate) }
-    ensures { result ≡ stated_wrong (reshared table.now k (pos kind) (pos share)) }
+fn stated_wrong(ordered: Ordered<'_>, k: usize, kind: u64, share: u64) -> bool
+    requires { (k < nodes) × (there (tree_of ordered.table.now) k ≡ true) × (k ≡ root → ⊥) × (share ≤ greatest_rate) }
+    ensures { result ≡ stated_wrong (reshared ordered.entry.table.now k (pos kind) (pos share)) }
 {
+    let table = ordered.table;
     let c = Table::natural(table, k, Table::PARENT) as usize;
     let old = sums::kind_share(table, Table::STATED, k);
     sums::stated_wrong(table, c, old, kind, share)
 }
 
 // The first cause in the tree that turns change share of node k back.
-fn tree_refusal(table: &AccountTable, k: usize, kind: u64, share: u64) -> Result<(), Refusal>
-    requires { (in_order table.now ≡ true) × (change_share_limits (pos k) (pos kind) (pos share) ≡ true) }
-    ensures first { number_in result ≡ change_share_refusal table.now (pos k) (pos kind) (pos share) }
+fn tree_refusal(ordered: Ordered<'_>, k: usize, kind: u64, share: u64) -> Result<(), Refusal>
+    requires { change_share_limits (pos k) (pos kind) (pos share) ≡ true }
+    ensures first { number_in result ≡ change_share_refusal ordered.entry.table.now (pos k) (pos kind) (pos share) }
 {
-    if !table::tree::there(table, k) {
+    if !table::tree::there(ordered.table, k) {
         return Err(Refusal::NotThere);
     }
     if k == 0 {
         return Err(Refusal::WrongNode);
     }
-    if shares_above(table, k, kind, share) {
+    if shares_above(ordered, k, kind, share) {
         return Err(Refusal::SharesAbove);
     }
-    if stated_wrong(table, k, kind, share) {
+    if stated_wrong(ordered, k, kind, share) {
         return Err(Refusal::StatedWrong);
     }
     Ok(())
@@ -70,14 +72,12 @@ fn change_share_refusal(
 ) -> Result<(), Refusal>
     ensures first { number_in result ≡ change_share_refusal table.now node kind share }
 {
-    if !order::passes(table) {
-        return Err(Refusal::NotInOrder);
-    }
+    let ordered = order::judge(table)?;
     if !change_share_limits(node, kind, share) {
         return Err(Refusal::OutsideLimits);
     }
     tree_refusal(
-        table,
+        ordered,
         numbers::natural(node) as usize,
         numbers::natural(kind),
         numbers::natural(share),

@@ -12,15 +12,15 @@ use Rattle.sharing.proofs.shares_above.Goals as goal
 pub shares_above-requires : goal.shares_above-requires
 unfolding tree_of
 shares_above-requires c =
-    let t = c.args.table.now in
-    let f = facts t c.requires.0 in (
+    let t = c.args.ordered.table.now in
+    let f = facts t c.args.ordered.in_order in (
       in_order_summable (Shares fixed) t f,
-      omega (arith, c.kind_share-old.ensures, own_fixed t c.args.k f c.requires.1 c.requires.2 c.requires.3, ap (fixed_sum (tree_of t)) c.natural-c.ensures),
-      c.requires.4,
+      omega (arith, c.kind_share-old.ensures, own_fixed t c.args.k f c.requires.0 c.requires.1 c.requires.2, ap (fixed_sum (tree_of t)) c.natural-c.ensures),
+      c.requires.3,
     )
 
 pub returns : goal.returns
 unfolding tree_of
 returns c =
     (rw (c.natural-c.ensures, c.kind_share-old.ensures) at c.shares_above.ensures)
-    ∙ sym (shares_with _ _ (facts _ c.requires.0) c.requires.1 c.requires.2 c.requires.3 c.args.kind c.args.share)
+    ∙ sym (shares_with _ _ (facts _ c.args.ordered.in_order) c.requires.0 c.requires.1 c.requires.2 c.args.kind c.args.share)

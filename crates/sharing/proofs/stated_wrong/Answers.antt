@@ -11,16 +11,16 @@ use Rattle.sharing.proofs.stated_wrong.Goals as goal
 
 pub stated_wrong-requires : goal.stated_wrong-requires
 stated_wrong-requires c =
-    let t = c.args.table.now in
-    let f = facts t c.requires.0 in (
+    let t = c.args.ordered.table.now in
+    let f = facts t c.args.ordered.in_order in (
       in_order_summable (Shares stated) t f,
-      omega (arith, c.kind_share-old.ensures, own_stated t c.args.k f c.requires.1 c.requires.2 c.requires.3),
-      c.requires.4,
+      omega (arith, c.kind_share-old.ensures, own_stated t c.args.k f c.requires.0 c.requires.1 c.requires.2),
+      c.requires.3,
     )
 
 pub returns : goal.returns
 unfolding tree_of
 returns c =
     c.stated_wrong.ensures
-    ∙ ap₂ (λ (p old : ℕ). stated_wrong_with c.args.table.now p old c.args.kind c.args.share) c.natural-c.ensures c.kind_share-old.ensures
-    ∙ sym (stated_with _ _ (facts _ c.requires.0) c.requires.1 c.requires.2 c.requires.3 c.args.kind c.args.share)
+    ∙ ap₂ (λ (p old : ℕ). stated_wrong_with c.args.ordered.table.now p old c.args.kind c.args.share) c.natural-c.ensures c.kind_share-old.ensures
+    ∙ sym (stated_with _ _ (facts _ c.args.ordered.in_order) c.requires.0 c.requires.1 c.requires.2 c.args.kind c.args.share)

@@ -22,7 +22,7 @@ unfolding change_share_limits plus
 small k kind share h = omega (arith, (within_parts 1 (share_limit kind) (pos share) (head_holds _ _ (rest_hold _ _ (rest_hold _ _ h)))).2, limit_le kind)
 
 pub there-requires : goal.there-requires
-there-requires c = low _ _ _ c.requires.1
+there-requires c = low _ _ _ c.requires
 
 pub returns-then-not-there : goal.returns-then-not-there
 unfolding number_in change_share_refusal change_share_limits plus
@@ -33,14 +33,14 @@ unfolding number_in change_share_refusal change_share_limits plus
 returns-then-k-eq0 c = record { first = found _ _ (search causes) }
 
 pub shares_above-requires : goal.shares_above-requires
-shares_above-requires c = (c.requires.0, low _ _ _ c.requires.1, sym c.there.ensures ∙ c.if-not-there.false, c.if-k-eq0.false, small _ _ _ c.requires.1)
+shares_above-requires c = (low _ _ _ c.requires, sym c.there.ensures ∙ c.if-not-there.false, c.if-k-eq0.false, small _ _ _ c.requires)
 
 pub returns-then-shares_above : goal.returns-then-shares_above
 unfolding number_in change_share_refusal change_share_limits plus
 returns-then-shares_above c = record { first = found _ _ (search causes) }
 
 pub stated_wrong-requires : goal.stated_wrong-requires
-stated_wrong-requires c = (c.requires.0, low _ _ _ c.requires.1, sym c.there.ensures ∙ c.if-not-there.false, c.if-k-eq0.false, small _ _ _ c.requires.1)
+stated_wrong-requires c = (low _ _ _ c.requires, sym c.there.ensures ∙ c.if-not-there.false, c.if-k-eq0.false, small _ _ _ c.requires)
 
 pub returns-then-stated_wrong : goal.returns-then-stated_wrong
 unfolding number_in change_share_refusal change_share_limits plus
