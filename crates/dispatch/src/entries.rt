@@ -3,6 +3,7 @@ ghost use Rattle.std.specs.Prelude.{◌≡◌, ◌+◌, ◌*◌, ◌<◌, ◌≤
 ghost use Rattle.definitions.specs.Limits.{nodes, entry_length, first_port, second_port};
 ghost use Rattle.ticklaws.specs.Ports.{gets};
 ghost use Rattle.dispatch.specs.Entries.{entered, entered_on};
+ghost use Rattle.dispatch.specs.Lists.{SameLists};
 
 use table::{PortCounts, Table};
 
@@ -16,6 +17,7 @@ pub struct Entry {
 }
 
 // The dispatch lists of the two ports, and how many entries they have.
+#[derive(Drop)]
 pub struct Lists<'a> {
     pub first: &'a mut [i64],
     pub second: &'a mut [i64],
@@ -43,7 +45,7 @@ impl Lists<'_> {
         ensures first { self.new.first.now ≡ entered_on first_port port self.old.first.now self.old.counts.first (pos entry.client) entry.tag (pos entry.size) (pos entry.supplier) }
         ensures second { self.new.second.now ≡ entered_on second_port port self.old.second.now self.old.counts.second (pos entry.client) entry.tag (pos entry.size) (pos entry.supplier) }
         ensures counts { (self.new.counts.first ≡ self.old.counts.first + gets first_port port) × (self.new.counts.second ≡ self.old.counts.second + gets second_port port) }
-        ensures same { (self.new.first.ghost_name ≡ self.old.first.ghost_name) × (self.new.second.ghost_name ≡ self.old.second.ghost_name) }
+        ensures same { SameLists self.old self.new }
     {
         if port == Table::FIRST_PORT {
             write_entry(self.first, self.counts.first, entry);

@@ -7,6 +7,7 @@ ghost use Rattle.definitions.specs.Places.{waiting, port};
 ghost use Rattle.ticklaws.specs.Ports.{gets};
 ghost use Rattle.balances.specs.Within.{Within};
 ghost use Rattle.dispatch.specs.Entries.{table_after, list_after};
+ghost use Rattle.dispatch.specs.Lists.{SameLists};
 
 pub mod entries;
 mod queue;
@@ -22,7 +23,7 @@ pub fn dispatch(table: &mut AccountTable, lists: &mut Lists, k: usize, s: usize)
     ensures first { lists.new.first.now ≡ list_after first_port lists.old.first.now lists.old.counts.first table.old k s }
     ensures second { lists.new.second.now ≡ list_after second_port lists.old.second.now lists.old.counts.second table.old k s }
     ensures counts { (lists.new.counts.first ≡ lists.old.counts.first + gets first_port (port table.old k)) × (lists.new.counts.second ≡ lists.old.counts.second + gets second_port (port table.old k)) }
-    ensures same { (lists.new.first.ghost_name ≡ lists.old.first.ghost_name) × (lists.new.second.ghost_name ≡ lists.old.second.ghost_name) }
+    ensures same { SameLists lists.old lists.new }
 {
     let entry = Entry {
         client: k,

@@ -1,7 +1,7 @@
 -- Step 2. Every table that it passes through is within the limits, and each dispatch takes one request out.
 use Prim.Native.Nat.{ℕ, zero, suc, ◌+◌, ◌^◌, ◌≤◌, ◌<◌}
 use mathlib.Core.Path.{◌≡◌, refl, sym, ap, subst, ◌∙◌}
-use mathlib.Core.Bool.{true, false, ◌&&◌}
+use mathlib.Core.Bool.{Bool, true, false, ◌&&◌}
 use mathlib.Core.List.{List, []}
 use native.Mathlib.Omega.{arith}
 use borrow.Author.Tests.{lt-ltb, le-ltb}
@@ -12,7 +12,7 @@ use Rattle.numbers.proofs.Tests.{by_test}
 use Rattle.numbers.proofs.Every.{head_fails, every_two}
 use Rattle.numbers.proofs.Parts.{zarith, add_parts, one_is_zero, plus_pos}
 use Rattle.numbers.proofs.Steps.{for_keeps}
-use Rattle.definitions.specs.Limits.{nodes, waiting_at}
+use Rattle.definitions.specs.Limits.{nodes, waiting_at, queue_at, size_at}
 use Rattle.definitions.specs.Places.{place, rate, balance, waiting, port, size}
 use Rattle.definitions.specs.Tree.{tree_of, there}
 use Rattle.definitions.specs.Tick.{State, grains, enough, grown, dispatched, ready, served, all_waiting, port_waiting}
@@ -51,14 +51,18 @@ grown_credit t f k hk =
     (λ h. omega (arith, ap plus ((grown_reached t f).vacant.zero k hk h), plus_pos 0))
 
 -- Whether a client is ready: not where nothing waits, and else by its balance.
-module _ (t : List ℤ) (k : ℕ) where
-  pub not_waiting : plus (place t k waiting_at) ≡ 0 → false ≡ ready t k
+module _ (t : List ℤ) (k w : ℕ) (waits : w ≡ plus (place t k waiting_at)) where
+  pub not_waiting : w ≡ 0 → false ≡ ready t k
   unfolding ready waiting
   not_waiting e = sym (head_fails _ _ (le-ltb 0 (waiting t k) (omega arith)))
 
-  pub is_waiting : (plus (place t k waiting_at) ≡ 0 → ⊥) → ready t k ≡ enough t (grains (size t k 0)) k
-  unfolding ready waiting
-  is_waiting w = every_two _ _ ∙ ap (λ b. b && enough t (grains (size t k 0)) k) (lt-ltb 0 (waiting t k) (omega arith))
+  pub is_waiting : (w ≡ 0 → ⊥) → (n a : ℕ) (r : Bool) → n ≡ plus (place t k (queue_at + size_at)) → a ≡ grains n → r ≡ enough t a k → r ≡ ready t k
+  unfolding ready waiting size
+  is_waiting some n a r e f g =
+      rw (g, f, e) (sym (every_two _ _ ∙ ap (λ b. b && enough t (grains (plus (place t k (queue_at + size_at)))) k) (lt-ltb 0 (waiting t k) (omega arith))))
+
+-- What the test whether a client is ready needs of these.
+pub ruleset readiness = (not_waiting, is_waiting)
 
 -- One dispatch of a ready client.
 module _ (u : List ℤ) (w : Way u) (k : ℕ) (hk : k < nodes) (e : ready u k ≡ true) where

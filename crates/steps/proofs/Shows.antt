@@ -8,6 +8,8 @@ use borrow.Author.Tests.{eqb-true, eqb-false}
 use lib.Dec.{eqb}
 use lib.ListN.{length, drop, length-append, length-drop}
 use lib.IntN.{ℤ, pos}
+use Rattle.numbers.specs.Below.{for_below}
+use Rattle.numbers.proofs.Steps.{for_next}
 use Rattle.numbers.proofs.Tests.{by_test, cond_true, cond_false}
 use Rattle.definitions.specs.Limits.{entry_length, first_port, second_port}
 use Rattle.definitions.specs.Places.{port, tag, size}
@@ -18,6 +20,7 @@ use Rattle.ticklaws.proofs.Dispatch.{dispatch_entry}
 use Rattle.table.specs.declared.PortCounts.{PortCounts}
 use Rattle.ticklaws.specs.Ports.{gets}
 use Rattle.dispatch.specs.Entries.{entered, table_after, entered_on, list_after}
+use Rattle.dispatch.proofs.Gets.{length_list_after}
 use Rattle.dispatch.proofs.Listed.{listed_entry, next_table}
 use Rattle.steps.specs.Steps.{Room, Lists, Shows, Follows}
 
@@ -90,21 +93,12 @@ entry_room On step t k s turn p l n room = omega (arith, room, turn.fewer p)
 record Listed (p : ℕ) (t : List ℤ) (k s : ℕ) (l : List ℤ) (n : ℕ) (m : List ℤ) (n' : ℕ) : Type 0 where
   list : m ≡ list_after p l n t k s
   count : n' ≡ n + gets p (port t k)
-  long : length m ≡ length l
-
--- What `dispatch::dispatch` promises, in its own order.
-abbrev pub Made : List ℤ → ℕ → ℕ → List ℤ → List ℤ → PortCounts → List ℤ → List ℤ → List ℤ → PortCounts → Type 0
-Made t k s a b n u a' b' n' =
-    (u ≡ table_after t k s)
-    × ((a' ≡ list_after first_port a n.first t k s)
-    × ((b' ≡ list_after second_port b n.second t k s)
-    × ((n'.first ≡ n.first + gets first_port (port t k)) × (n'.second ≡ n.second + gets second_port (port t k)))))
 
 -- The list of a port has room again.
 room_next : (On : List ℤ → Type 0) (step : State → State) (t : List ℤ) (k s : ℕ) → Turn On step t k s → (p : ℕ) (l m : List ℤ) (n n' : ℕ) → Room p t l n → Listed p t k s l n m n' → (u : List ℤ) → u ≡ table_after t k s → Room p u m n'
 unfolding Room
 room_next On step t k s turn p l m n n' room made u e =
-    omega (arith, room, turn.fewer p, made.count, made.long, ap (λ (v : List ℤ). port_waiting v p) e)
+    omega (arith, room, turn.fewer p, made.count, ap length made.list, length_list_after p l n t k s, ap (λ (v : List ℤ). port_waiting v p) e)
 
 lists_next : (On : List ℤ → Type 0) (step : State → State) (t : List ℤ) (k s : ℕ) → Turn On step t k s → (port_of : ℕ → ℕ) (p : ℕ) (from : List ℤ) (st : State) (l m : List ℤ) (n n' : ℕ) → t ≡ st.table → whole st.entries → port t k ≡ port_of k → Lists port_of p from st l n → Listed p t k s l n m n' → Lists port_of p from (dispatched st k s) m n'
 unfolding Room
@@ -128,6 +122,19 @@ shows_next On step t k s turn port_of from₀ from₁ st a b a' b' n n' h first 
       second = lists_next On step t k s turn port_of second_port from₁ st b b' n.second n'.second h.table w (h.ports k) h.second second;
     }
 
+-- No step, and a step after another.
+module _ (t a b : List ℤ) (n : PortCounts) where
+  pub follows_none : (step : ℕ → State → State) → Follows (for_below 0 step) t a b n t a b n
+  unfolding for_below
+  follows_none step = record { shows = λ port_of from₀ from₁ st h. h }
+
+  pub follows_then : (step : ℕ → State → State) (k : ℕ) (u a' b' : List ℤ) (m : PortCounts) → Follows (for_below k step) t a b n u a' b' m → (v a″ b″ : List ℤ) (r : PortCounts) → Follows (step k) u a' b' m v a″ b″ r → Follows (for_below (k + 1) step) t a b n v a″ b″ r
+  follows_then step k u a' b' m f v a″ b″ r g =
+      record { shows = λ port_of from₀ from₁ st h. rw (for_next k step st) (g.shows port_of from₀ from₁ (for_below k step st) (f.shows port_of from₀ from₁ st h)) }
+
+-- What a loop of steps needs of these.
+pub ruleset following = (follows_none, follows_then)
+
 -- A loop of dispatches that makes a step, on its way: the table is one that the step passes through, the lists have room for all that
 -- wait, and what is left of the step from here amounts to the whole of it from the start.
 pub record Going (On : List ℤ → Type 0) (step : State → State) (t₀ a₀ b₀ : List ℤ) (n₀ : PortCounts) (t a b : List ℤ) (n : PortCounts) : Type 0 where
@@ -140,11 +147,10 @@ module _ (On : List ℤ → Type 0) (step : State → State) (t₀ a₀ b₀ : L
   pub going_first : On t₀ → Room first_port t₀ a₀ n₀.first → Room second_port t₀ b₀ n₀.second → Going On step t₀ a₀ b₀ n₀ t₀ a₀ b₀ n₀
   going_first on first second = record { on = on; first = first; second = second; left = λ t' a' b' n' f. f }
 
-  pub going_next : (t a b : List ℤ) (n : PortCounts) (k s : ℕ) → Going On step t₀ a₀ b₀ n₀ t a b n → Turn On step t k s → (u a' b' : List ℤ) (n' : PortCounts) → Made t k s a b n u a' b' n' → length a' ≡ length a → length b' ≡ length b → Going On step t₀ a₀ b₀ n₀ u a' b' n'
-  going_next t a b n k s g turn u a' b' n' made long₀ long₁ =
-      let e = made.0 in
-      let first : Listed first_port t k s a n.first a' n'.first = record { list = made.1.0; count = made.1.1.1.0; long = long₀ } in
-      let second : Listed second_port t k s b n.second b' n'.second = record { list = made.1.1.0; count = made.1.1.1.1; long = long₁ } in
+  pub going_next : (t a b : List ℤ) (n : PortCounts) (k s : ℕ) → Going On step t₀ a₀ b₀ n₀ t a b n → Turn On step t k s → (u a' b' : List ℤ) (n' : PortCounts) → u ≡ table_after t k s → a' ≡ list_after first_port a n.first t k s → b' ≡ list_after second_port b n.second t k s → (n'.first ≡ n.first + gets first_port (port t k)) × (n'.second ≡ n.second + gets second_port (port t k)) → Going On step t₀ a₀ b₀ n₀ u a' b' n'
+  going_next t a b n k s g turn u a' b' n' e made₀ made₁ counts =
+      let first : Listed first_port t k s a n.first a' n'.first = record { list = made₀; count = counts.0 } in
+      let second : Listed second_port t k s b n.second b' n'.second = record { list = made₁; count = counts.1 } in
       record {
         on = rw e turn.on;
         first = room_next On step t k s turn first_port a a' n.first n'.first g.first first u e;

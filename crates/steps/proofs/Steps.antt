@@ -1,11 +1,12 @@
 -- The four steps in a row: what the table and the lists show after each, where the table came in order.
-use Prim.Native.Nat.{ℕ}
+use Prim.Native.Nat.{ℕ, ◌*◌, ◌≤◌}
 use mathlib.Core.Path.{◌≡◌, ap, subst, fun_ext, ◌∙◌}
 use mathlib.Core.Bool.{true}
-use mathlib.Core.List.{List, []}
+use mathlib.Core.List.{List}
 use native.Mathlib.Omega.{arith}
+use lib.ListN.{length}
 use lib.IntN.{ℤ}
-use Rattle.definitions.specs.Limits.{nodes, first_port, second_port}
+use Rattle.definitions.specs.Limits.{nodes, entry_length, first_port, second_port}
 use Rattle.definitions.specs.Places.{port}
 use Rattle.definitions.specs.Order.{in_order}
 use Rattle.definitions.specs.Tick.{grown, cut, served_all, port_waiting, step_two, step_three, ticked}
@@ -16,6 +17,7 @@ use Rattle.ticklaws.proofs.Cut.{cut_swept}
 use Rattle.ticklaws.proofs.Ports.{only_ports, only_port_waiting}
 use Rattle.table.specs.declared.PortCounts.{PortCounts}
 use Rattle.steps.specs.Steps.{Serving, grew, Lending, was_cut, Room, Lists, Shows, Follows, serving, lending}
+use Rattle.steps.proofs.Shows.{shows_first}
 use Rattle.steps.proofs.Serving.{passed, serving_within}
 
 -- After step 1 of table t.
@@ -33,6 +35,11 @@ one t u h e =
       waiting = rw e (λ p. only_port_waiting t (grown t) p only);
     }
 
+-- The lists have room for all that wait then.
+pub one_room : (t u : List ℤ) → One t u → (list : List ℤ) (p : ℕ) → entry_length * port_waiting t p ≤ length list → Room p u list 0
+unfolding Room
+one_room t u o list p h = omega (arith, o.waiting p, h)
+
 -- After steps 2 and 3 of table t with the lists a and b: table u and lists v and w, with n entries.
 pub record Two (t a b u v w : List ℤ) (n : PortCounts) : Type 0 where
   pub on : Serving u
@@ -42,12 +49,14 @@ pub record Three (t a b u v w : List ℤ) (n : PortCounts) : Type 0 where
   pub on : Lending u
   pub shows : Shows (port t) a b (step_three t) u v w n
 
-pub two : (t a b g u v w : List ℤ) (n : PortCounts) → One t g → g ≡ grown t → Shows (port g) a b (served_all (record { table = g; entries = [] })) u v w n → Two t a b u v w n
+pub two : (t a b g u v w : List ℤ) (n m : PortCounts) → in_order t ≡ true → g ≡ grown t → n.first ≡ 0 → n.second ≡ 0 → entry_length * port_waiting t first_port ≤ length a → entry_length * port_waiting t second_port ≤ length b → Follows served_all g a b n u v w m → Two t a b u v w m
 unfolding step_two served_all serving
-two t a b g u v w n o e h =
+two t a b g u v w n m i e none₀ none₁ room₀ room₁ f =
+    let o = one t g i e in
+    let h = f.shows (port g) a b _ (shows_first g a b n none₀ none₁ (one_room t g o a first_port room₀) (one_room t g o b second_port room₁)) in
     record {
       on = passed g o.on nodes (omega arith) u h.table;
-      shows = subst (λ (f : ℕ → ℕ). Shows f a b (step_two t) u v w n) (fun_ext o.ports) (rw (← e) h);
+      shows = subst (λ (f : ℕ → ℕ). Shows f a b (step_two t) u v w m) (fun_ext o.ports) (rw (← e) h);
     }
 
 pub three : (t a b u v w x : List ℤ) (n : PortCounts) → Two t a b u v w n → x ≡ cut u → Three t a b x v w n

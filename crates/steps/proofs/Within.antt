@@ -11,7 +11,7 @@ use Rattle.numbers.specs.Whole.{plus, minus, within_ℤ}
 use Rattle.numbers.proofs.Tests.{by_test}
 use Rattle.numbers.proofs.Parts.{zarith, plus_pos, minus_pos}
 use Rattle.definitions.specs.Limits.{nodes, last_node, parent_at, level_at, depth_at, balance_at, waiting_at, last_level, greatest_depth, most_waiting}
-use Rattle.definitions.specs.Places.{place, rate, balance, waiting, port, size}
+use Rattle.definitions.specs.Places.{place, rate, balance, waiting, size}
 use Rattle.definitions.specs.Tree.{tree_of, there}
 use Rattle.definitions.specs.Order.{in_order}
 use Rattle.definitions.proofs.Facts.{InOrder, facts}
