@@ -25,9 +25,7 @@ fn join_refusal(
 ) -> Result<(), Refusal>
     ensures first { number_in result ≡ refusal_of table.now (asked node parent sort kind share depth port) }
 {
-    if !order::passes(table) {
-        return Err(Refusal::NotInOrder);
-    }
+    order::judge(table)?;
     if !admission::join_limits(node, parent, sort, kind, share, depth, port) {
         return Err(Refusal::OutsideLimits);
     }
