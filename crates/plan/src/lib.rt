@@ -13,5 +13,5 @@ pub use writing::write;
 pub fn hds_plan_check(contents: &[u8]) -> u32
     ensures { result ≡ check_answer contents.now }
 {
-    reading::check(contents) as u32
+    answers::number_told(reading::check(contents)) as u32
 }

@@ -1,6 +1,6 @@
 use Rattle.std.proofs.Common.{◌≡◌, ℕ, ◌+◌, List, ℤ, sym, ap, ◌∙◌, arith}
 use Rattle.std.proofs.lemmas.Result.{err_from_is_err_and}
-use Rattle.answers.specs.Answers.{number_of, number_in}
+use Rattle.answers.specs.Answers.{number_in}
 use Rattle.answers.proofs.Answers.{numbered, err_number, ok_number}
 use Rattle.planformat.specs.Format.{Plan, plan_in}
 use Rattle.planlaws.specs.Reading.{entry_refusal, after_entry, after_entries, entries_refusal}

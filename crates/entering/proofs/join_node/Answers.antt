@@ -1,10 +1,10 @@
 -- The numbers of the node are given to join as they are.
-use Rattle.std.proofs.Common.{◌≡◌, sym, ap, ◌∙◌, rules}
+use Rattle.std.proofs.Common.{sym, ap, ◌∙◌}
 use borrow.Author.Rules.{sfits_of}
 use mir.Syntax.{w64}
 use mir.ValLaws.{to_z-of_z}
 use Rattle.definitions.specs.Calls.{join_answer}
-use Rattle.planformat.specs.Nodes.{share_in, share_kind_in, held_by, entry_by}
+use Rattle.planformat.specs.Nodes.{share_in, share_kind_in, entry_by}
 use Rattle.planformat.proofs.EachKind.{sort_in_kind, share_in_kind}
 use Rattle.planlaws.proofs.Accepted.{join_by}
 use Rattle.entering.proofs.Told.{number_of_told}

@@ -1,13 +1,11 @@
 -- Stage by stage, the first refusal counts.
-use Rattle.std.proofs.Common.{◌≡◌, ℕ, List, ℤ, pos, Bor, sym, ap, ◌∙◌, arith}
+use Rattle.std.proofs.Common.{◌≡◌, ℕ, List, ℤ, sym, ◌∙◌, arith}
 use Rattle.std.proofs.lemmas.Result.{err_from_is_err_and}
-use Rattle.definitions.specs.Calls.{open_refusal}
 use Rattle.answers.specs.declared.Refusal.{Refusal}
 use Rattle.answers.specs.Answers.{number_of, number_in}
 use Rattle.answers.proofs.Answers.{numbered, err_number, ok_number}
-use Rattle.definitions.specs.Tree.{tree_of}
 use Rattle.planformat.specs.Format.{count_in, plan_in}
-use Rattle.planlaws.specs.Reading.{opened_for, joined_for, entries_refusal, rising, plan_refusal}
+use Rattle.planlaws.specs.Reading.{opened_for, entries_refusal}
 use Rattle.planlaws.proofs.Accepted.{accepted_plan}
 use Rattle.planlaws.proofs.Stages.{plan_count, wrong_form, wrong_open, wrong_join, wrong_order, joined_for_law, joined_entries}
 use Rattle.reading.proofs.build.Goals as goal

@@ -1,11 +1,11 @@
 -- Rate and depth stand in the head.
-use Rattle.std.proofs.Common.{◌≡◌, ℕ, ◌+◌, ◌≤◌, length, pos, ap, ◌∙◌, arith}
+use Rattle.std.proofs.Common.{ℕ, ◌+◌, pos, ap, ◌∙◌, arith}
 use borrow.Author.Rules.{sfits_of}
 use mir.Syntax.{w64}
 use mir.ValLaws.{to_z-of_z}
 use Rattle.definitions.specs.Calls.{open_answer}
 use Rattle.planformat.specs.Bytes.{le4}
-use Rattle.planformat.specs.Format.{start_of, disk_rate_at, root_depth_at, head_length, plan_in}
+use Rattle.planformat.specs.Format.{start_of, disk_rate_at, root_depth_at, plan_in}
 use Rattle.planlaws.specs.Reading.{opened_for}
 use Rattle.view.proofs.Viewed.{headed}
 use Rattle.entering.proofs.Told.{number_of_told}

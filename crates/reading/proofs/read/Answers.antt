@@ -1,5 +1,5 @@
 -- An accepted plan is built in a table of its own and copied.
-use Rattle.std.proofs.Common.{◌≡◌, ℕ, List, ℤ, pos, Ok, length, sym, ap, ◌∙◌, arith}
+use Rattle.std.proofs.Common.{◌≡◌, ℕ, List, ℤ, pos, Ok, length, sym, ap, ◌∙◌}
 use Rattle.std.proofs.lemmas.Result.{err_from_is_err_and}
 use lib.ListN.{length-replicate}
 use borrow.Author.Rules.{sfits_of}
@@ -8,7 +8,7 @@ use mir.ValLaws.{to_z-of_z}
 use Rattle.definitions.specs.Limits.{table_length}
 use Rattle.definitions.specs.Calls.{blank}
 use Rattle.answers.specs.declared.Refusal.TheVariants.{NotInOrder}
-use Rattle.answers.specs.Answers.{number_of, told}
+use Rattle.answers.specs.Answers.{told}
 use Rattle.answers.proofs.Answers.{err_number, ok_number, refused_tells, refused_keeps, accepted_tells}
 use Rattle.planformat.specs.Format.{edition_number, plan_in}
 use Rattle.planlaws.specs.Reading.{joined_for, plan_refusal, plan_table, plan_answer, check_answer}
