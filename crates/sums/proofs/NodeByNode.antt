@@ -160,3 +160,16 @@ module _ (tree : Tree) where
                   (λ child. other_share tree kind k (λ e. ne (omega (arith, (child_facts tree c k child).parent))))
             ];
       }
+
+  -- A node that is there: the sum of its kind under its class has room for its share, and has it once it is added.
+  module _ (k : ℕ) (s : Shareable tree) (above : 0 < k) (low : k < nodes) (here : there tree k ≡ true) (a n : ℕ) (sums : List ℕ) (f : ShareSums tree k sums) (at : a ≡ sum_at (tree.parent k) (tree.kind k)) (amount : n ≡ tree.share k) where
+    below : k ≡ 0 → ⊥
+    below e = omega arith
+
+    pub share_room : get_or sums a 0 + n < 2 ^ 64
+    share_room =
+        omega (arith, s.small k low here below, share_sums_small s k (omega arith) sums f (tree.parent k) (tree.kind k) a (s.parent k low here below) (s.kind k low here below) at)
+
+    pub share_added : ShareSums tree (k + 1) (set sums a (get_or sums a 0 + n))
+    share_added =
+        share_sums_next sums k (tree.parent k) (tree.kind k) a n here below refl (s.parent k low here below) refl (s.kind k low here below) at amount f

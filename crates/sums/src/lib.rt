@@ -1,9 +1,9 @@
 // Sums over the children of a class.
 #![tactic(auto)]
 
-ghost use Rattle.std.specs.Prelude.{◌≡◌, cond, ◌+◌, ◌-◌, ◌^◌, ◌≤◌, ◌<◌, min, get_or, set, eqb, ltb};
+ghost use Rattle.std.specs.Prelude.{◌≡◌, cond, ◌+◌, ◌-◌, ◌^◌, ◌≤◌, ◌<◌, min, get_or, set, eqb, ltb, true, false, MatchOption};
 ghost use Rattle.definitions.specs.Limits.{nodes, root, kinds, fixed, weighted, stated, whole_share, greatest_rate};
-ghost use Rattle.definitions.specs.Tree.{tree_of, child_of, count_if, sum_under};
+ghost use Rattle.definitions.specs.Tree.{tree_of, there, child_of, count_if, sum_under};
 ghost use Rattle.definitions.specs.Rates.{kind_share, kind_sum, fixed_sum, stated_sum};
 ghost use Rattle.treelaws.specs.Stated.{stated_wrong_with};
 ghost use Rattle.sums.specs.Sums.{term, Summable, SumsBelow, Shareable, share_sums, sum_at, ShareSums};
@@ -171,18 +171,28 @@ pub fn sum_at(c: usize, kind: usize) -> usize
     kind * Table::NODES + c
 }
 
+// Where the sum of node k's kind under its class stands, where the node is there.
+#[tactic(auto, unfolding(definitions::specs::Tree::tree_of))]
+pub fn sum_of(table: &AccountTable, k: usize) -> Option<usize>
+    requires { (k < nodes) × (there (tree_of table.now) k ≡ true → (tree_of table.now).parent k < nodes) × (there (tree_of table.now) k ≡ true → (tree_of table.now).kind k < kinds) }
+    ensures { MatchOption result (there (tree_of table.now) k ≡ false) (λ at. (there (tree_of table.now) k ≡ true) × (at ≡ sum_at ((tree_of table.now).parent k) ((tree_of table.now).kind k)) × (at < share_sums)) }
+{
+    if !tree::there(table, k) {
+        return None;
+    }
+    let c = Table::natural(table, k, Table::PARENT) as usize;
+    let kind = Table::natural(table, k, Table::KIND) as usize;
+    Some(sum_at(c, kind))
+}
+
 // Adds the share of node k, where it is there, to the sum of its kind under its class.
 pub fn add_share(table: &AccountTable, shares: &mut [u64; Table::SHARE_SUMS], k: usize)
     requires { Shareable (tree_of table.now) × (0 < k) × (k < nodes) × ShareSums (tree_of table.now) k shares.old }
     ensures { ShareSums (tree_of table.now) (k + 1) shares.new }
 {
-    if !tree::there(table, k) {
-        return;
+    if let Some(at) = sum_of(table, k) {
+        shares[at] += Table::natural(table, k, Table::SHARE);
     }
-    let c = Table::natural(table, k, Table::PARENT) as usize;
-    let kind = Table::natural(table, k, Table::KIND) as usize;
-    let at = sum_at(c, kind);
-    shares[at] += Table::natural(table, k, Table::SHARE);
 }
 
 // The sums of the shares of each kind under all classes, in one pass from sums of 0. The root is nobody's child.
