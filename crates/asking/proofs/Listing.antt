@@ -1,15 +1,14 @@
 -- The clients of a tree by rising number: what a loop adds to the list, and what stands in it.
 use Prim.Native.Nat.{ℕ, zero, suc, ◌+◌, ◌%◌, ◌≤◌, ◌<◌}
-use mathlib.Core.Path.{◌≡◌, sym, ap, ◌∙◌}
+use mathlib.Core.Path.{◌≡◌, refl, sym, ap, ◌∙◌}
 use mathlib.Core.Bool.{true, false}
 use mathlib.Core.List.{List, [], ◌∷◌, ◌++◌, append-nil}
 use native.Mathlib.Nat.{mod-lt}
 use native.Mathlib.Numerals.{add-one}
 use native.Mathlib.Omega.{arith}
 use lib.ListN.{length, get_or, take, set, length-set, length-append, get_or-append}
-use lib.Seq.{length-take-le, get_or-append_seam, take-suc-set}
+use lib.Seq.{get_or-append_seam, take-suc-set}
 use lib.IntN.{ℤ}
-use Rattle.io.specs.Counts.{IsPrefixLen}
 use Rattle.numbers.proofs.Tests.{by_test, cond_true, cond_false}
 use Rattle.numbers.proofs.All.{below_cases}
 use Rattle.definitions.specs.Limits.{nodes}
@@ -84,13 +83,19 @@ module _ (tree : Tree) (k count : ℕ) (xs : List ℕ) (l : Lists tree k count x
       let stay = clients_stay tree k e in
       record { room = l.room; size = l.size ∙ ap length (sym stay); members = l.members ∙ sym stay }
 
--- All clients are listed.
-pub lists_all : (t : List ℤ) (k count : ℕ) (xs : List ℕ) → k ≡ nodes → Lists (tree_of t) k count xs → (IsPrefixLen count xs) × (take count xs ≡ clients t)
+  pub lists_within : k ≤ nodes → count ≤ nodes
+  lists_within h = omega (arith, l.size, clients_few tree k)
+
+-- No client is listed, and all are.
+pub lists_none : (tree : Tree) (xs : List ℕ) → nodes ≤ length xs → Lists tree 0 0 xs
+unfolding clients_below
+lists_none tree xs room = record { room = room; size = refl; members = refl }
+
+pub lists_all : (t : List ℤ) (count : ℕ) (xs : List ℕ) → Lists (tree_of t) nodes count xs → take count xs ≡ clients t
 unfolding clients
-lists_all t k count xs end l =
-    let few = clients_few (tree_of t) k in
-    let within : count ≤ length xs = omega (arith, l.room, l.size) in
-    ((within, sym (length-take-le count xs within)), l.members ∙ ap (clients_below (tree_of t)) end)
+lists_all t count xs l = l.members
+
+pub ruleset listing = (lists_none, lists_room, lists_more, lists_stay, lists_within, lists_all)
 
 pub few_clients : (t : List ℤ) → length (clients t) ≤ nodes
 unfolding clients

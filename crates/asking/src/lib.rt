@@ -1,39 +1,34 @@
 // The requests of a load. Document 02, (d).
 #![tactic(auto)]
 
-ghost use Rattle.std.specs.Prelude.{◌≡◌, true, ◌≤◌, length, take};
-ghost use Rattle.io.specs.Counts.{IsPrefixLen};
-ghost use Rattle.definitions.specs.Limits.{table_length, nodes};
+ghost use Rattle.std.specs.Prelude.{◌≡◌, true};
 ghost use Rattle.definitions.specs.Order.{in_order};
 ghost use Rattle.asking.specs.Asking.{clients, load_of, asked};
 
-use table::{Table, tree};
+use table::{AccountTable, Table, tree};
 
-// Puts the clients of a table by rising number at the start of a list, and answers how many there are.
-pub fn list_clients(table: &[i64], list: &mut [u64]) -> usize
-    requires { (length table.now ≡ table_length) × (nodes ≤ length list.old) }
-    ensures count { IsPrefixLen result list.new }
-    ensures clients { take result list.new ≡ clients table.now }
+// The clients of a table by rising number, which are put at the start of a list.
+#[tactic(auto, using(crate::proofs::Listing::listing))]
+pub fn list_clients<'a>(table: &AccountTable, list: &'a mut [u64; Table::NODES]) -> &'a [u64]
+    ensures { result.now ≡ clients table.now }
 {
-    let mut count: usize = 0;
-    let mut k: usize = 0;
-    while k < Table::NODES {
+    let mut count = 0;
+    for k in 0..Table::NODES {
         if tree::is_client(table, k) {
             list[count] = k as u64;
             count += 1;
         }
-        k += 1;
     }
-    count
+    &list[..count]
 }
 
 // Makes a load's next request, where its tree has clients, and answers the state of the draws after it. The table is known to be in
 // order, and the askers are its clients.
-pub fn ask(table: &mut [i64], askers: &[u64], state: u32) -> u32
+pub fn ask(table: &mut AccountTable, askers: &[u64], state: u32) -> u32
     requires { (in_order table.old ≡ true) × (askers.now ≡ clients table.old) }
     ensures { load_of table.new result ≡ asked (load_of table.old state) }
 {
-    if askers.len() == 0 {
+    if askers.is_empty() {
         return state;
     }
     let first = draws::next_state(state);
