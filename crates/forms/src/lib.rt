@@ -3,9 +3,8 @@
 
 ghost use Rattle.std.specs.Prelude.{◌≡◌, ◌+◌, ◌*◌, ◌≤◌, ◌<◌, eqb, length};
 ghost use Rattle.numbers.specs.Below.{all_below};
-ghost use Rattle.planformat.specs.Bytes.{byte_values, four_values, byte_at};
-ghost use Rattle.planformat.specs.Nodes.{share_in, held_by, entry_by};
-ghost use Rattle.planformat.specs.Format.{mark_byte, mark_length, head_length, long_share, depth_length, body_share_at, last_count, last_kind, start_of, share_length, body_length, entry_at, body_at, plan_length, share_values, edition_in, count_in, entry_in, entry_formed, formed};
+ghost use Rattle.planformat.specs.Bytes.{byte_at};
+ghost use Rattle.planformat.specs.Format.{mark_byte, mark_length, head_length, long_share, depth_length, body_share_at, last_count, last_kind, start_of, share_length, body_length, entry_at, body_at, plan_length, edition_in, count_in, entry_formed, formed};
 ghost use Rattle.planformat.specs.Numbers.{kind_number};
 ghost use Rattle.planformat.specs.Framed.{Framed};
 
@@ -113,12 +112,14 @@ pub fn count_in(s: &[u8], edition: Edition) -> usize
 }
 
 // Whether the offset and the kind of entry i are right.
+// Kept: a view in place of bytes, edition and count is no plainer: there is one only where every entry is found right.
 fn entry_formed(s: &[u8], edition: Edition, n: usize, i: usize) -> bool
     requires { Framed s.now edition n × (i < n) }
     ensures { result ≡ entry_formed s.now i }
 {
     let body = body_at(edition, n, i);
     let offset = bytes::pair(s, entry_at(edition, i) + Format::ENTRY_OFFSET);
+    // Kept: a kind in place of the byte is no plainer: a byte above the edition's last kind is wrong, whether or not a kind has it.
     let kind_right = bytes::byte(s, body) <= u64::from(last_kind(edition));
     (offset == body as u64) & kind_right
 }

@@ -5,11 +5,6 @@ ghost use Rattle.planformat.specs.Format.{share_length, share_values, share_from
 
 use crate::Edition;
 
-// How many values a byte has, and two bytes have.
-pub const BYTE_VALUES: u64 = 256;
-
-pub const PAIR_VALUES: u64 = 65536;
-
 // The byte at place i.
 #[tactic(auto, unfolding(planformat::specs::Bytes::byte_at))]
 pub fn byte(s: &[u8], i: usize) -> u64
@@ -21,22 +16,20 @@ pub fn byte(s: &[u8], i: usize) -> u64
 }
 
 // The integer of the two bytes, and of the four bytes, from place i on.
-#[tactic(auto, unfolding(planformat::specs::Bytes::le2))]
 pub fn pair(s: &[u8], i: usize) -> u64
     requires { i + 1 < length s.now }
     ensures pair { result ≡ le2 s.now i }
     ensures small { result < pair_values }
 {
-    byte(s, i) + BYTE_VALUES * byte(s, i + 1)
+    u64::from(u16::from_le_bytes([s[i], s[i + 1]]))
 }
 
-#[tactic(auto, unfolding(planformat::specs::Bytes::le4))]
 pub fn four(s: &[u8], i: usize) -> u64
     requires { i + 3 < length s.now }
     ensures four { result ≡ le4 s.now i }
     ensures small { result < four_values }
 {
-    pair(s, i) + PAIR_VALUES * pair(s, i + 2)
+    u64::from(u32::from_le_bytes([s[i], s[i + 1], s[i + 2], s[i + 3]]))
 }
 
 // The share of a plan of this edition, from place i on.

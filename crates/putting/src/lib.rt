@@ -7,7 +7,7 @@ ghost use Rattle.planformat.specs.Format.{head_length, entry_length, body_length
 ghost use Rattle.planformat.specs.Numbers.{kind_number};
 ghost use Rattle.planformat.specs.Written.{written};
 
-use layout::{Edition, Format, Kind, bytes};
+use layout::{Edition, Format, Kind};
 
 // Writes a byte at place a.
 #[tactic(auto, using(planformat::proofs::Written::written_one))]
@@ -23,16 +23,14 @@ pub fn put_pair(buffer: &mut [u8], a: usize, n: u64)
     requires { a + 2 ≤ length buffer.old }
     ensures { buffer.new ≡ written buffer.old a (bytes2 n) }
 {
-    put_byte(buffer, a, n % bytes::BYTE_VALUES);
-    put_byte(buffer, a + 1, n / bytes::BYTE_VALUES % bytes::BYTE_VALUES);
+    buffer[a..a + 2].copy_from_slice(&n.to_le_bytes()[..2]);
 }
 
 pub fn put_four(buffer: &mut [u8], a: usize, n: u64)
     requires { a + 4 ≤ length buffer.old }
     ensures { buffer.new ≡ written buffer.old a (bytes4 n) }
 {
-    put_pair(buffer, a, n);
-    put_pair(buffer, a + 2, n / bytes::PAIR_VALUES);
+    buffer[a..a + 4].copy_from_slice(&n.to_le_bytes()[..4]);
 }
 
 // Writes the mark of an edition.

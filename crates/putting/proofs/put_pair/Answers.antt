@@ -1,12 +1,8 @@
-use Rattle.std.proofs.Common.{◌+◌, ◌/◌, ◌%◌, [], ◌∷◌, refl, arith}
-use Rattle.planformat.specs.Bytes.{byte_values, bytes2}
-use Rattle.planformat.proofs.Written.{written_after}
+use Rattle.std.proofs.Common.{◌+◌, take, ap, ◌∙◌, refl}
+use Rattle.planformat.specs.Bytes.{bytes2}
+use Rattle.putting.proofs.Copied.{copied}
 use Rattle.putting.proofs.put_pair.Goals as goal
 
 pub returns : goal.returns
 unfolding bytes2
-returns c =
-    let x = c.args in
-    written_after x.buffer.now x.a (x.a + 1) (x.n % byte_values ∷ []) (x.n / byte_values % byte_values ∷ []) (omega arith) refl
-    c.put_byte-2.ensures
-    c.put_byte.ensures
+returns c = copied _ (bytes2 c.args.n) _ _ (c.args.a + 2) (c.copy_from_slice.ensures.after ∙ ap (take 2) c.to_le_bytes.ensures) refl
