@@ -112,14 +112,14 @@ pub fn count_in(s: &[u8], edition: Edition) -> usize
 }
 
 // Whether the offset and the kind of entry i are right.
-// Kept: a view in place of bytes, edition and count is no plainer: there is one only where every entry is found right.
+// Kept: the new form is no plainer: a view holds bytes of which every entry is found right.
 fn entry_formed(s: &[u8], edition: Edition, n: usize, i: usize) -> bool
     requires { Framed s.now edition n × (i < n) }
     ensures { result ≡ entry_formed s.now i }
 {
     let body = body_at(edition, n, i);
     let offset = bytes::pair(s, entry_at(edition, i) + Format::ENTRY_OFFSET);
-    // Kept: a kind in place of the byte is no plainer: a byte above the edition's last kind is wrong, whether or not a kind has it.
+    // Kept: the new form is no plainer: a byte above the edition's last kind is wrong, whether or not a kind has it.
     let kind_right = bytes::byte(s, body) <= u64::from(last_kind(edition));
     (offset == body as u64) & kind_right
 }
