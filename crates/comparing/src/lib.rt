@@ -9,39 +9,35 @@ ghost use Rattle.definitions.specs.Places.{place};
 ghost use Rattle.answers.specs.Answers.{told_compared};
 ghost use Rattle.definitions.specs.Calls.{same_tree, same_answer};
 
-use answers::{Compared, Refusal};
-use table::Table;
+use answers::Refusal;
+use table::{AccountTable, Table};
 
 // Whether sort and places 1 to 5 of node k are the same in both.
-fn same_node(first: &[i64], second: &[i64], k: usize) -> bool
-    requires { (length first.now ≡ table_length) × (length second.now ≡ table_length) × (k < nodes) }
+#[tactic(auto, using(numbers::proofs::All::all_loop))]
+fn same_node(first: &AccountTable, second: &AccountTable, k: usize) -> bool
+    requires { k < nodes }
     ensures { result ≡ all_below rate_at (λ p. same_ℤ (place first.now k p) (place second.now k p)) }
 {
     let mut same = true;
-    let mut p: usize = 0;
-    while p < Table::RATE {
+    for p in 0..Table::RATE {
         same = same & Table::same_place(first, second, k, p);
-        p += 1;
     }
     same
 }
 
 // Whether all nodes are the same in both.
-fn same_nodes(first: &[i64], second: &[i64]) -> bool
-    requires { (length first.now ≡ table_length) × (length second.now ≡ table_length) }
+#[tactic(auto, using(numbers::proofs::All::all_loop))]
+fn same_nodes(first: &AccountTable, second: &AccountTable) -> bool
     ensures { result ≡ all_below nodes (λ k. all_below rate_at (λ p. same_ℤ (place first.now k p) (place second.now k p))) }
 {
     let mut same = true;
-    let mut k: usize = 0;
-    while k < Table::NODES {
+    for k in 0..Table::NODES {
         same = same & same_node(first, second, k);
-        k += 1;
     }
     same
 }
 
-fn same_tree(first: &[i64], second: &[i64]) -> bool
-    requires { (length first.now ≡ table_length) × (length second.now ≡ table_length) }
+fn same_tree(first: &AccountTable, second: &AccountTable) -> bool
     ensures { result ≡ same_tree first.now second.now }
 {
     let nodes = same_nodes(first, second);
@@ -50,17 +46,15 @@ fn same_tree(first: &[i64], second: &[i64]) -> bool
 }
 
 // Same. Document 01, "Same tree, and the plan file".
-pub fn same(first: &[i64], second: &[i64]) -> Compared
+#[tactic(auto, using(crate::proofs::Refused::short_first, crate::proofs::Refused::short_second))]
+pub fn same(first: &[i64], second: &[i64]) -> Result<bool, Refusal>
     ensures { told_compared result ≡ same_answer first.now second.now }
 {
-    if !order::in_order(first) {
-        return Compared::Refused(Refusal::NotInOrder);
+    let (Some(first), Some(second)) = (first.as_array(), second.as_array()) else {
+        return Err(Refusal::NotInOrder);
+    };
+    if !order::passes(first) || !order::passes(second) {
+        return Err(Refusal::NotInOrder);
     }
-    if !order::in_order(second) {
-        return Compared::Refused(Refusal::NotInOrder);
-    }
-    if same_tree(first, second) {
-        return Compared::Same;
-    }
-    Compared::Different
+    Ok(same_tree(first, second))
 }
