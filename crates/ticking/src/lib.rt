@@ -1,21 +1,21 @@
 // Tick: balances grow, and waiting requests go.
 #![tactic(auto)]
 
-ghost use Rattle.std.specs.Prelude.{◌≡◌, true, ◌≤◌};
+ghost use Rattle.std.specs.Prelude.{◌≡◌};
 ghost use Rattle.definitions.specs.Limits.{first_port, second_port};
-ghost use Rattle.definitions.specs.Order.{in_order};
-ghost use Rattle.definitions.specs.Refusals.{last_refusal};
-ghost use Rattle.answers.specs.Answers.{told_ticked};
+ghost use Rattle.answers.specs.Answers.{number_in, told_ticked};
 ghost use Rattle.definitions.specs.Tick.{port_waiting, tick_refusal, tick_table, tick_first, tick_second, tick_answer};
 
-use answers::{Refusal, Ticked};
-use table::{PortCounts, Table};
+use answers::{Dispatched, Refusal};
+use order::Ordered;
+use table::{AccountTable, PortCounts, Table};
 
 // The waiting requests of each port's clients. A port is 0 or 1, so a node's requests times its port are those of the second.
-fn waiting_by_port(table: &[i64]) -> PortCounts
-    requires { in_order table.now ≡ true }
-    ensures { (result.first ≡ port_waiting table.now first_port) × (result.second ≡ port_waiting table.now second_port) }
+#[tactic(auto, using(numbers::proofs::Sums::sum_loop))]
+fn waiting_by_port(ordered: Ordered<'_>) -> PortCounts
+    ensures { (result.first ≡ port_waiting ordered.entry.table.now first_port) × (result.second ≡ port_waiting ordered.entry.table.now second_port) }
 {
+    let table = ordered.table;
     let mut all: u64 = 0;
     let mut second: u64 = 0;
     for k in 0..Table::NODES {
@@ -29,38 +29,34 @@ fn waiting_by_port(table: &[i64]) -> PortCounts
     }
 }
 
-// The number of the first cause that turns a tick back, or 0.
-fn tick_refusal(table: &[i64], first: &[i64], second: &[i64]) -> u64
-    ensures first { result ≡ tick_refusal table.now first.now second.now }
-    ensures small { result ≤ last_refusal }
+// The first cause that turns a tick back.
+fn tick_refusal(table: &AccountTable, first: &[i64], second: &[i64]) -> Result<(), Refusal>
+    ensures first { number_in result ≡ tick_refusal table.now first.now second.now }
 {
-    if !order::in_order(table) {
-        return Refusal::NOT_IN_ORDER;
-    }
-    let waiting = waiting_by_port(table);
+    let waiting = waiting_by_port(order::judge(table)?);
     if first.len() < Table::ENTRY * waiting.first {
-        return Refusal::BUFFER_SHORT;
+        return Err(Refusal::BufferShort);
     }
     if second.len() < Table::ENTRY * waiting.second {
-        return Refusal::BUFFER_SHORT;
+        return Err(Refusal::BufferShort);
     }
-    0
+    Ok(())
 }
 
 // Tick. Document 01, "Calls", and document 02, (g).
-pub fn tick(table: &mut [i64], first: &mut [i64], second: &mut [i64]) -> Ticked
+pub fn tick(table: &mut [i64], first: &mut [i64], second: &mut [i64]) -> Result<Dispatched, Refusal>
     ensures answer { told_ticked result ≡ tick_answer table.old first.old second.old }
     ensures table { table.new ≡ tick_table table.old first.old second.old }
     ensures first { first.new ≡ tick_first table.old first.old second.old }
     ensures second { second.new ≡ tick_second table.old first.old second.old }
 {
-    let number = tick_refusal(table, first, second);
-    if number != 0 {
-        return Ticked::Refused(answers::refusal_of(number));
-    }
+    let Some(table) = table.as_mut_array() else {
+        return Err(Refusal::NotInOrder);
+    };
+    tick_refusal(table, first, second)?;
     let counts = steps::run(table, first, second);
-    Ticked::Dispatched {
+    Ok(Dispatched {
         first: numbers::whole(counts.first as u64),
         second: numbers::whole(counts.second as u64),
-    }
+    })
 }
