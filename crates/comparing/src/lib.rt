@@ -1,10 +1,10 @@
 // Same: whether two tables show the same tree and disk rate.
 #![tactic(auto)]
 
-ghost use Rattle.std.specs.Prelude.{◌≡◌, ◌<◌, length};
+ghost use Rattle.std.specs.Prelude.{◌≡◌, ◌<◌};
 ghost use Rattle.numbers.specs.Whole.{same_ℤ};
 ghost use Rattle.numbers.specs.Below.{all_below};
-ghost use Rattle.definitions.specs.Limits.{table_length, nodes, rate_at};
+ghost use Rattle.definitions.specs.Limits.{nodes, rate_at};
 ghost use Rattle.definitions.specs.Places.{place};
 ghost use Rattle.answers.specs.Answers.{told_compared};
 ghost use Rattle.definitions.specs.Calls.{same_tree, same_answer};

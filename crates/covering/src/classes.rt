@@ -1,6 +1,6 @@
 // What each class covers: fixed shares, stated rates, depths and balances under it.
-ghost use Rattle.std.specs.Prelude.{◌≡◌, true, ◌<◌, ◌≤◌, ◌^◌, length};
-ghost use Rattle.definitions.specs.Limits.{table_length, nodes};
+ghost use Rattle.std.specs.Prelude.{◌≡◌, true, ◌<◌, ◌≤◌, ◌^◌};
+ghost use Rattle.definitions.specs.Limits.{nodes};
 ghost use Rattle.definitions.specs.Tree.{tree_of, is_class, test_if, each_class};
 ghost use Rattle.records.specs.Record.{records_in_order};
 ghost use Rattle.covering.specs.Cover.{stated_limit, class_covers, Sums, Totals};

@@ -1,11 +1,11 @@
 // Leave: a node goes, and its record is zero.
 #![tactic(auto)]
 
-ghost use Rattle.std.specs.Prelude.{◌≡◌, [], ◌∷◌, true, not, ◌||◌, ◌≤◌, ◌<◌, ltb, length, pos};
+ghost use Rattle.std.specs.Prelude.{◌≡◌, [], ◌∷◌, true, not, ◌||◌, ◌<◌, ltb, pos};
 ghost use Rattle.std.specs.Int.Signed.{lt_z};
 ghost use Rattle.numbers.specs.Whole.{within_ℤ};
 ghost use Rattle.numbers.specs.Tests.{every};
-ghost use Rattle.definitions.specs.Limits.{table_length, nodes, last_node};
+ghost use Rattle.definitions.specs.Limits.{nodes, last_node};
 ghost use Rattle.definitions.specs.Places.{balance, waiting};
 ghost use Rattle.definitions.specs.Tree.{tree_of, is_class, childless};
 ghost use Rattle.definitions.specs.Order.{in_order};

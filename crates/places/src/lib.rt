@@ -1,9 +1,9 @@
 // Tests of places by themselves: numbers within limits, numbers that are zero, the header, the root and a node's own record.
 #![tactic(auto)]
 
-ghost use Rattle.std.specs.Prelude.{◌≡◌, ◌&&◌, ◌+◌, ◌-◌, ◌<◌, ◌≤◌, ◌^◌, length, pos};
+ghost use Rattle.std.specs.Prelude.{◌≡◌, ◌&&◌, ◌+◌, ◌<◌, ◌≤◌, ◌^◌, length, pos};
 ghost use Rattle.numbers.specs.Whole.{minus, same_ℤ, within_ℤ};
-ghost use Rattle.definitions.specs.Limits.{table_length, record_length, nodes, most_waiting};
+ghost use Rattle.definitions.specs.Limits.{record_length, nodes, most_waiting};
 ghost use Rattle.definitions.specs.Places.{place, waiting};
 ghost use Rattle.definitions.specs.Order.{is_zero, header_in_order, root_in_order, limits_kept, spare_in_order};
 ghost use Rattle.places.specs.Zeros.{zeros};

@@ -1,9 +1,9 @@
 // The waiting requests: their sizes and arrival numbers.
 #![tactic(auto)]
 
-ghost use Rattle.std.specs.Prelude.{◌≡◌, ℕ, ◌+◌, ◌-◌, ◌<◌, ◌≤◌, ◌||◌, length, eqb, ltb};
+ghost use Rattle.std.specs.Prelude.{◌≡◌, ℕ, ◌+◌, ◌-◌, ◌<◌, ◌≤◌, ◌||◌, eqb, ltb};
 ghost use Rattle.numbers.specs.Below.{all_below};
-ghost use Rattle.definitions.specs.Limits.{table_length, nodes, greatest_depth, most_waiting};
+ghost use Rattle.definitions.specs.Limits.{nodes, greatest_depth, most_waiting};
 ghost use Rattle.definitions.specs.Places.{waiting, arrival};
 ghost use Rattle.definitions.specs.Tree.{tree_of};
 ghost use Rattle.definitions.specs.Order.{request_in_order, queue_in_order, differs_at, arrivals_differ};

@@ -1,8 +1,8 @@
 // Each record with its parent's: what a node's record is held to beyond the limits of its places.
 #![tactic(auto)]
 
-ghost use Rattle.std.specs.Prelude.{◌≡◌, suc, ◌<◌, ◌≤◌, length, eqb};
-ghost use Rattle.definitions.specs.Limits.{table_length, nodes, greatest_depth};
+ghost use Rattle.std.specs.Prelude.{◌≡◌, suc, ◌<◌, ◌≤◌, eqb};
+ghost use Rattle.definitions.specs.Limits.{nodes, greatest_depth};
 ghost use Rattle.definitions.specs.Tree.{tree_of, is_class, test_if};
 ghost use Rattle.definitions.specs.Order.{parent_in_order};
 ghost use Rattle.records.specs.Record.{class_placed, balance_within, node_in_order, record_in_order, records_in_order};

@@ -1,8 +1,8 @@
 // Request: one more waiting request at a client.
 #![tactic(auto)]
 
-ghost use Rattle.std.specs.Prelude.{◌≡◌, true, ◌+◌, ◌<◌, ◌≤◌, ◌^◌, length, pos};
-ghost use Rattle.definitions.specs.Limits.{table_length, nodes, most_waiting, tag_at, size_at, arrival_at};
+ghost use Rattle.std.specs.Prelude.{◌≡◌, true, ◌+◌, ◌<◌, ◌^◌, pos};
+ghost use Rattle.definitions.specs.Limits.{nodes, most_waiting, tag_at, size_at, arrival_at};
 ghost use Rattle.definitions.specs.Places.{put, queue_place, count, waiting};
 ghost use Rattle.definitions.specs.Order.{in_order};
 ghost use Rattle.answers.specs.Answers.{number_in, told};
