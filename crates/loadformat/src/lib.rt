@@ -1,11 +1,21 @@
-// The type of the code that the laws of a load speak of; the text of a load is defined in specs/.
+// The types of the code that the laws of a load speak of; the text of a load is defined in specs/.
 #![tactic(auto)]
 
-// How far a load is: the state of the draws, the ticks made and asked for, and how long the part in the buffer is.
+ghost use Rattle.std.specs.Prelude.{◌^◌, ◌<◌};
+
+use text::Text;
+
+// What a part's buffer holds.
+pub const PART_LENGTH: usize = 65536;
+
+// A part of the text.
+pub type Part = Text<PART_LENGTH>;
+
+// How far a load is: the state of the draws, and the ticks made and asked for.
 #[derive(Clone, Copy)]
 pub struct Progress {
     pub state: u32,
     pub made: u64,
     pub ticks: u64,
-    pub length: usize,
+    pub ghost few: { ticks < 2 ^ 32 },
 }

@@ -3,15 +3,14 @@
 #![tactic(auto)]
 
 ghost use Rattle.std.specs.Prelude.{◌≡◌, ◌+◌, ◌*◌, ◌^◌, ◌<◌, ◌≤◌, length};
-ghost use Rattle.io.specs.Counts.{IsPrefixLen};
 ghost use Rattle.definitions.specs.Limits.{entry_length};
 ghost use Rattle.text.specs.Appended.{Appended};
 ghost use Rattle.asking.specs.Asking.{clients, load_of};
 ghost use Rattle.loadformat.specs.Text.{tick_lines, next_tick, after_tick};
 ghost use Rattle.loadformat.specs.Parts.{most_dispatches, longest_tick, part_length, part_ticks, Loaded, GoesOn};
 
-use loadformat::Progress;
-use table::Table;
+use loadformat::{PART_LENGTH, Part, Progress};
+use table::{AccountTable, Table};
 
 // The most dispatches of a tick, and how long a number behind a space, a line and the lines of a tick can be.
 const MOST_DISPATCHES: usize = Table::NODES * Table::MOST_WAITING as usize;
@@ -22,77 +21,70 @@ const LONGEST_LINE: usize = text::MOST_DIGITS + LONGEST_NUMBER * Table::ENTRY + 
 
 const LONGEST_TICK: usize = LONGEST_LINE * MOST_DISPATCHES;
 
-// What a part's buffer holds, the last place of it from which there is room for a tick, and the most ticks of a part.
-const PART_LENGTH: usize = 65536;
-
+// The last place of a part's buffer from which there is room for a tick, and the most ticks of a part.
 const LAST_PLACE: usize = PART_LENGTH - LONGEST_TICK;
 
 const PART_TICKS: u64 = 4096;
 
 // One request, one tick and its lines, behind those of the part so far. The askers are the clients.
 fn put_next(
-    text: &mut [u8],
-    table: &mut [i64],
+    text: &mut Part,
+    table: &mut AccountTable,
     askers: &[u64],
     list: &mut [i64],
     progress: Progress,
 ) -> Progress
-    requires { (progress.length + longest_tick ≤ length text.old) × Loaded table.old × (askers.now ≡ clients table.old) × (entry_length * most_dispatches ≤ length list.old) × (progress.made < 2 ^ 32) }
-    ensures lines { Appended text.old progress.length (tick_lines (progress.made + 1) (next_tick (load_of table.old progress.state)).entries) text.new result.length }
+    requires { (text.old.len + longest_tick ≤ part_length) × Loaded table.old × (askers.now ≡ clients table.old) × (entry_length * most_dispatches ≤ length list.old) × (progress.made < 2 ^ 32) }
+    ensures lines { Appended text.old.bytes text.old.len (tick_lines (progress.made + 1) (next_tick (load_of table.old progress.state)).entries) text.new.bytes text.new.len }
     ensures load { load_of table.new result.state ≡ after_tick (load_of table.old progress.state) }
     ensures ticks { (result.made ≡ progress.made + 1) × (result.ticks ≡ progress.ticks) }
 {
     let state = asking::ask(table, askers, progress.state);
     let made = progress.made + 1;
-    let length = loadlines::put_tick(text, progress.length, table, list, made);
+    loadlines::put_tick(text, table, list, made);
     Progress {
         state,
         made,
         ticks: progress.ticks,
-        length,
     }
 }
 
 // The last tick that a part may have.
 fn last_tick(progress: Progress) -> u64
-    requires { (progress.made < progress.ticks) × (progress.ticks < 2 ^ 32) }
+    requires { progress.made < progress.ticks }
     ensures { (progress.made < result) × (result ≤ progress.ticks) × (result ≤ progress.made + part_ticks) }
 {
-    if progress.ticks - progress.made < PART_TICKS {
-        progress.ticks
-    } else {
-        progress.made + PART_TICKS
-    }
+    progress.ticks.min(progress.made + PART_TICKS)
 }
 
 // Whole ticks, one or more, while the buffer has room for one. The askers are the clients.
-fn put_ticks(text: &mut [u8], table: &mut [i64], askers: &[u64], progress: Progress) -> Progress
-    requires { (part_length ≤ length text.old) × Loaded table.old × (askers.now ≡ clients table.old) × (progress.made < progress.ticks) × (progress.ticks < 2 ^ 32) }
-    ensures part { GoesOn text.old (load_of table.old progress.state) progress.made progress.ticks text.new (load_of table.new result.state) result.made result.length }
+fn put_ticks(
+    text: &mut Part,
+    table: &mut AccountTable,
+    askers: &[u64],
+    progress: Progress,
+) -> Progress
+    requires { Loaded table.old × (askers.now ≡ clients table.old) × (progress.made < progress.ticks) }
+    ensures part { GoesOn text.old.bytes (load_of table.old progress.state) progress.made progress.ticks text.new.bytes (load_of table.new result.state) result.made text.new.len }
     ensures ticks { (progress.made < result.made) × (result.made ≤ progress.made + part_ticks) × (result.ticks ≡ progress.ticks) }
 {
     let mut list = [0i64; Table::ENTRY * MOST_DISPATCHES];
     let last = last_tick(progress);
-    let mut next = Progress {
-        state: progress.state,
-        made: progress.made,
-        ticks: progress.ticks,
-        length: 0,
-    };
-    while next.made < last && next.length <= LAST_PLACE {
+    let mut next = progress;
+    text.clear();
+    while next.made < last && text.len <= LAST_PLACE {
         next = put_next(text, table, askers, &mut list, next);
     }
     next
 }
 
 // Makes the next part of a load in a buffer, and answers how far the load is then.
-pub fn go_on(text: &mut [u8], table: &mut [i64], progress: Progress) -> Progress
-    requires { (part_length ≤ length text.old) × Loaded table.old × (progress.made < progress.ticks) × (progress.ticks < 2 ^ 32) }
-    ensures count { IsPrefixLen result.length text.new }
-    ensures part { GoesOn text.old (load_of table.old progress.state) progress.made progress.ticks text.new (load_of table.new result.state) result.made result.length }
+pub fn go_on(text: &mut Part, table: &mut AccountTable, progress: Progress) -> Progress
+    requires { Loaded table.old × (progress.made < progress.ticks) }
+    ensures part { GoesOn text.old.bytes (load_of table.old progress.state) progress.made progress.ticks text.new.bytes (load_of table.new result.state) result.made text.new.len }
     ensures ticks { (progress.made < result.made) × (result.made ≤ progress.made + part_ticks) × (result.ticks ≡ progress.ticks) }
 {
     let mut nodes = [0u64; Table::NODES];
-    let count = asking::list_clients(table, &mut nodes);
-    put_ticks(text, table, &nodes[..count], progress)
+    let askers = asking::list_clients(table, &mut nodes);
+    put_ticks(text, table, askers, progress)
 }
