@@ -6,7 +6,6 @@ use native.Mathlib.Omega.{arith}
 use lib.ListN.{length, get_or}
 use lib.Seq.{get_or-take}
 use lib.IntN.{ℤ}
-use Rattle.definitions.specs.Limits.{table_length}
 use Rattle.definitions.specs.Tree.{tree_of}
 use Rattle.definitions.proofs.Facts.{Limits, facts}
 use Rattle.planformat.specs.declared.Edition.{Edition}
@@ -20,16 +19,10 @@ use Rattle.planlaws.proofs.Listing.{listed, listed_node, order_short}
 use Rattle.listing.specs.Listed.{Standing, Listed}
 
 module _ (t : List ℤ) (k : ℕ) (s : Standing t k) where
-  pub standing_long : length t ≡ table_length
-  standing_long = (facts t s.ordered).long
-
   pub standing_limits : Limits t k
   standing_limits = (facts t s.ordered).limits k s.small s.here
 
 module _ (t : List ℤ) (xs : List ℕ) (n : ℕ) (h : Listed t xs n) where
-  pub listed_long : length t ≡ table_length
-  listed_long = (facts t h.ordered).long
-
   pub listed_few : n ≤ last_count
   listed_few = omega (arith, h.count, order_short (tree_of t))
 

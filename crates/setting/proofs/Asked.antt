@@ -105,7 +105,7 @@ first_two a c b d rest ne =
     ∙ sym (first_past a b _ e))
 
 module _ (t : List ℤ) (s : List ℕ) (ws : List ℤ) (minute : ℤ) where
-  abbrev early : ℕ
+  abbrev pub early : ℕ
   early = first (cause 1 (not (in_order t)) ∷ cause 2 (not (within_ℤ 0 last_minute minute)) ∷ [])
 
   pub early_refused : (early ≡ 0 → ⊥) → set_minute_refusal t s ws minute ≡ early

@@ -1,28 +1,28 @@
 // Set minute: the kinds of a plan and the shares that a timetable gives at a minute. Document 02, (h).
 #![tactic(auto)]
 
-ghost use Rattle.std.specs.Prelude.{◌≡◌, true, not, [], ◌∷◌, ℕ, ◌≤◌, ◌<◌, length, get_or, pos};
+ghost use Rattle.std.specs.Prelude.{◌≡◌, true, not, [], ◌∷◌, ℕ, ◌≤◌, ◌<◌, get_or, pos};
 ghost use Rattle.numbers.specs.Whole.{within_ℤ};
 ghost use Rattle.numbers.specs.Below.{all_below};
-ghost use Rattle.definitions.specs.Limits.{table_length, nodes, greatest_rate};
+ghost use Rattle.definitions.specs.Limits.{nodes, greatest_rate};
 ghost use Rattle.definitions.specs.Tree.{tree_of};
 ghost use Rattle.definitions.specs.Order.{in_order};
-ghost use Rattle.definitions.specs.Refusals.{last_refusal, cause, first, kept};
+ghost use Rattle.definitions.specs.Refusals.{cause, first, kept};
 ghost use Rattle.definitions.specs.Calls.{reshared};
-ghost use Rattle.answers.specs.Answers.{told};
+ghost use Rattle.answers.specs.Answers.{number_in, told};
 ghost use Rattle.hourlaws.specs.Windows.{week_minutes, last_minute, window_count, window_node, shares_fit, share_in, tree_at};
-ghost use Rattle.hourlaws.specs.SetMinute.{same_node, same_shape, reshared_as, timetable_refusal, minute_table, set_minute_refusal, set_minute_table, set_minute_answer};
+ghost use Rattle.hourlaws.specs.SetMinute.{same_node, same_shape, reshared_as, timetable_refusal, minute_table, set_minute_table, set_minute_answer};
 ghost use Rattle.setting.specs.Fitting.{fitting};
 
-use answers::{Answer, Refusal};
-use table::Table;
+use answers::Refusal;
+use table::{AccountTable, Table};
 
 // The last minute of the week.
 const LAST_MINUTE: u64 = windows::WEEK - 1;
 
 // Whether sort, parent and depth of node k are the same in both.
-fn same_node(table: &[i64], plan: &[i64], k: usize) -> bool
-    requires { (length table.now ≡ table_length) × (length plan.now ≡ table_length) × (k < nodes) }
+fn same_node(table: &AccountTable, plan: &AccountTable, k: usize) -> bool
+    requires { k < nodes }
     ensures { result ≡ same_node table.now plan.now k }
 {
     let sort = Table::same_place(table, plan, k, Table::SORT);
@@ -32,22 +32,19 @@ fn same_node(table: &[i64], plan: &[i64], k: usize) -> bool
 }
 
 // Whether they are of all nodes.
-fn same_nodes(table: &[i64], plan: &[i64]) -> bool
-    requires { (length table.now ≡ table_length) × (length plan.now ≡ table_length) }
+#[tactic(auto, using(numbers::proofs::All::all_loop))]
+fn same_nodes(table: &AccountTable, plan: &AccountTable) -> bool
     ensures { result ≡ all_below nodes (same_node table.now plan.now) }
 {
     let mut same = true;
-    let mut k: usize = 0;
-    while k < Table::NODES {
+    for k in 0..Table::NODES {
         same = same & same_node(table, plan, k);
-        k += 1;
     }
     same
 }
 
 // Whether a table has the plan's nodes, parents, sorts, depths and disk rate.
-fn same_shape(table: &[i64], plan: &[i64]) -> bool
-    requires { (length table.now ≡ table_length) × (length plan.now ≡ table_length) }
+fn same_shape(table: &AccountTable, plan: &AccountTable) -> bool
     ensures { result ≡ same_shape table.now plan.now }
 {
     let nodes = same_nodes(table, plan);
@@ -56,8 +53,7 @@ fn same_shape(table: &[i64], plan: &[i64]) -> bool
 }
 
 // Whether a table has the plan's shape, and a list is whole windows that are right for the plan.
-fn fitting(table: &[i64], plan: &[i64], windows: &[i64]) -> bool
-    requires { (length table.now ≡ table_length) × (length plan.now ≡ table_length) }
+fn fitting(table: &AccountTable, plan: &AccountTable, windows: &[i64]) -> bool
     ensures { result ≡ fitting table.now plan.now windows.now }
 {
     let shape = same_shape(table, plan);
@@ -66,48 +62,50 @@ fn fitting(table: &[i64], plan: &[i64], windows: &[i64]) -> bool
     shape & whole & formed
 }
 
-// The number of the first cause in the timetable that turns set minute back, or 0, once the list is whole windows that are right and their
+// The first cause in the timetable that turns set minute back, once the list is whole windows that are right and their
 // shares are in their limits.
-fn week_refusal(table: &[i64], plan: &[i64], windows: &[i64]) -> u64
-    requires { (length table.now ≡ table_length) × (in_order plan.now ≡ true) × (fitting table.now plan.now windows.now ≡ true) × (shares_fit (tree_of plan.now) windows.now ≡ true) }
-    ensures first { result ≡ timetable_refusal table.now plan.now windows.now }
-    ensures small { result ≤ last_refusal }
+fn week_refusal(table: &AccountTable, plan: &AccountTable, windows: &[i64]) -> Result<(), Refusal>
+    requires { (in_order plan.now ≡ true) × (fitting table.now plan.now windows.now ≡ true) × (shares_fit (tree_of plan.now) windows.now ≡ true) }
+    ensures first { number_in result ≡ timetable_refusal table.now plan.now windows.now }
 {
     let week = week::judge(plan, windows);
     if !week.apart {
-        return Refusal::TIMETABLE_WRONG;
+        return Err(Refusal::TimetableWrong);
     }
     if !week.fixed {
-        return Refusal::SHARES_ABOVE;
+        return Err(Refusal::SharesAbove);
     }
     if !week.stated {
-        return Refusal::STATED_WRONG;
+        return Err(Refusal::StatedWrong);
     }
-    0
+    Ok(())
 }
 
-// The number of the first cause in the timetable that turns set minute back, or 0.
-fn timetable_refusal(table: &[i64], plan: &[i64], windows: &[i64]) -> u64
-    requires { (length table.now ≡ table_length) × (in_order plan.now ≡ true) }
-    ensures first { result ≡ timetable_refusal table.now plan.now windows.now }
-    ensures small { result ≤ last_refusal }
+// The first cause in the timetable that turns set minute back.
+fn timetable_refusal(
+    table: &AccountTable,
+    plan: &AccountTable,
+    windows: &[i64],
+) -> Result<(), Refusal>
+    requires { in_order plan.now ≡ true }
+    ensures first { number_in result ≡ timetable_refusal table.now plan.now windows.now }
 {
     if !fitting(table, plan, windows) {
-        return Refusal::TIMETABLE_WRONG;
+        return Err(Refusal::TimetableWrong);
     }
     if windows::shares_fit(plan, windows) {
         return week_refusal(table, plan, windows);
     }
     let week = week::judge(plan, windows);
     if !week.apart {
-        return Refusal::TIMETABLE_WRONG;
+        return Err(Refusal::TimetableWrong);
     }
-    Refusal::OUTSIDE_LIMITS
+    Err(Refusal::OutsideLimits)
 }
 
 // Gives node k the plan's kind, and its share of a list.
-fn set_node(table: &mut [i64], plan: &[i64], shares: &[u64; Table::NODES], k: usize)
-    requires { (length table.old ≡ table_length) × (length plan.now ≡ table_length) × (k < nodes) × ((tree_of plan.now).kind k ≤ greatest_rate) × (get_or shares.now k 0 ≤ greatest_rate) }
+fn set_node(table: &mut AccountTable, plan: &AccountTable, shares: &[u64; Table::NODES], k: usize)
+    requires { (k < nodes) × ((tree_of plan.now).kind k ≤ greatest_rate) × (get_or shares.now k 0 ≤ greatest_rate) }
     ensures { table.new ≡ reshared table.old k (pos ((tree_of plan.now).kind k)) (pos (get_or shares.now k 0)) }
 {
     let kind = Table::natural(plan, k, Table::KIND);
@@ -117,72 +115,62 @@ fn set_node(table: &mut [i64], plan: &[i64], shares: &[u64; Table::NODES], k: us
 }
 
 // Gives each node its kind and share at minute m.
-fn set_nodes(table: &mut [i64], plan: &[i64], windows: &[i64], m: u64)
-    requires { (length table.old ≡ table_length) × (length plan.now ≡ table_length) × ((i : ℕ) → i < window_count windows.now → window_node windows.now i < nodes) × ((k : ℕ) → k < nodes → ((tree_of plan.now).kind k ≤ greatest_rate) × (share_in (tree_of plan.now) windows.now m k ≤ greatest_rate)) }
+fn set_nodes(table: &mut AccountTable, plan: &AccountTable, windows: &[i64], m: u64)
+    requires { ((i : ℕ) → i < window_count windows.now → window_node windows.now i < nodes) × ((k : ℕ) → k < nodes → ((tree_of plan.now).kind k ≤ greatest_rate) × (share_in (tree_of plan.now) windows.now m k ≤ greatest_rate)) }
     ensures { table.new ≡ reshared_as (tree_at (tree_of plan.now) windows.now m) table.old }
 {
-    let mut shares: [u64; Table::NODES] = [0; Table::NODES];
+    let mut shares = [0; Table::NODES];
     windows::shares_at(plan, windows, m, &mut shares);
-    let mut k: usize = 0;
-    while k < Table::NODES {
+    for k in 0..Table::NODES {
         set_node(table, plan, &shares, k);
-        k += 1;
     }
 }
 
-// Set minute by a plan's table: the number of the refusal, or 0.
-fn set_by(table: &mut [i64], plan: &[i64], windows: &[i64], m: u64) -> u64
+// Set minute by a plan's table.
+fn set_by(
+    table: &mut AccountTable,
+    plan: &AccountTable,
+    windows: &[i64],
+    m: u64,
+) -> Result<(), Refusal>
     requires { (in_order table.old ≡ true) × (in_order plan.now ≡ true) × (m < week_minutes) }
-    ensures number { result ≡ timetable_refusal table.old plan.now windows.now }
-    ensures small { result ≤ last_refusal }
+    ensures number { number_in result ≡ timetable_refusal table.old plan.now windows.now }
     ensures table { table.new ≡ kept (timetable_refusal table.old plan.now windows.now) (minute_table table.old plan.now windows.now m) table.old }
 {
-    let number = timetable_refusal(table, plan, windows);
-    if number != 0 {
-        return number;
-    }
+    timetable_refusal(table, plan, windows)?;
     set_nodes(table, plan, windows, m);
     renewing::renew_below(table, 0);
-    0
+    Ok(())
 }
 
-// The number of the first cause that lies in the table or the minute, or 0.
-fn early_refusal(table: &[i64], minute: i64) -> u64
-    ensures first { result ≡ first (cause 1 (not (in_order table.now)) ∷ cause 2 (not (within_ℤ 0 last_minute minute)) ∷ []) }
-    ensures small { result ≤ last_refusal }
+// The first cause that lies in the table or the minute.
+fn early_refusal(table: &AccountTable, minute: i64) -> Result<(), Refusal>
+    ensures first { number_in result ≡ first (cause 1 (not (in_order table.now)) ∷ cause 2 (not (within_ℤ 0 last_minute minute)) ∷ []) }
 {
-    if !order::in_order(table) {
-        return Refusal::NOT_IN_ORDER;
-    }
+    order::judge(table)?;
     if !numbers::within(minute, 0, LAST_MINUTE) {
-        return Refusal::OUTSIDE_LIMITS;
+        return Err(Refusal::OutsideLimits);
     }
-    0
-}
-
-// The number of the refusal of set minute, or 0, and the table after it.
-fn set_minute_number(table: &mut [i64], plan: &[u8], windows: &[i64], minute: i64) -> u64
-    ensures number { result ≡ set_minute_refusal table.old plan.now windows.now minute }
-    ensures small { result ≤ last_refusal }
-    ensures table { table.new ≡ set_minute_table table.old plan.now windows.now minute }
-{
-    let early = early_refusal(table, minute);
-    if early != 0 {
-        return early;
-    }
-    let mut built = [0i64; Table::LENGTH];
-    let refusal = reading::build(&mut built, plan);
-    if refusal != 0 {
-        return refusal;
-    }
-    set_by(table, &built, windows, numbers::natural(minute))
+    Ok(())
 }
 
 // Gives every node but the root the plan's kind and its share at a minute of the week, and renews every rate. The plan is read into a
 // table of its own. Document 02, (h).
-pub fn set_minute(table: &mut [i64], plan: &[u8], windows: &[i64], minute: i64) -> Answer
+pub fn set_minute(
+    table: &mut [i64],
+    plan: &[u8],
+    windows: &[i64],
+    minute: i64,
+) -> Result<i64, Refusal>
     ensures answer { told result ≡ set_minute_answer table.old plan.now windows.now minute }
     ensures table { table.new ≡ set_minute_table table.old plan.now windows.now minute }
 {
-    answers::answered(set_minute_number(table, plan, windows, minute), 0)
+    let Some(table) = table.as_mut_array() else {
+        return Err(Refusal::NotInOrder);
+    };
+    early_refusal(table, minute)?;
+    let mut built = [0; Table::LENGTH];
+    reading::build(&mut built, plan)?;
+    set_by(table, &built, windows, numbers::natural(minute))?;
+    Ok(0)
 }
