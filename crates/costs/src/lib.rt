@@ -12,6 +12,7 @@ use table::Table;
 const MOST_ADDED: u64 = 16;
 
 // The cost of a size, in tokens. Document 02, request (a).
+#[tactic(auto, unfolding(definitions::specs::Cost::cost))]
 pub fn cost(size: u64) -> u64
     requires { size ≤ greatest_depth }
     ensures { result ≡ cost size }
@@ -25,6 +26,7 @@ pub fn cost(size: u64) -> u64
 }
 
 // What a request of this size is charged, in grains.
+#[tactic(auto, using(definitions::proofs::Cost::cost_bounds), unfolding(definitions::specs::Tick::grains))]
 pub fn grains(size: u64) -> u64
     requires { size ≤ greatest_depth }
     ensures { result ≡ grains size }
@@ -33,6 +35,7 @@ pub fn grains(size: u64) -> u64
 }
 
 // Whether a request of this size costs more than a depth. A size above the depth does, whatever its range.
+#[tactic(auto, using(definitions::proofs::Cost::cost_bounds))]
 pub fn above(size: u64, depth: u64) -> bool
     requires { depth ≤ greatest_depth }
     ensures { result ≡ ltb depth (cost size) }

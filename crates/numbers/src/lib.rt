@@ -61,6 +61,7 @@ pub fn at_most(a: i64, b: i64) -> bool
 }
 
 // Whether `a` and `b` are the same.
+#[tactic(auto, using(crate::proofs::Parts::bits_same))]
 pub fn equal(a: i64, b: i64) -> bool
     ensures { result ≡ same_ℤ a b }
 {
