@@ -53,8 +53,7 @@ pub fn same(first: &[i64], second: &[i64]) -> Result<bool, Refusal>
     let (Some(first), Some(second)) = (first.as_array(), second.as_array()) else {
         return Err(Refusal::NotInOrder);
     };
-    if !order::passes(first) || !order::passes(second) {
-        return Err(Refusal::NotInOrder);
-    }
+    order::judge(first)?;
+    order::judge(second)?;
     Ok(same_tree(first, second))
 }

@@ -1,36 +1,33 @@
 // Change rate.
 #![tactic(auto)]
 
-ghost use Rattle.std.specs.Prelude.{◌≡◌, true, ltb};
+ghost use Rattle.std.specs.Prelude.{◌≡◌, ltb};
 ghost use Rattle.definitions.specs.Limits.{root};
 ghost use Rattle.definitions.specs.Tree.{tree_of};
 ghost use Rattle.definitions.specs.Rates.{stated_sum};
-ghost use Rattle.definitions.specs.Order.{in_order};
 ghost use Rattle.answers.specs.Answers.{number_in, told};
 ghost use Rattle.definitions.specs.Calls.{change_rate_refusal, change_rate_table, change_rate_answer};
 
 use answers::Refusal;
+use order::Ordered;
 use table::{AccountTable, Table};
 
 // Whether the stated rates are above a rate of the disk.
-fn stated_above(table: &AccountTable, rate: u64) -> bool
-    requires { in_order table.now ≡ true }
-    ensures { result ≡ ltb rate (stated_sum (tree_of table.now) root) }
+fn stated_above(ordered: Ordered<'_>, rate: u64) -> bool
+    ensures { result ≡ ltb rate (stated_sum (tree_of ordered.entry.table.now) root) }
 {
-    rate < sums::sum_under(table, sums::Summand::Shares(Table::STATED), 0)
+    rate < sums::sum_under(ordered.table, sums::Summand::Shares(Table::STATED), 0)
 }
 
 // The first cause that turns change rate back.
 fn change_rate_refusal(table: &AccountTable, rate: i64) -> Result<(), Refusal>
     ensures first { number_in result ≡ change_rate_refusal table.now rate }
 {
-    if !order::passes(table) {
-        return Err(Refusal::NotInOrder);
-    }
+    let ordered = order::judge(table)?;
     if !numbers::within(rate, 1, Table::GREATEST_RATE) {
         return Err(Refusal::OutsideLimits);
     }
-    if stated_above(table, numbers::natural(rate)) {
+    if stated_above(ordered, numbers::natural(rate)) {
         return Err(Refusal::StatedWrong);
     }
     Ok(())

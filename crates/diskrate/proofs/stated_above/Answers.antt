@@ -7,7 +7,7 @@ use Rattle.sums.proofs.Summable.{in_order_summable}
 use Rattle.diskrate.proofs.stated_above.Goals as goal
 
 pub sum_under-requires : goal.sum_under-requires
-sum_under-requires c = in_order_summable _ _ (facts _ c.requires)
+sum_under-requires c = in_order_summable _ _ (facts _ c.args.ordered.in_order)
 
 pub returns : goal.returns
 unfolding term kind_sum
