@@ -1,18 +1,16 @@
 // How a load begins: the reading of its input. Document 02, (d).
 #![tactic(auto)]
 
-ghost use Rattle.std.specs.Prelude.{◌≡◌, ◌^◌, ◌<◌, ◌≤◌, length};
-ghost use Rattle.io.specs.Counts.{IsPrefixLen};
-ghost use Rattle.definitions.specs.Refusals.{last_refusal};
+ghost use Rattle.std.specs.Prelude.{◌≡◌};
 ghost use Rattle.definitions.specs.Calls.{blank};
-ghost use Rattle.text.specs.Text.{longest_refused};
+ghost use Rattle.answers.specs.Answers.{number_in};
 ghost use Rattle.asking.specs.Asking.{load_of};
 ghost use Rattle.loadformat.specs.Text.{load_refusal, begun};
 ghost use Rattle.loadformat.specs.Parts.{Begins};
 
 use answers::Refusal;
 use layout::bytes;
-use loadformat::Progress;
+use loadformat::{Part, Progress};
 
 // Where the parts of the input stand.
 const SEED_AT: usize = 0;
@@ -21,34 +19,34 @@ const TICKS_AT: usize = 4;
 
 const PLAN_AT: usize = 8;
 
-// Reads the plan of an input; the number of the refusal, or 0.
-fn read_input(table: &mut [i64], input: &[u8]) -> u64
+// Reads the plan of an input.
+// Kept: the new form is no plainer: reading takes a table as a slice of any length, and so does this, which asks for one of zeros.
+#[tactic(auto, using(loadformat::proofs::Inputs::short_refused), unfolding(answers::specs::Answers::number_in))]
+fn read_input(table: &mut [i64], input: &[u8]) -> Result<(), Refusal>
     requires { table.old ≡ blank }
-    ensures number { result ≡ load_refusal input.now }
-    ensures small { result ≤ last_refusal }
-    ensures table { result ≡ 0 → table.new ≡ (begun input.now).table }
+    ensures number { number_in result ≡ load_refusal input.now }
+    ensures table { number_in result ≡ 0 → table.new ≡ (begun input.now).table }
 {
     if input.len() < PLAN_AT {
-        return Refusal::PLAN_WRONG;
+        return Err(Refusal::PlanWrong);
     }
-    answers::number_told(reading::read(table, &input[PLAN_AT..]))
+    reading::read(table, &input[PLAN_AT..])?;
+    Ok(())
 }
 
-// Makes a load ready for an input.
-pub fn begin(text: &mut [u8], table: &mut [i64], input: &[u8]) -> Progress
-    requires { (longest_refused ≤ length text.old) × (table.old ≡ blank) }
-    ensures count { IsPrefixLen result.length text.new }
-    ensures begins { Begins input.now text.old (load_of table.new result.state) result.made result.ticks result.length text.new }
-    ensures small { result.ticks < 2 ^ 32 }
+// Makes a load ready for an input, and its text what stands before the first tick.
+pub fn begin(text: &mut Part, table: &mut [i64], input: &[u8]) -> Progress
+    requires { table.old ≡ blank }
+    ensures { Begins input.now text.old.bytes (load_of table.new result.state) result.made result.ticks text.new.len text.new.bytes }
 {
-    let refusal = read_input(table, input);
-    if refusal != 0 {
-        let length = text::put_refused(text, refusal);
+    text.clear();
+    if let Err(why) = read_input(table, input) {
+        let number = answers::number_of(why);
+        text.put_refused(number);
         return Progress {
             state: 0,
             made: 0,
             ticks: 0,
-            length,
         };
     }
     let state = bytes::four(input, SEED_AT) as u32;
@@ -57,6 +55,5 @@ pub fn begin(text: &mut [u8], table: &mut [i64], input: &[u8]) -> Progress
         state,
         made: 0,
         ticks,
-        length: 0,
     }
 }
