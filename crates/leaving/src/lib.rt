@@ -8,11 +8,11 @@ ghost use Rattle.numbers.specs.Tests.{every};
 ghost use Rattle.definitions.specs.Limits.{nodes, last_node};
 ghost use Rattle.definitions.specs.Places.{balance, waiting};
 ghost use Rattle.definitions.specs.Tree.{tree_of, is_class, childless};
-ghost use Rattle.definitions.specs.Order.{in_order};
 ghost use Rattle.answers.specs.Answers.{number_in, told};
 ghost use Rattle.definitions.specs.Calls.{cleared, leave_refusal, leave_table, leave_answer};
 
 use answers::Refusal;
+use order::Ordered;
 use table::{AccountTable, Table};
 
 // Whether node k has children or waiting requests.
@@ -37,10 +37,11 @@ fn in_debt(table: &AccountTable, k: usize) -> bool
 }
 
 // The first cause in the tree that turns leave of node k back.
-fn tree_refusal(table: &AccountTable, k: usize) -> Result<(), Refusal>
-    requires { (in_order table.now ≡ true) × (within_ℤ 0 last_node (pos k) ≡ true) }
-    ensures first { number_in result ≡ leave_refusal table.now (pos k) }
+fn tree_refusal(ordered: Ordered<'_>, k: usize) -> Result<(), Refusal>
+    requires { within_ℤ 0 last_node (pos k) ≡ true }
+    ensures first { number_in result ≡ leave_refusal ordered.entry.table.now (pos k) }
 {
+    let table = ordered.table;
     if !table::tree::there(table, k) {
         return Err(Refusal::NotThere);
     }
@@ -60,13 +61,11 @@ fn tree_refusal(table: &AccountTable, k: usize) -> Result<(), Refusal>
 fn leave_refusal(table: &AccountTable, node: i64) -> Result<(), Refusal>
     ensures first { number_in result ≡ leave_refusal table.now node }
 {
-    if !order::passes(table) {
-        return Err(Refusal::NotInOrder);
-    }
+    let ordered = order::judge(table)?;
     if !numbers::within(node, 0, Table::LAST_NODE) {
         return Err(Refusal::OutsideLimits);
     }
-    tree_refusal(table, numbers::natural(node) as usize)
+    tree_refusal(ordered, numbers::natural(node) as usize)
 }
 
 // Zeroes a node's record.

@@ -15,9 +15,7 @@ use table::{AccountTable, Table, tree};
 fn look_refusal(table: &AccountTable, node: i64) -> Result<(), Refusal>
     ensures first { number_in result ≡ look_refusal table.now node }
 {
-    if !order::passes(table) {
-        return Err(Refusal::NotInOrder);
-    }
+    order::judge(table)?;
     if !numbers::within(node, 0, Table::LAST_NODE) {
         return Err(Refusal::OutsideLimits);
     }

@@ -13,30 +13,30 @@ unfolding plus
 low k h = below 0 (pos k) h
 
 pub there-requires : goal.there-requires
-there-requires c = low _ c.requires.1
+there-requires c = low _ c.requires
 
 pub is_busy-requires : goal.is_busy-requires
-is_busy-requires c = low _ c.requires.1
+is_busy-requires c = low _ c.requires
 
 pub in_debt-requires : goal.in_debt-requires
-in_debt-requires c = low _ c.requires.1
+in_debt-requires c = low _ c.requires
 
 pub returns-then-not-there : goal.returns-then-not-there
 unfolding number_in leave_refusal plus
-returns-then-not-there c = record { first = found _ _ (search causes) }
+returns-then-not-there c = record { first = found _ _ (search (causes, c.args.ordered.in_order)) }
 
 pub returns-then-k-eq0 : goal.returns-then-k-eq0
 unfolding number_in leave_refusal plus
-returns-then-k-eq0 c = record { first = found _ _ (search causes) }
+returns-then-k-eq0 c = record { first = found _ _ (search (causes, c.args.ordered.in_order)) }
 
 pub returns-then-is_busy : goal.returns-then-is_busy
 unfolding number_in leave_refusal plus
-returns-then-is_busy c = record { first = found _ _ (search causes depth 7 fits 4000) }
+returns-then-is_busy c = record { first = found _ _ (search (causes, c.args.ordered.in_order) depth 7 fits 4000) }
 
 pub returns-then-in_debt : goal.returns-then-in_debt
 unfolding number_in leave_refusal plus
-returns-then-in_debt c = record { first = found _ _ (search causes depth 7 fits 4000) }
+returns-then-in_debt c = record { first = found _ _ (search (causes, c.args.ordered.in_order) depth 7 fits 4000) }
 
 pub returns : goal.returns
 unfolding number_in leave_refusal plus
-returns c = record { first = found _ _ (search causes depth 7 fits 4000) }
+returns c = record { first = found _ _ (search (causes, c.args.ordered.in_order) depth 7 fits 4000) }
