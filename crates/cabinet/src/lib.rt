@@ -15,6 +15,7 @@ use answers::Refusal;
 use table::Table;
 
 // The negated number of a refusal.
+#[tactic(auto, unfolding(numbers::specs::Whole::minus))]
 fn negated(why: Refusal) -> i64
     ensures { result ≡ pos 0 -ℤ pos (number_of why) }
 {
@@ -22,6 +23,7 @@ fn negated(why: Refusal) -> i64
 }
 
 // The number of an answer.
+#[tactic(auto, unfolding(crate::specs::Exported::exported, answers::specs::Answers::told))]
 fn answer_number(answer: Result<i64, Refusal>) -> i64
     ensures { result ≡ exported (told answer) }
 {
@@ -32,6 +34,7 @@ fn answer_number(answer: Result<i64, Refusal>) -> i64
 }
 
 // The number of what same answers.
+#[tactic(auto, unfolding(crate::specs::Exported::exported, answers::specs::Answers::told_compared))]
 fn compared_number(compared: Result<bool, Refusal>) -> i64
     ensures { result ≡ exported (told_compared compared) }
 {
@@ -100,6 +103,7 @@ pub fn hds_request(table: &mut [i64], client: i64, tag: i64, size: i64) -> i64
 }
 
 // Tick: 0, the dispatches of each port on its list, and in counts how many they are.
+#[tactic(auto, unfolding(crate::specs::Exported::exported_bare, crate::specs::Exported::shown, answers::specs::Answers::told_ticked))]
 pub fn hds_tick(
     table: &mut [i64],
     first: &mut [i64],
@@ -122,6 +126,7 @@ pub fn hds_tick(
 }
 
 // Look (node): 0, and in seen the rate, balance, waiting count and lost grains.
+#[tactic(auto, unfolding(crate::specs::Exported::exported_bare, crate::specs::Exported::shown, answers::specs::Answers::told_seen))]
 pub fn hds_look(table: &[i64], node: i64, seen: &mut [i64; Table::SEEN]) -> i64
     ensures answer { result ≡ exported_bare (look_answer table.now node) }
     ensures seen { seen.new ≡ shown (look_answer table.now node) seen.old }
