@@ -9,6 +9,7 @@ ghost use Rattle.answers.specs.Answers.{number_in, told};
 ghost use Rattle.definitions.specs.Calls.{request_limits, requested, request_refusal, request_table, request_answer};
 
 use answers::Refusal;
+use order::Ordered;
 use table::{AccountTable, Table};
 
 // The i-th waiting place of node k.
@@ -44,10 +45,11 @@ fn request_limits(client: i64, size: i64) -> bool
 }
 
 // The first cause in the tree that turns a request at node k back. Tags are not judged.
-fn tree_refusal(table: &AccountTable, k: usize, size: u64) -> Result<(), Refusal>
-    requires { (in_order table.now ≡ true) × (request_limits (pos k) (pos size) ≡ true) }
-    ensures first { number_in result ≡ request_refusal table.now (pos k) (pos 0) (pos size) }
+fn tree_refusal(ordered: Ordered<'_>, k: usize, size: u64) -> Result<(), Refusal>
+    requires { request_limits (pos k) (pos size) ≡ true }
+    ensures first { number_in result ≡ request_refusal ordered.entry.table.now (pos k) (pos 0) (pos size) }
 {
+    let table = ordered.table;
     if !table::tree::there(table, k) {
         return Err(Refusal::NotThere);
     }
@@ -73,7 +75,7 @@ pub fn request_in_order(table: &mut AccountTable, k: usize, tag: i64, size: u64)
     requires { (in_order table.old ≡ true) × (request_limits (pos k) (pos size) ≡ true) × (size < 2 ^ 63) }
     ensures { table.new ≡ request_table table.old (pos k) tag (pos size) }
 {
-    let accepted = tree_refusal(table, k, size).is_ok();
+    let accepted = tree_refusal(Ordered { table }, k, size).is_ok();
     if accepted {
         write_request(table, k, tag, numbers::whole(size));
     }
@@ -83,14 +85,12 @@ pub fn request_in_order(table: &mut AccountTable, k: usize, tag: i64, size: u64)
 fn request_refusal(table: &AccountTable, client: i64, tag: i64, size: i64) -> Result<(), Refusal>
     ensures first { number_in result ≡ request_refusal table.now client tag size }
 {
-    if !order::passes(table) {
-        return Err(Refusal::NotInOrder);
-    }
+    let ordered = order::judge(table)?;
     if !request_limits(client, size) {
         return Err(Refusal::OutsideLimits);
     }
     tree_refusal(
-        table,
+        ordered,
         numbers::natural(client) as usize,
         numbers::natural(size),
     )

@@ -28,49 +28,49 @@ costly : (t : List ℤ) (k size : ℕ) {b : Bool} {d : ℕ} → b ≡ ltb d (cos
 costly t k size e d = e ∙ ap (λ (n : ℕ). ltb n (cost size)) d
 
 pub there-requires : goal.there-requires
-there-requires c = low _ _ c.requires.1
+there-requires c = low _ _ c.requires
 
 pub is_class-requires : goal.is_class-requires
-is_class-requires c = low _ _ c.requires.1
+is_class-requires c = low _ _ c.requires
 
 pub natural-depth-requires : goal.natural-depth-requires
-natural-depth-requires c = (low _ _ c.requires.1, omega arith)
+natural-depth-requires c = (low _ _ c.requires, omega arith)
 
 pub above-requires : goal.above-requires
 above-requires c =
     omega (
       arith,
       c.natural-depth.ensures,
-      depth_most _ c.requires.0 c.args.k (low _ _ c.requires.1) (sym c.there.ensures ∙ c.if-not-there.false),
+      depth_most _ c.args.ordered.in_order c.args.k (low _ _ c.requires) (sym c.there.ensures ∙ c.if-not-there.false),
     )
 
 pub natural-full-requires : goal.natural-full-requires
-natural-full-requires c = (low _ _ c.requires.1, omega arith)
+natural-full-requires c = (low _ _ c.requires, omega arith)
 
 pub returns-then-not-there : goal.returns-then-not-there
 unfolding number_in request_refusal request_limits plus
-returns-then-not-there c = record { first = found _ _ (search causes) }
+returns-then-not-there c = record { first = found _ _ (search (causes, c.args.ordered.in_order)) }
 
 pub returns-then-is_class : goal.returns-then-is_class
 unfolding number_in request_refusal request_limits plus
-returns-then-is_class c = record { first = found _ _ (search causes) }
+returns-then-is_class c = record { first = found _ _ (search (causes, c.args.ordered.in_order)) }
 
 pub returns-then-above : goal.returns-then-above
 unfolding number_in request_refusal request_limits tree_of plus
 returns-then-above c =
-    record { first = found _ _ (search (causes, costly c.args.table.now c.args.k c.args.size c.above.ensures c.natural-depth.ensures) depth 8 fits 4000) }
+    record { first = found _ _ (search (causes, c.args.ordered.in_order, costly c.args.ordered.table.now c.args.k c.args.size c.above.ensures c.natural-depth.ensures) depth 8 fits 4000) }
 
 pub returns-then-full : goal.returns-then-full
 unfolding number_in request_refusal request_limits tree_of waiting plus
 returns-then-full c =
-    record { first = found _ _ (search (causes, costly c.args.table.now c.args.k c.args.size c.above.ensures c.natural-depth.ensures) depth 8 fits 4000) }
+    record { first = found _ _ (search (causes, c.args.ordered.in_order, costly c.args.ordered.table.now c.args.k c.args.size c.above.ensures c.natural-depth.ensures) depth 8 fits 4000) }
 
 pub returns-then-count-eq-GREATEST_COUNT : goal.returns-then-count-eq-GREATEST_COUNT
 unfolding number_in request_refusal request_limits tree_of waiting plus
 returns-then-count-eq-GREATEST_COUNT c =
-    record { first = found _ _ (search (causes, costly c.args.table.now c.args.k c.args.size c.above.ensures c.natural-depth.ensures) depth 8 fits 4000) }
+    record { first = found _ _ (search (causes, c.args.ordered.in_order, costly c.args.ordered.table.now c.args.k c.args.size c.above.ensures c.natural-depth.ensures) depth 8 fits 4000) }
 
 pub returns : goal.returns
 unfolding number_in request_refusal request_limits tree_of waiting plus
 returns c =
-    record { first = found _ _ (search (causes, costly c.args.table.now c.args.k c.args.size c.above.ensures c.natural-depth.ensures) depth 8 fits 4000) }
+    record { first = found _ _ (search (causes, c.args.ordered.in_order, costly c.args.ordered.table.now c.args.k c.args.size c.above.ensures c.natural-depth.ensures) depth 8 fits 4000) }
