@@ -129,6 +129,7 @@ pub fn listed_at(bytes: &[u8], i: usize) -> Listed
 }
 
 // The body that a plan lists for a node, or none where it does not list the node.
+#[tactic(auto, using(crate::proofs::Listing::answer_no_plan), unfolding(crate::specs::Answer::told_found))]
 pub fn body_of(bytes: &[u8], number: u64) -> Result<Option<Body>, Refusal>
     ensures { told_found result ≡ body_answer bytes.now number }
 {
