@@ -2,64 +2,66 @@
 // seed, the number of ticks and a plan. Document 02, (d).
 #![tactic(auto)]
 
-ghost use Rattle.std.specs.Prelude.{◌≡◌, false, ◌≤◌};
+ghost use Rattle.std.specs.Prelude.{◌≡◌, ◌≤◌, IfOk};
 ghost use Rattle.loadformat.specs.Parts.{opening, ticks_allowed, part_of};
 
 use table::Table;
+use text::Text;
 
 // The numbers of the standard streams.
+// Kept: the new form is no plainer: std's streams come from a runtime that each function takes, and answer causes that go unused here.
 const STDIN: i32 = 0;
 
 const STDOUT: i32 = 1;
 
 const STDERR: i32 = 2;
 
-// Up to which tick the text was handed on to be written, and whether writing failed.
+// That writing failed.
 #[derive(Clone, Copy)]
-struct Sent {
-    tick: u64,
-    failed: bool,
-}
+struct WriteFailed;
 
-// Hands on what stands before the first tick of an input.
-fn send_opening(part: &[u8], input: &[u8]) -> Sent
+// Hands on what stands before the first tick of an input. The answer is the tick up to which the text was handed on.
+fn send_opening(part: &[u8], input: &[u8]) -> Result<u64, WriteFailed>
     requires { part.now ≡ opening input.now }
-    ensures { result.tick ≡ 0 }
+    ensures { IfOk result (λ tick. tick ≡ 0) }
 {
-    let failed = !io::write_all(STDOUT, part);
-    Sent { tick: 0, failed }
+    if !io::write_all(STDOUT, part) {
+        return Err(WriteFailed);
+    }
+    Ok(0)
 }
 
-// Hands on the part of an input behind what was sent, up to a last tick.
-fn send_part(part: &[u8], input: &[u8], sent: Sent, last: u64) -> Sent
-    requires { (sent.tick ≤ last) × (part.now ≡ part_of input.now sent.tick last) }
-    ensures { result.tick ≡ last }
+// Hands on the part of an input behind a tick up to which the text was handed on, up to a last tick. The answer is that tick.
+fn send_part(part: &[u8], input: &[u8], sent: u64, last: u64) -> Result<u64, WriteFailed>
+    requires { (sent ≤ last) × (part.now ≡ part_of input.now sent last) }
+    ensures { IfOk result (λ tick. tick ≡ last) }
 {
-    let failed = !io::write_all(STDOUT, part);
-    Sent { tick: last, failed }
+    if !io::write_all(STDOUT, part) {
+        return Err(WriteFailed);
+    }
+    Ok(last)
 }
 
 // Hands on the text of an input, part by part and up to its last tick, unless writing fails.
-fn send(input: &[u8]) -> Sent
-    ensures { result.failed ≡ false → result.tick ≡ ticks_allowed input.now }
+fn send(input: &[u8]) -> Result<u64, WriteFailed>
+    ensures { IfOk result (λ tick. tick ≡ ticks_allowed input.now) }
 {
     let mut table = [0i64; Table::LENGTH];
-    let mut text = io::large_buffer();
+    let mut text = Text::new();
     let mut progress = loadinput::begin(&mut text, &mut table, input);
-    let mut sent = send_opening(&text[..progress.length], input);
-    while !sent.failed && progress.made < progress.ticks {
+    let mut sent = send_opening(text.so_far(), input)?;
+    while progress.made < progress.ticks {
         progress = loadtext::go_on(&mut text, &mut table, progress);
-        sent = send_part(&text[..progress.length], input, sent, progress.made);
+        sent = send_part(text.so_far(), input, sent, progress.made)?;
     }
-    sent
+    Ok(sent)
 }
 
 // Of an input the first 4096 bytes are read: with more, its text is the same (`first_bytes`, loadformat/proofs/Inputs.antt).
 fn main() {
     let mut input = io::buffer();
     let n = io::read_full(STDIN, &mut input);
-    let sent = send(&input[..n]);
-    if sent.failed {
+    if send(&input[..n]).is_err() {
         io::write_all(STDERR, b"load: cannot write\n");
     }
 }
