@@ -15,6 +15,7 @@ ghost use Rattle.hourlaws.specs.SetMinute.{same_node, same_shape, reshared_as, t
 ghost use Rattle.setting.specs.Fitting.{fitting};
 
 use answers::Refusal;
+use order::Ordered;
 use table::{AccountTable, Table};
 
 // The last minute of the week.
@@ -64,11 +65,11 @@ fn fitting(table: &AccountTable, plan: &AccountTable, windows: &[i64]) -> bool
 
 // The first cause in the timetable that turns set minute back, once the list is whole windows that are right and their
 // shares are in their limits.
-fn week_refusal(table: &AccountTable, plan: &AccountTable, windows: &[i64]) -> Result<(), Refusal>
-    requires { (in_order plan.now ≡ true) × (fitting table.now plan.now windows.now ≡ true) × (shares_fit (tree_of plan.now) windows.now ≡ true) }
-    ensures first { number_in result ≡ timetable_refusal table.now plan.now windows.now }
+fn week_refusal(table: &AccountTable, plan: Ordered<'_>, windows: &[i64]) -> Result<(), Refusal>
+    requires { (fitting table.now plan.table.now windows.now ≡ true) × (shares_fit (tree_of plan.table.now) windows.now ≡ true) }
+    ensures first { number_in result ≡ timetable_refusal table.now plan.entry.table.now windows.now }
 {
-    let week = week::judge(plan, windows);
+    let week = week::judge(plan.table, windows);
     if !week.apart {
         return Err(Refusal::TimetableWrong);
     }
@@ -84,19 +85,18 @@ fn week_refusal(table: &AccountTable, plan: &AccountTable, windows: &[i64]) -> R
 // The first cause in the timetable that turns set minute back.
 fn timetable_refusal(
     table: &AccountTable,
-    plan: &AccountTable,
+    plan: Ordered<'_>,
     windows: &[i64],
 ) -> Result<(), Refusal>
-    requires { in_order plan.now ≡ true }
-    ensures first { number_in result ≡ timetable_refusal table.now plan.now windows.now }
+    ensures first { number_in result ≡ timetable_refusal table.now plan.entry.table.now windows.now }
 {
-    if !fitting(table, plan, windows) {
+    if !fitting(table, plan.table, windows) {
         return Err(Refusal::TimetableWrong);
     }
-    if windows::shares_fit(plan, windows) {
+    if windows::shares_fit(plan.table, windows) {
         return week_refusal(table, plan, windows);
     }
-    let week = week::judge(plan, windows);
+    let week = week::judge(plan.table, windows);
     if !week.apart {
         return Err(Refusal::TimetableWrong);
     }
@@ -129,16 +129,16 @@ fn set_nodes(table: &mut AccountTable, plan: &AccountTable, windows: &[i64], m: 
 // Set minute by a plan's table.
 fn set_by(
     table: &mut AccountTable,
-    plan: &AccountTable,
+    plan: Ordered<'_>,
     windows: &[i64],
     m: u64,
 ) -> Result<(), Refusal>
-    requires { (in_order table.old ≡ true) × (in_order plan.now ≡ true) × (m < week_minutes) }
-    ensures number { number_in result ≡ timetable_refusal table.old plan.now windows.now }
-    ensures table { table.new ≡ kept (timetable_refusal table.old plan.now windows.now) (minute_table table.old plan.now windows.now m) table.old }
+    requires { (in_order table.old ≡ true) × (m < week_minutes) }
+    ensures number { number_in result ≡ timetable_refusal table.old plan.entry.table.now windows.now }
+    ensures table { table.new ≡ kept (timetable_refusal table.old plan.entry.table.now windows.now) (minute_table table.old plan.entry.table.now windows.now m) table.old }
 {
     timetable_refusal(table, plan, windows)?;
-    set_nodes(table, plan, windows, m);
+    set_nodes(table, plan.table, windows, m);
     renewing::renew_below(table, 0);
     Ok(())
 }
@@ -171,6 +171,11 @@ pub fn set_minute(
     early_refusal(table, minute)?;
     let mut built = [0; Table::LENGTH];
     reading::build(&mut built, plan)?;
-    set_by(table, &built, windows, numbers::natural(minute))?;
+    set_by(
+        table,
+        Ordered { table: &built },
+        windows,
+        numbers::natural(minute),
+    )?;
     Ok(0)
 }

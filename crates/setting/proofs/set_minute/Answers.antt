@@ -73,17 +73,18 @@ returns-in_err-build-clause-table c =
     let passed = early_passed c.args.table.now c.args.plan.now c.args.windows.now c.args.minute (ok_number _ first c.in_ok-early_refusal.was) in
     c.in-Some.ensures.cases.same ∙ refused_keeps _ _ _ _ (plan_number _ _ _ _ _ passed (err_number _ c.build.ensures.number c.in_err-build.was))
 
-pub set_by-requires : goal.set_by-requires
+pub invariant_of-set_by : goal.invariant_of-set_by
 unfolding check_answer planned blank
+invariant_of-set_by c =
+    let checked : check_answer c.args.plan.now ≡ 0 = ok_number _ c.build.ensures.number c.in_ok-build.was in
+    let plan : c.build.new.table ≡ planned c.args.plan.now = c.in_ok-build.ensures.table in
+    record { in_order = ap in_order plan ∙ from_facts _ (planned_in_order _ checked) }
+
+pub set_by-requires : goal.set_by-requires
 set_by-requires c =
     let first = rw (c.in-Some.ensures.cases.same, to_z-of_z w64 _ c.ranges.minute) at c.early_refusal.ensures.first in
     let passed = early_passed c.args.table.now c.args.plan.now c.args.windows.now c.args.minute (ok_number _ first c.in_ok-early_refusal.was) in
-    let checked : check_answer c.args.plan.now ≡ 0 = ok_number _ c.build.ensures.number c.in_ok-build.was in
-    let plan : c.build.new.table ≡ planned c.args.plan.now = c.in_ok-build.ensures.table in (
-      ap in_order c.in-Some.ensures.cases.same ∙ passed.order,
-      ap in_order plan ∙ from_facts _ (planned_in_order _ checked),
-      omega (arith, natural_of c.natural.ensures c.ranges.minute, minute_below _ passed.minutes),
-    )
+    (ap in_order c.in-Some.ensures.cases.same ∙ passed.order, omega (arith, natural_of c.natural.ensures c.ranges.minute, minute_below _ passed.minutes))
 
 pub returns-in_err-set_by-clause-answer : goal.returns-in_err-set_by-clause-answer
 unfolding set_minute_answer check_answer planned blank

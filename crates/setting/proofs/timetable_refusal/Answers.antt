@@ -15,7 +15,7 @@ shares_fit-requires c = λ i hi. (timed _ _ _ (sym c.fitting.ensures ∙ c.if-no
 
 pub judge-week-requires : goal.judge-week-requires
 judge-week-requires c = (
-  shared c.args.table.now c.args.plan.now c.args.windows.now (facts _ c.requires),
+  shared c.args.table.now c.args.plan.table.now c.args.windows.now (facts _ c.args.plan.in_order),
   timed _ _ _ (sym c.fitting.ensures ∙ c.if-not-fitting.false),
 )
 
