@@ -1,35 +1,35 @@
 // Look: the rate, balance and waiting count of a node, and the grains of its rate that nobody gets.
 #![tactic(auto)]
 
-ghost use Rattle.std.specs.Prelude.{◌≡◌, true, ◌<◌};
+ghost use Rattle.std.specs.Prelude.{◌≡◌, ◌<◌};
 ghost use Rattle.definitions.specs.Limits.{nodes};
-ghost use Rattle.definitions.specs.Order.{in_order};
 ghost use Rattle.answers.specs.Answers.{number_in, told_seen};
 ghost use Rattle.definitions.specs.Calls.{lost_grains, look_refusal, look_answer};
 
 use answers::{Refusal, Seen};
+use order::Ordered;
 use sums::Summand;
-use table::{AccountTable, Table, tree};
+use table::{Table, tree};
 
-// The first cause that turns look back.
-fn look_refusal(table: &AccountTable, node: i64) -> Result<(), Refusal>
-    ensures first { number_in result ≡ look_refusal table.now node }
+// The first cause that turns look at a table in order back.
+fn look_refusal(ordered: Ordered<'_>, node: i64) -> Result<(), Refusal>
+    ensures first { number_in result ≡ look_refusal ordered.entry.table.now node }
 {
-    order::judge(table)?;
     if !numbers::within(node, 0, Table::LAST_NODE) {
         return Err(Refusal::OutsideLimits);
     }
-    if !tree::there(table, numbers::natural(node) as usize) {
+    if !tree::there(ordered.table, numbers::natural(node) as usize) {
         return Err(Refusal::NotThere);
     }
     Ok(())
 }
 
 // The grains that nobody gets: a class's rate less the sum of its children's rates; for a client 0. Document 02, (b).
-fn lost_grains(table: &AccountTable, k: usize) -> i64
-    requires { (in_order table.now ≡ true) × (k < nodes) }
-    ensures { result ≡ lost_grains table.now k }
+fn lost_grains(ordered: Ordered<'_>, k: usize) -> i64
+    requires { k < nodes }
+    ensures { result ≡ lost_grains ordered.entry.table.now k }
 {
+    let table = ordered.table;
     if !tree::is_class(table, k) {
         return 0;
     }
@@ -44,12 +44,13 @@ pub fn look(table: &[i64], node: i64) -> Result<Seen, Refusal>
     let Some(table) = table.as_array() else {
         return Err(Refusal::NotInOrder);
     };
-    look_refusal(table, node)?;
+    let ordered = order::judge(table)?;
+    look_refusal(ordered, node)?;
     let k = numbers::natural(node) as usize;
     Ok(Seen {
         rate: Table::get(table, k, Table::RATE),
         balance: Table::get(table, k, Table::BALANCE),
         waiting: Table::get(table, k, Table::WAITING),
-        lost: lost_grains(table, k),
+        lost: lost_grains(ordered, k),
     })
 }

@@ -1,6 +1,5 @@
 -- Each test is what its cause says. `search` goes through the causes by the tests that the code made on the way.
-use Rattle.std.proofs.Common.{◌≡◌, not, Bool, ℕ, ℤ, List, sym, ap, ◌∙◌, arith}
-use Rattle.std.proofs.lemmas.Result.{err_from_is_err_and}
+use Rattle.std.proofs.Common.{◌≡◌, Bool, ℕ, ℤ, List, sym, ap, ◌∙◌, arith}
 use mir.Syntax.{w64}
 use mir.Val.{SFits, of_z, to_z}
 use mir.Facts.{to_z-of_z}
@@ -8,7 +7,7 @@ use Rattle.numbers.specs.Whole.{plus, within_ℤ}
 use Rattle.definitions.specs.Limits.{last_node}
 use Rattle.definitions.specs.Tree.{tree_of, there}
 use Rattle.definitions.specs.Calls.{look_refusal}
-use Rattle.definitions.proofs.Refusals.{first_here, causes, found, natural_of}
+use Rattle.definitions.proofs.Refusals.{causes, found, natural_of}
 use Rattle.definitions.proofs.Passed.{below}
 use Rattle.answers.specs.Answers.{number_in}
 use Rattle.looking.proofs.look_refusal.Goals as goal
@@ -20,15 +19,9 @@ fits r e = e ∙ ap (within_ℤ 0 last_node) (to_z-of_z r)
 is_there : (t : List ℤ) {b : Bool} {z : ℤ} {n : ℕ} → SFits w64 z → n ≡ plus (to_z w64 (of_z w64 z)) → b ≡ there (tree_of t) n → b ≡ there (tree_of t) (plus z)
 is_there t r is e = e ∙ ap (there (tree_of t)) (natural_of is r)
 
-pub returns-in_err-judge : goal.returns-in_err-judge
-unfolding number_in look_refusal
-returns-in_err-judge c =
-    let p = err_from_is_err_and c.from_residual.result c.from_residual.ensures.1 in
-    rw (p.1, p.2, c.in_err-judge.ensures.0) (record { first = sym (first_here 1 _ _ (ap not c.in_err-judge.ensures.1)) })
-
 pub returns-then-not-within : goal.returns-then-not-within
 unfolding number_in look_refusal
-returns-then-not-within c = record { first = found _ _ (search (causes, c.in_ok-judge.ensures.1, fits c.ranges.node c.within.ensures)) }
+returns-then-not-within c = record { first = found _ _ (search (causes, c.args.ordered.in_order, fits c.ranges.node c.within.ensures)) }
 
 pub there-requires : goal.there-requires
 there-requires c =
@@ -37,9 +30,9 @@ there-requires c =
 pub returns-then-not-there : goal.returns-then-not-there
 unfolding number_in look_refusal
 returns-then-not-there c =
-    record { first = found _ _ (search (causes, c.in_ok-judge.ensures.1, fits c.ranges.node c.within.ensures, is_there _ c.ranges.node c.natural.ensures c.there.ensures)) }
+    record { first = found _ _ (search (causes, c.args.ordered.in_order, fits c.ranges.node c.within.ensures, is_there _ c.ranges.node c.natural.ensures c.there.ensures)) }
 
 pub returns : goal.returns
 unfolding number_in look_refusal
 returns c =
-    record { first = found _ _ (search (causes, c.in_ok-judge.ensures.1, fits c.ranges.node c.within.ensures, is_there _ c.ranges.node c.natural.ensures c.there.ensures)) }
+    record { first = found _ _ (search (causes, c.args.ordered.in_order, fits c.ranges.node c.within.ensures, is_there _ c.ranges.node c.natural.ensures c.there.ensures)) }

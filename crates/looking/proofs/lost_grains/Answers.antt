@@ -29,13 +29,13 @@ unfolding lost_grains
 returns-then-not-is_class c = sym (cond_false _ _ _ (sym c.is_class.ensures ∙ c.if-not-is_class.true))
 
 pub sum_under-given-requires : goal.sum_under-given-requires
-sum_under-given-requires c = in_order_summable _ _ (facts _ c.requires.0)
+sum_under-given-requires c = in_order_summable _ _ (facts _ c.args.ordered.in_order)
 
 pub lowered-requires : goal.lowered-requires
 unfolding term
 lowered-requires c =
     let stored = to_z-of_z w64 _ (sfits_of c.get.type_inv) ∙ c.get.ensures in
-    omega (arith, ap minus stored, c.sum_under-given.ensures, small _ _ c.requires.0 c.requires.1 (sym c.is_class.ensures ∙ c.if-not-is_class.false))
+    omega (arith, ap minus stored, c.sum_under-given.ensures, small _ _ c.args.ordered.in_order c.requires (sym c.is_class.ensures ∙ c.if-not-is_class.false))
 
 pub returns : goal.returns
 unfolding lost_grains term
