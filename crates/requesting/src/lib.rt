@@ -71,6 +71,7 @@ fn tree_refusal(ordered: Ordered<'_>, k: usize, size: u64) -> Result<(), Refusal
 }
 
 // A request at node k of a table that is known to be in order. Where it is refused, nothing is written.
+// Kept: an `order::Ordered` is no plainer here, since a writer would end the type's promise at its first write.
 pub fn request_in_order(table: &mut AccountTable, k: usize, tag: i64, size: u64)
     requires { (in_order table.old ≡ true) × (request_limits (pos k) (pos size) ≡ true) × (size < 2 ^ 63) }
     ensures { table.new ≡ request_table table.old (pos k) tag (pos size) }

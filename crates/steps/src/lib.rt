@@ -64,6 +64,7 @@ fn lend(table: &mut AccountTable, lists: &mut Lists)
 
 // The four steps, on a table in order and lists that have room for all that wait at their ports. Returns how many requests were
 // dispatched to each port.
+// Kept: an `order::Ordered` is no plainer here, since a writer would end the type's promise at its first write.
 pub fn run(table: &mut AccountTable, first: &mut [i64], second: &mut [i64]) -> PortCounts
     requires { (in_order table.old ≡ true) × (entry_length * port_waiting table.old first_port ≤ length first.old) × (entry_length * port_waiting table.old second_port ≤ length second.old) }
     ensures table { table.new ≡ (ticked table.old).table }
