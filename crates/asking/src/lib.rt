@@ -24,6 +24,7 @@ pub fn list_clients<'a>(table: &AccountTable, list: &'a mut [u64; Table::NODES])
 
 // Makes a load's next request, where its tree has clients, and answers the state of the draws after it. The table is known to be in
 // order, and the askers are its clients.
+// Kept: an `order::Ordered` is no plainer here, since a writer would end the type's promise at its first write.
 pub fn ask(table: &mut AccountTable, askers: &[u64], state: u32) -> u32
     requires { (in_order table.old ≡ true) × (askers.now ≡ clients table.old) }
     ensures { load_of table.new result ≡ asked (load_of table.old state) }

@@ -13,28 +13,18 @@ use answers::Refusal;
 use table::{AccountTable, Table};
 
 // Whether sort and places 1 to 5 of node k are the same in both.
-#[tactic(auto, using(numbers::proofs::All::all_loop))]
 fn same_node(first: &AccountTable, second: &AccountTable, k: usize) -> bool
     requires { k < nodes }
     ensures { result ≡ all_below rate_at (λ p. same_ℤ (place first.now k p) (place second.now k p)) }
 {
-    let mut same = true;
-    for p in 0..Table::RATE {
-        same = same & Table::same_place(first, second, k, p);
-    }
-    same
+    numbers::all_below(Table::RATE, |p| Table::same_place(first, second, k, p))
 }
 
 // Whether all nodes are the same in both.
-#[tactic(auto, using(numbers::proofs::All::all_loop))]
 fn same_nodes(first: &AccountTable, second: &AccountTable) -> bool
     ensures { result ≡ all_below nodes (λ k. all_below rate_at (λ p. same_ℤ (place first.now k p) (place second.now k p))) }
 {
-    let mut same = true;
-    for k in 0..Table::NODES {
-        same = same & same_node(first, second, k);
-    }
-    same
+    numbers::all_below(Table::NODES, |k| same_node(first, second, k))
 }
 
 fn same_tree(first: &AccountTable, second: &AccountTable) -> bool

@@ -77,18 +77,16 @@ pub fn plan_length(edition: Edition, n: usize) -> usize
 }
 
 // Whether bytes begin with four bytes FF.
-#[tactic(auto, using(numbers::proofs::All::all_loop))]
 fn marked(s: &[u8]) -> bool
     ensures { result ≡ all_below mark_length (λ i. eqb (byte_at s.now i) mark_byte) }
 {
     if s.len() < Format::MARK_LENGTH {
         return false;
     }
-    let mut all = true;
-    for i in 0..Format::MARK_LENGTH {
-        all = all & (bytes::byte(s, i) == Format::MARK_BYTE);
-    }
-    all
+    numbers::all_below(
+        Format::MARK_LENGTH,
+        |i| bytes::byte(s, i) == Format::MARK_BYTE,
+    )
 }
 
 // The edition of plan bytes.
@@ -125,16 +123,11 @@ fn entry_formed(s: &[u8], edition: Edition, n: usize, i: usize) -> bool
 }
 
 // Whether all offsets and kinds are right.
-#[tactic(auto, using(numbers::proofs::All::all_loop))]
 fn entries_formed(s: &[u8], edition: Edition, n: usize) -> bool
     requires { Framed s.now edition n }
     ensures { result ≡ all_below n (entry_formed s.now) }
 {
-    let mut ok = true;
-    for i in 0..n {
-        ok = ok & entry_formed(s, edition, n, i);
-    }
-    ok
+    numbers::all_below(n, |i| entry_formed(s, edition, n, i))
 }
 
 // Whether the length, the count, every offset and every kind are right.

@@ -73,15 +73,11 @@ fn unstated(table: &AccountTable, k: usize) -> bool
 }
 
 // Whether a stated node is in the tree.
-#[tactic(auto, using(numbers::proofs::All::all_loop), unfolding(planlaws::specs::Writing::any_stated, definitions::specs::Tree::each_node))]
+#[tactic(auto, unfolding(planlaws::specs::Writing::any_stated, definitions::specs::Tree::each_node))]
 fn any_stated(table: &AccountTable) -> bool
     ensures { result ≡ any_stated (tree_of table.now) }
 {
-    let mut none = true;
-    for k in 0..Table::NODES {
-        none = none & unstated(table, k);
-    }
-    !none
+    !numbers::all_below(Table::NODES, |k| unstated(table, k))
 }
 
 // Whether an edition has no kind for a node of the tree.

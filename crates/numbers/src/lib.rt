@@ -1,8 +1,9 @@
 // Whole numbers for the account table: the natural and the negative part of an i64, sums and differences.
 #![tactic(auto)]
 
-ghost use Rattle.std.specs.Prelude.{◌≡◌, ◌+◌, ◌^◌, ◌<◌, ◌≤◌, pos, ◌+ℤ◌, ◌-ℤ◌};
+ghost use Rattle.std.specs.Prelude.{ℕ, Bool, ◌≡◌, ◌+◌, ◌^◌, ◌<◌, ◌≤◌, pos, ◌+ℤ◌, ◌-ℤ◌};
 ghost use Rattle.std.specs.Int.Signed.{le_z};
+ghost use Rattle.numbers.specs.Below.{all_below};
 ghost use Rattle.numbers.specs.Whole.{plus, minus, same_ℤ, within_ℤ};
 
 // Kept: comparisons and conversions are functions, since contracts speak of a whole number by its two parts, of which no clause of std does.
@@ -77,4 +78,17 @@ pub fn within(z: i64, low: u64, high: u64) -> bool
     }
     let n = natural(z);
     low <= n && n <= high
+}
+
+// Whether a test passes at each number below n. Every number is tested, also behind one that fails, so that no test waits for another.
+#[tactic(auto, using(crate::proofs::All::all_loop))]
+pub fn all_below<F: Fn(usize) -> bool>(n: usize, test: F) -> bool
+    requires { (k : ℕ) → k < n → F.pre test k }
+    ensures { (p : ℕ → Bool) → ((k : ℕ) (b : Bool) → k < n → F.post test k b → b ≡ p k) → result ≡ all_below n p }
+{
+    let mut ok = true;
+    for k in 0..n {
+        ok = ok & test(k);
+    }
+    ok
 }

@@ -42,16 +42,12 @@ fn request_in_order(table: &AccountTable, k: usize, i: usize) -> bool
 }
 
 // Whether every request of node k is in order.
-#[tactic(auto, using(numbers::proofs::All::all_loop), unfolding(definitions::specs::Order::queue_in_order))]
+#[tactic(auto, unfolding(definitions::specs::Order::queue_in_order))]
 fn queue_in_order(table: &AccountTable, k: usize) -> bool
     requires { (k < nodes) × (waiting table.now k ≤ most_waiting) × ((tree_of table.now).depth k ≤ greatest_depth) }
     ensures { result ≡ queue_in_order table.now k }
 {
-    let mut ok = true;
-    for i in 0..queue::waiting(table, k) {
-        ok = ok & request_in_order(table, k, i);
-    }
-    ok
+    numbers::all_below(queue::waiting(table, k), |i| request_in_order(table, k, i))
 }
 
 // The mark of arrival number a.
@@ -63,16 +59,11 @@ fn mark_of(a: u64) -> usize
 }
 
 // Whether it differs from those of every node below k.
-#[tactic(auto, using(numbers::proofs::All::all_loop))]
 fn differs_below(table: &AccountTable, a: u64, k: usize) -> bool
     requires { (k ≤ nodes) × ((j : ℕ) → j < nodes → waiting table.now j ≤ most_waiting) }
     ensures { result ≡ all_below k (differs_at table.now a) }
 {
-    let mut ok = true;
-    for j in 0..k {
-        ok = ok & queue::differs_at(table, a, j);
-    }
-    ok
+    numbers::all_below(k, |j| queue::differs_at(table, a, j))
 }
 
 // The same where the marks of every node below k are set: a number whose mark is not set need not be compared.

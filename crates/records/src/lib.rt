@@ -87,13 +87,9 @@ fn record_in_order(table: &AccountTable, k: usize) -> bool
 }
 
 // Whether every record is in order.
-#[tactic(auto, using(numbers::proofs::All::all_loop), unfolding(crate::specs::Record::records_in_order))]
+#[tactic(auto, unfolding(crate::specs::Record::records_in_order))]
 pub fn records_in_order(table: &AccountTable) -> bool
     ensures { result ≡ records_in_order table.now }
 {
-    let mut ok = true;
-    for k in 0..Table::NODES {
-        ok = ok & record_in_order(table, k);
-    }
-    ok
+    numbers::all_below(Table::NODES, |k| record_in_order(table, k))
 }

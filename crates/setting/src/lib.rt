@@ -33,15 +33,10 @@ fn same_node(table: &AccountTable, plan: &AccountTable, k: usize) -> bool
 }
 
 // Whether they are of all nodes.
-#[tactic(auto, using(numbers::proofs::All::all_loop))]
 fn same_nodes(table: &AccountTable, plan: &AccountTable) -> bool
     ensures { result ≡ all_below nodes (same_node table.now plan.now) }
 {
-    let mut same = true;
-    for k in 0..Table::NODES {
-        same = same & same_node(table, plan, k);
-    }
-    same
+    numbers::all_below(Table::NODES, |k| same_node(table, plan, k))
 }
 
 // Whether a table has the plan's nodes, parents, sorts, depths and disk rate.
@@ -127,6 +122,7 @@ fn set_nodes(table: &mut AccountTable, plan: &AccountTable, windows: &[i64], m: 
 }
 
 // Set minute by a plan's table.
+// Kept: an `order::Ordered` is no plainer here, since a writer would end the type's promise at its first write.
 fn set_by(
     table: &mut AccountTable,
     plan: Ordered<'_>,

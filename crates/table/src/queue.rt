@@ -25,14 +25,10 @@ pub fn arrival(table: &AccountTable, k: usize, i: usize) -> u64
 }
 
 // Whether arrival number a differs from those that wait at node j.
-#[tactic(auto, using(numbers::proofs::All::all_loop), unfolding(definitions::specs::Order::differs_at))]
+#[tactic(auto, unfolding(definitions::specs::Order::differs_at))]
 pub fn differs_at(table: &AccountTable, a: u64, j: usize) -> bool
     requires { (j < nodes) × (waiting table.now j ≤ most_waiting) }
     ensures { result ≡ differs_at table.now a j }
 {
-    let mut ok = true;
-    for i in 0..waiting(table, j) {
-        ok = ok & (a != arrival(table, j, i));
-    }
-    ok
+    numbers::all_below(waiting(table, j), |i| a != arrival(table, j, i))
 }

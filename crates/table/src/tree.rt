@@ -59,13 +59,9 @@ pub fn child_of(table: &AccountTable, c: usize, k: usize) -> bool
 }
 
 // Whether class c has no children.
-#[tactic(auto, using(numbers::proofs::All::all_loop), unfolding(definitions::specs::Tree::childless))]
+#[tactic(auto, unfolding(definitions::specs::Tree::childless))]
 pub fn childless(table: &AccountTable, c: usize) -> bool
     ensures { result ≡ childless (tree_of table.now) c }
 {
-    let mut none = true;
-    for k in 0..Table::NODES {
-        none = none & !child_of(table, c, k);
-    }
-    none
+    numbers::all_below(Table::NODES, |k| !child_of(table, c, k))
 }

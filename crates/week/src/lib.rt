@@ -43,7 +43,6 @@ fn share_at(plan: &AccountTable, part: &[u64; cells::CELLS], j: usize, k: usize)
 }
 
 // Adds the share of node k at minute j of the part, where it is there, to the sum of its kind under its class.
-// Kept: the new form is no plainer: one function of this and sums::add_share would have to be told the tree that has the shares.
 fn add_node(
     plan: &AccountTable,
     part: &[u64; cells::CELLS],
@@ -54,13 +53,9 @@ fn add_node(
     requires { Shared plan.now × Small part.now × (j < part_minutes) × (0 < k) × (k < nodes) × ShareSums (cell_tree (tree_of plan.now) part.now j) k sums.old }
     ensures { ShareSums (cell_tree (tree_of plan.now) part.now j) (k + 1) sums.new }
 {
-    if !table::tree::there(plan, k) {
-        return;
+    if let Some(at) = sums::sum_of(plan, k) {
+        sums[at] += share_at(plan, part, j, k);
     }
-    let c = Table::natural(plan, k, Table::PARENT) as usize;
-    let kind = Table::natural(plan, k, Table::KIND) as usize;
-    let at = sums::sum_at(c, kind);
-    sums[at] += share_at(plan, part, j, k);
 }
 
 // The sums of each kind under all classes.
@@ -79,16 +74,11 @@ fn add_nodes(
 }
 
 // Whether no sum of one kind is above a limit.
-#[tactic(auto, using(numbers::proofs::All::all_loop))]
 fn sums_within(sums: &[u64; Table::SHARE_SUMS], kind: usize, limit: u64) -> bool
     requires { kind < kinds }
     ensures { result ≡ all_below nodes (λ c. leb (get_or sums.now (sum_at c kind) 0) limit) }
 {
-    let mut ok = true;
-    for c in 0..Table::NODES {
-        ok = ok & (sums[sums::sum_at(c, kind)] <= limit);
-    }
-    ok
+    numbers::all_below(Table::NODES, |c| sums[sums::sum_at(c, kind)] <= limit)
 }
 
 // Whether at minute j of the part the fixed shares and the stated rates are within their limits under each class.

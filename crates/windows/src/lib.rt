@@ -96,15 +96,10 @@ fn window_formed(plan: &AccountTable, windows: &[i64], i: usize) -> bool
 }
 
 // Whether every window is.
-#[tactic(auto, using(numbers::proofs::All::all_loop))]
 pub fn windows_formed(plan: &AccountTable, windows: &[i64]) -> bool
     ensures { result ≡ all_below (window_count windows.now) (window_formed (tree_of plan.now) windows.now) }
 {
-    let mut ok = true;
-    for i in 0..windows.len() / WINDOW {
-        ok = ok & window_formed(plan, windows, i);
-    }
-    ok
+    numbers::all_below(windows.len() / WINDOW, |i| window_formed(plan, windows, i))
 }
 
 // Whether the share of window i is in the limits of its node's kind.
@@ -118,16 +113,12 @@ fn share_fits(plan: &AccountTable, windows: &[i64], i: usize) -> bool
 }
 
 // Whether every window's share is.
-#[tactic(auto, using(numbers::proofs::All::all_loop), unfolding(hourlaws::specs::Windows::shares_fit))]
+#[tactic(auto, unfolding(hourlaws::specs::Windows::shares_fit))]
 pub fn shares_fit(plan: &AccountTable, windows: &[i64]) -> bool
     requires { (i : ℕ) → i < window_count windows.now → window_node windows.now i < nodes }
     ensures { result ≡ shares_fit (tree_of plan.now) windows.now }
 {
-    let mut ok = true;
-    for i in 0..windows.len() / WINDOW {
-        ok = ok & share_fits(plan, windows, i);
-    }
-    ok
+    numbers::all_below(windows.len() / WINDOW, |i| share_fits(plan, windows, i))
 }
 
 // Whether window i covers minute m for its node.

@@ -1,5 +1,6 @@
 use Rattle.std.proofs.Common.{arith}
 use Rattle.numbers.proofs.Sums.{sum_grows, sum_upto}
+use Rattle.definitions.specs.Limits.{nodes}
 use Rattle.definitions.specs.Places.{waiting}
 use Rattle.definitions.proofs.Facts.{facts}
 use Rattle.definitions.proofs.Ports.{port_whole_number}
@@ -42,5 +43,5 @@ pub returns : goal.returns
 returns c =
     let sums = c.loop-k.invariant in
     by_ports _ c.args.ordered.in_order _ _
-    (sum_upto c.loop-k.k 64 _ _ sums.all (omega arith) (omega arith))
-    (sum_upto c.loop-k.k 64 _ _ sums.second (omega arith) (omega arith))
+    (sum_upto c.loop-k.k nodes _ _ sums.all (omega arith) (omega arith))
+    (sum_upto c.loop-k.k nodes _ _ sums.second (omega arith) (omega arith))
