@@ -81,6 +81,7 @@ pub struct Seen {
 }
 
 // The number of a refusal.
+// Kept: the C interface needs it: a refusal leaves the code as its number.
 pub fn number_of(why: Refusal) -> u64
     ensures number { result ≡ number_of why }
     ensures small { result ≤ last_refusal }
@@ -107,7 +108,7 @@ pub fn number_of(why: Refusal) -> u64
 }
 
 impl From<Refusal> for u64 {
-    ghost from_gives = { λ why n. n ≡ number_of why };
+    ghost from_gives = { λ why n. (n ≡ number_of why) × (n ≤ last_refusal) };
 
     fn from(refusal: Refusal) -> u64 {
         number_of(refusal)
@@ -148,6 +149,7 @@ impl TryFrom<u64> for Refusal {
 }
 
 // The number of the refusal in an answer, or 0.
+// Kept: the C interface needs it: plan check answers the number, or 0.
 #[tactic(auto, unfolding(crate::specs::Answers::number_in))]
 pub fn number_told<T: Drop>(answer: Result<T, Refusal>) -> u64
     ensures number { result ≡ number_in answer }

@@ -8,6 +8,7 @@ ghost use Rattle.asking.specs.Asking.{clients, load_of, asked};
 use table::{AccountTable, Table, tree};
 
 // The clients of a table by rising number, which are put at the start of a list.
+// Kept: no heap: the clients stand at the start of an array of all 64.
 #[tactic(auto, using(crate::proofs::Listing::listing))]
 pub fn list_clients<'a>(table: &AccountTable, list: &'a mut [u64; Table::NODES]) -> &'a [u64]
     ensures { result.now ≡ clients table.now }

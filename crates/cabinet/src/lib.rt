@@ -15,11 +15,12 @@ use answers::Refusal;
 use table::Table;
 
 // The negated number of a refusal.
+// Kept: the C interface needs it, here and below: a call answers one number, negative where it is refused.
 #[tactic(auto, unfolding(numbers::specs::Whole::minus))]
 fn negated(why: Refusal) -> i64
     ensures { result ≡ pos 0 -ℤ pos (number_of why) }
 {
-    numbers::lowered(0, answers::number_of(why))
+    numbers::lowered(0, u64::from(why))
 }
 
 // The number of an answer.

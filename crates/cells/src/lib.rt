@@ -17,6 +17,7 @@ pub const PART: usize = 32;
 
 pub const PARTS: usize = 315;
 
+// Kept: fixed memory needs it: a cell is 0 for none, else a share and one; an Option would take twice the stack.
 pub const CELLS: usize = Table::NODES * PART;
 
 // Writes v into the cells of a range, and answers whether all of them were 0.

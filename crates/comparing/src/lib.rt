@@ -13,6 +13,7 @@ use answers::Refusal;
 use table::{AccountTable, Table};
 
 // Whether sort and places 1 to 5 of node k are the same in both.
+// Kept: the new form is no plainer: same and set minute compare other places, each by its own definition.
 fn same_node(first: &AccountTable, second: &AccountTable, k: usize) -> bool
     requires { k < nodes }
     ensures { result ≡ all_below rate_at (λ p. same_ℤ (place first.now k p) (place second.now k p)) }

@@ -9,6 +9,7 @@ use sums::{Summand, UnderClass};
 use table::{AccountTable, Table};
 
 // The sums under each class: shares by kind, depths, and the natural and the negative parts of the balances.
+// Kept: the new form is no plainer: sums of one kind stand side by side, as `sums` adds them up.
 #[derive(Drop)]
 pub struct ClassSums {
     pub shares: [u64; Table::SHARE_SUMS],

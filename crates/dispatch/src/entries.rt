@@ -17,6 +17,7 @@ pub struct Entry {
 }
 
 // The dispatch lists of the two ports, and how many entries they have.
+// Kept: the C interface needs it: both lists are lent, and the counts are answered.
 #[derive(Drop)]
 pub struct Lists<'a> {
     pub first: &'a mut [i64],

@@ -1,4 +1,4 @@
-// Where the parts of a plan stand, whether its bytes are well formed, and its nodes.
+// Where the parts of a plan stand, and whether its bytes are well formed.
 #![tactic(auto)]
 
 ghost use Rattle.std.specs.Prelude.{◌≡◌, ◌+◌, ◌*◌, ◌≤◌, ◌<◌, eqb, length};

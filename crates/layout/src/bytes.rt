@@ -16,6 +16,7 @@ pub fn byte(s: &[u8], i: usize) -> u64
 }
 
 // The integer of the two bytes, and of the four bytes, from place i on.
+// Kept: the new form is no plainer: two bytes and four have definitions of their own, and each body is one line.
 pub fn pair(s: &[u8], i: usize) -> u64
     requires { i + 1 < length s.now }
     ensures pair { result ≡ le2 s.now i }

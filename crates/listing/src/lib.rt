@@ -17,6 +17,7 @@ use table::{AccountTable, Table, tree};
 const STANDINGS: usize = Table::NODES * (Table::LAST_LEVEL as usize + 1);
 
 // Nodes in order: the first `count` of these.
+// Kept: no heap: the nodes are the first `count` of 64 places, seen as one list by the model.
 #[derive(Drop)]
 pub struct Listing {
     numbers: [u64; Table::NODES],

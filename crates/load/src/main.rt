@@ -2,7 +2,7 @@
 // seed, the number of ticks and a plan. Document 02, (d).
 #![tactic(auto)]
 
-ghost use Rattle.std.specs.Prelude.{◌≡◌, ◌≤◌, IfOk};
+ghost use Rattle.std.specs.Prelude.{◌≡◌, ◌≤◌, IfOk, MatchResult};
 ghost use Rattle.loadformat.specs.Parts.{opening, ticks_allowed, part_of};
 
 use table::Table;
@@ -16,17 +16,19 @@ const STDOUT: i32 = 1;
 
 const STDERR: i32 = 2;
 
-// That writing failed.
+// That writing failed, at the text up to a tick.
 #[derive(Clone, Copy)]
-struct WriteFailed;
+struct WriteFailed {
+    tick: u64,
+}
 
 // Hands on what stands before the first tick of an input. The answer is the tick up to which the text was handed on.
 fn send_opening(part: &[u8], input: &[u8]) -> Result<u64, WriteFailed>
     requires { part.now ≡ opening input.now }
-    ensures { IfOk result (λ tick. tick ≡ 0) }
+    ensures { MatchResult result (λ tick. tick ≡ 0) (λ failed. failed.tick ≡ 0) }
 {
     if !io::write_all(STDOUT, part) {
-        return Err(WriteFailed);
+        return Err(WriteFailed { tick: 0 });
     }
     Ok(0)
 }
@@ -34,10 +36,10 @@ fn send_opening(part: &[u8], input: &[u8]) -> Result<u64, WriteFailed>
 // Hands on the part of an input behind a tick up to which the text was handed on, up to a last tick. The answer is that tick.
 fn send_part(part: &[u8], input: &[u8], sent: u64, last: u64) -> Result<u64, WriteFailed>
     requires { (sent ≤ last) × (part.now ≡ part_of input.now sent last) }
-    ensures { IfOk result (λ tick. tick ≡ last) }
+    ensures { MatchResult result (λ tick. tick ≡ last) (λ failed. failed.tick ≡ last) }
 {
     if !io::write_all(STDOUT, part) {
-        return Err(WriteFailed);
+        return Err(WriteFailed { tick: last });
     }
     Ok(last)
 }

@@ -20,7 +20,7 @@ const TICKS_AT: usize = 4;
 const PLAN_AT: usize = 8;
 
 // Reads the plan of an input.
-// Kept: the new form is no plainer: reading takes a table as a slice of any length, and so does this, which asks for one of zeros.
+// Kept: the new form is no plainer: it asks for a table of zeros, which has the right length.
 #[tactic(auto, using(loadformat::proofs::Inputs::short_refused), unfolding(answers::specs::Answers::number_in))]
 fn read_input(table: &mut [i64], input: &[u8]) -> Result<(), Refusal>
     requires { table.old ≡ blank }
@@ -41,7 +41,7 @@ pub fn begin(text: &mut Part, table: &mut [i64], input: &[u8]) -> Progress
 {
     text.clear();
     if let Err(why) = read_input(table, input) {
-        let number = answers::number_of(why);
+        let number = u64::from(why);
         text.put_refused(number);
         return Progress {
             state: 0,

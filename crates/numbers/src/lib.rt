@@ -6,7 +6,7 @@ ghost use Rattle.std.specs.Int.Signed.{le_z};
 ghost use Rattle.numbers.specs.Below.{all_below};
 ghost use Rattle.numbers.specs.Whole.{plus, minus, same_ℤ, within_ℤ};
 
-// Kept: comparisons and conversions are functions, since contracts speak of a whole number by its two parts, of which no clause of std does.
+// Kept: the new form is no plainer: std has no clause by the natural and the negative part, nor one that names these tests.
 
 // The natural part of `z`: `z` itself, and 0 where it is negative.
 pub fn natural(z: i64) -> u64

@@ -10,6 +10,7 @@ pub use reading::{check, read};
 pub use writing::write;
 
 // For the cabinet's firmware in C: the refusal number of plan bytes, or 0.
+// Kept: a named form of document 01 needs it: one function over a byte slice that answers 0 or the number.
 pub fn hds_plan_check(contents: &[u8]) -> u32
     ensures { result ≡ check_answer contents.now }
 {

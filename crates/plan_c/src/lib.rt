@@ -1,4 +1,5 @@
 // The check of `plan` as a static library for the cabinet's firmware in C.
+// Kept: the C interface needs it: an archive exports the functions of its own crate only.
 #![tactic(auto)]
 
 ghost use Rattle.std.specs.Prelude.{◌≡◌};

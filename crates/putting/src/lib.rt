@@ -19,6 +19,7 @@ pub fn put_byte(buffer: &mut [u8], a: usize, n: u64)
 }
 
 // Writes an integer as two bytes, and as four, from place a on.
+// Kept: the new form is no plainer: two bytes and four have definitions of their own, and each body is one line.
 pub fn put_pair(buffer: &mut [u8], a: usize, n: u64)
     requires { a + 2 ≤ length buffer.old }
     ensures { buffer.new ≡ written buffer.old a (bytes2 n) }

@@ -13,6 +13,7 @@ ghost use Rattle.queues.specs.Marks.{marks, mark_of, MarkedBelow};
 use table::{AccountTable, Table, queue};
 
 // How many marks there are: a prime, so that numbers in equal steps have different marks, unless the step is a multiple of it.
+// Kept: no heap: the marks stand for a set of the arrival numbers.
 const MARKS: usize = 4093;
 
 // Whether request i of node k arrived after the one before it.
@@ -78,6 +79,7 @@ fn differs_marked(table: &AccountTable, marked: &[bool; MARKS], a: u64, k: usize
 }
 
 // Whether the arrival numbers of node k differ from those of every lower node. Sets the marks of node k.
+// Kept: the new form is no plainer: each turn also sets a mark, so it is no `Fn`.
 #[tactic(auto, using(numbers::proofs::All::all_loop), unfolding(definitions::specs::Order::arrivals_differ))]
 fn arrivals_differ(table: &AccountTable, marked: &mut [bool; MARKS], k: usize) -> bool
     requires { (k < nodes) × ((j : ℕ) → j < nodes → waiting table.now j ≤ most_waiting) × MarkedBelow table.now marked.old k }
@@ -94,6 +96,7 @@ fn arrivals_differ(table: &AccountTable, marked: &mut [bool; MARKS], k: usize) -
 }
 
 // Whether every waiting request is in order.
+// Kept: the new form is no plainer: each turn also sets marks, so it is no `Fn`.
 #[tactic(auto, using(numbers::proofs::All::all_loop))]
 pub fn queues_in_order(table: &AccountTable) -> bool
     requires { ((j : ℕ) → j < nodes → waiting table.now j ≤ most_waiting) × ((j : ℕ) → j < nodes → (tree_of table.now).depth j ≤ greatest_depth) }

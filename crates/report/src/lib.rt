@@ -72,7 +72,7 @@ pub fn report(contents: &[u8]) -> Text<TEXT_LENGTH>
     match reading::read(&mut table, contents) {
         Ok(_) => put_lines(&mut text, &table),
         Err(why) => {
-            let number = answers::number_of(why);
+            let number = u64::from(why);
             text.put_refused(number);
         }
     }

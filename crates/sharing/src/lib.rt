@@ -22,6 +22,7 @@ fn change_share_limits(node: i64, kind: i64, share: i64) -> bool
 }
 
 // Whether the fixed shares beside node k would be above 10,000.
+// Kept: the new form is no plainer: this and the next go by sums and definitions of their own.
 fn shares_above(ordered: Ordered<'_>, k: usize, kind: u64, share: u64) -> bool
     requires { (k < nodes) × (there (tree_of ordered.table.now) k ≡ true) × (k ≡ root → ⊥) × (share ≤ greatest_rate) }
     ensures { result ≡ shares_above (reshared ordered.entry.table.now k (pos kind) (pos share)) ((tree_of ordered.entry.table.now).parent k) }

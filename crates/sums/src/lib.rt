@@ -11,7 +11,7 @@ ghost use Rattle.sums.specs.Sums.{term, Summable, SumsBelow, Shareable, share_su
 use table::{AccountTable, Table, tree};
 
 // What is summed. Shares are those of one kind; credits are the natural parts of the balances, debts the negative parts.
-// Kept: the new form is no plainer: the contracts name the summand, and would have to say of a closure what it gives at each node.
+// Kept: the new form is no plainer: contracts name the summand, whose sums are known to fit (`Summable`); of a closure they could not.
 #[derive(Clone, Copy)]
 pub enum Summand {
     Shares(u64),
@@ -137,6 +137,7 @@ pub fn add_node(table: &AccountTable, which: Summand, sums: &mut [u64; Table::NO
 }
 
 // Adds two summands of node k, where it is there, to their sums of its class. One of the two is 0, so one sum alone is written.
+// Kept: the new form is no plainer: one of the two sums is written, and which is selected without a jump.
 pub fn add_one_of(
     table: &AccountTable,
     first: Summand,
@@ -163,6 +164,7 @@ pub fn add_one_of(
 }
 
 // Where the sum of one kind under class c stands among the sums of shares, which stand kind by kind.
+// Kept: the new form is no plainer: the place is worked out from the kind, and no array is chosen.
 pub fn sum_at(c: usize, kind: usize) -> usize
     requires { (c < nodes) × (kind < kinds) }
     ensures place { result ≡ sum_at c kind }

@@ -21,8 +21,8 @@ pub struct PortCounts {
 }
 
 // The numbers of an account table that has the right length.
-// Kept: `k < nodes` and `p < record_length` stay clauses. A type for the numbers of nodes and places would stand as `k.number` in every
-// clause and index, and say no more.
+// Kept: the C interface needs it: document 01 says where each number of a lent table stands, and parents are numbers.
+// Kept: the new form is no plainer: a type for node numbers would be opened at each index, and made again of each parent that is read.
 pub type AccountTable = [i64; Table::LENGTH];
 
 #[derive(Clone, Copy)]
@@ -99,7 +99,7 @@ impl Table {
     pub const SEEN: usize = 4;
 
     // Sorts and kinds.
-    // Kept: sorts, kinds and ports are numbers here, since a lent table holds them and C hands them over.
+    // Kept: the new form is no plainer: a lent table holds sorts, kinds and ports as numbers, and the definitions speak of these.
     pub const UNUSED: u64 = 0;
 
     pub const CLASS: u64 = 1;
@@ -164,7 +164,7 @@ impl Table {
     }
 
     // It as a natural number, where it is not negative.
-    // Kept beside `natural`: it asks more and tests nothing, which the test of a whole table needs to be quick.
+    // Kept: the new form is no plainer: it asks more than `natural` and tests nothing.
     pub fn unsigned(table: &AccountTable, k: usize, p: usize) -> u64
         requires { (k < nodes) × (p < record_length) × (minus (place table.now k p) ≡ 0) }
         ensures { result ≡ plus (place table.now k p) }

@@ -5,7 +5,7 @@ ghost use Rattle.definitions.specs.Tree.{tree_of, there, is_class, is_client, is
 
 use crate::{AccountTable, Table};
 
-// Kept: these tests stay functions of their own, one for each definition of `Tree`. One function over the number would be `==` by another name.
+// Kept: the new form is no plainer: each test has a definition of its own in `Tree`, and one over the number would be `==`.
 
 // Whether node k is there.
 #[tactic(auto, unfolding(definitions::specs::Tree::there, definitions::specs::Tree::tree_of))]

@@ -9,6 +9,7 @@ ghost use Rattle.text.specs.Text.{most_digits, longest_refused, decimal, refused
 pub const MOST_DIGITS: usize = 20;
 
 // A buffer with a text at its start, and how long the text is.
+// Kept: no heap: a text stands at the start of its buffer; what is behind it is promised, too.
 #[derive(Drop)]
 pub struct Text<const N: usize> {
     pub bytes: [u8; N],
@@ -45,6 +46,7 @@ impl<const N: usize> Text<N> {
     }
 
     // Puts bytes as they are.
+    // Kept: no heap: std says what `write!` puts only for a String, so every piece is put by these three.
     #[tactic(auto, using(crate::proofs::Appending::append_copied))]
     pub fn put_text(&mut self, piece: &[u8])
         requires { self.old.len + length piece.now ≤ N }

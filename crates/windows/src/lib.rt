@@ -25,6 +25,7 @@ const SHARE: usize = 3;
 pub const WEEK: u64 = 10080;
 
 // The numbers of one window, right or not.
+// Kept: the C interface needs it: a timetable is lent as plain numbers, and the definitions speak of a place in it.
 #[derive(Clone, Copy)]
 pub struct Window {
     pub node: i64,

@@ -18,6 +18,7 @@ fn in_order(table: &[i64]) -> bool
 
 // Writes the plan of a table into a buffer, in edition 1 or 2, and answers its length. Document 01, "Same tree, and the plan
 // file", and document 02, (f).
+// Kept: the C interface needs it: the edition is a number, and refusal 2 comes after 1 and before 13.
 pub fn write(table: &[i64], edition: i64, buffer: &mut [u8]) -> Result<i64, Refusal>
     ensures answer { told result ≡ write_answer table.now edition buffer.old }
     ensures buffer { buffer.new ≡ write_buffer table.now edition buffer.old }
