@@ -6,7 +6,7 @@ use Rattle.loadinput.proofs.begin.Goals as goal
 
 pub returns-in-Err : goal.returns-in-Err
 returns-in-Err c =
-    let number = c.number_of-number.ensures.number ∙ sym (err_number c.in-Err.why c.read_input.ensures.number c.in-Err.is) in
+    let number = c.from-number.ensures.0 ∙ sym (err_number c.in-Err.why c.read_input.ensures.number c.in-Err.is) in
     refused_begins _ _ _ _ _ _ number (λ z. absurd (omega (arith, numbered c.in-Err.why))) (rw (c.clear.ensures.bytes, c.clear.ensures.len) at c.put_refused.ensures)
 
 pub four-state-requires : goal.four-state-requires

@@ -16,6 +16,6 @@ returns-in-Ok c =
 pub returns-in-Err : goal.returns-in-Err
 unfolding blank
 returns-in-Err c =
-    let number = ap refused_line c.number_of-number.ensures.number in
+    let number = ap refused_line c.from-number.ensures.0 in
     let line = append_as _ _ _ _ _ _ (number ∙ refused_text _ _ c.read.ensures.answer _ c.in-Err.is) (rw (c.new-text.ensures.len, c.new-text.ensures.bytes) at c.put_refused.ensures) in
     record { length = line.behind ∙ zero-add _; text = line.bytes }
