@@ -11,65 +11,79 @@ ghost use Rattle.listing.specs.Listed.{Listed};
 use layout::{Edition, bodies};
 use table::{AccountTable, Table};
 
-// Writes the head.
-fn put_head(table: &AccountTable, edition: Edition, n: usize, buffer: &mut [u8])
-    requires { (n ≡ (plan_of table.now).count) × (plan_length edition n ≤ length buffer.old) }
-    ensures { buffer.new ≡ written buffer.old 0 (head_bytes edition (plan_of table.now)) }
-{
-    let rate = Table::natural(table, 0, Table::RATE);
-    let depth = Table::natural(table, 0, Table::DEPTH);
-    putting::put_head(buffer, edition, rate, depth, n as u64);
+// What a plan of an edition is written from: a table in order, and the nodes of the plan, in order.
+#[derive(Clone, Copy)]
+pub struct Contents<'a> {
+    pub table: &'a AccountTable,
+    pub edition: Edition,
+    pub nodes: &'a [u64],
+    pub ghost listed: { Listed table.now nodes.now (length nodes.now) },
 }
 
-// Writes entry i, and body i, of the nodes listed.
-fn put_entry(table: &AccountTable, edition: Edition, listed: &[u64], i: usize, buffer: &mut [u8])
-    requires { (Listed table.now listed.now (length listed.now)) × (i < length listed.now) × (plan_length edition (length listed.now) ≤ length buffer.old) }
-    ensures { buffer.new ≡ written buffer.old (entry_at edition i) (entry_bytes edition (plan_of table.now) i) }
-{
-    let node = listing::node_of(table, listed[i] as usize);
-    let offset = forms::body_at(edition, listed.len(), i) as u64;
-    let at = forms::entry_at(edition, i);
-    putting::put_entry(buffer, at, node.number, node.parent, offset);
-}
-
-fn put_body(table: &AccountTable, edition: Edition, listed: &[u64], i: usize, buffer: &mut [u8])
-    requires { (Listed table.now listed.now (length listed.now)) × (i < length listed.now) × (plan_length edition (length listed.now) ≤ length buffer.old) }
-    ensures { buffer.new ≡ written buffer.old (body_at edition (length listed.now) i) (body_bytes edition (plan_of table.now) i) }
-{
-    let node = listing::node_of(table, listed[i] as usize);
-    let sort = node.sort;
-    let kind = bodies::kind_in(sort);
-    let share = bodies::share_in(bodies::held_by(sort));
-    let at = forms::body_at(edition, listed.len(), i);
-    putting::put_body(buffer, edition, at, kind, share, node.depth);
-}
-
-// Writes the entries in turn, and the bodies behind them.
-// Kept: the new form is no plainer: one function of both would be told the writer, the bytes and the place of each.
-fn put_entries(table: &AccountTable, edition: Edition, listed: &[u64], buffer: &mut [u8])
-    requires { (Listed table.now listed.now (length listed.now)) × (plan_length edition (length listed.now) ≤ length buffer.old) }
-    ensures { buffer.new ≡ written buffer.old (entry_at edition 0) (bytes_below (length listed.now) (entry_bytes edition (plan_of table.now))) }
-{
-    for i in 0..listed.len() {
-        put_entry(table, edition, listed, i, buffer);
+impl<'a> Contents<'a> {
+    // Writes the head.
+    fn put_head(self, buffer: &mut [u8])
+        requires { plan_length self.edition (length self.nodes.now) ≤ length buffer.old }
+        ensures { buffer.new ≡ written buffer.old 0 (head_bytes self.entry.edition (plan_of self.entry.table.now)) }
+    {
+        let rate = Table::natural(self.table, 0, Table::RATE);
+        let depth = Table::natural(self.table, 0, Table::DEPTH);
+        putting::put_head(buffer, self.edition, rate, depth, self.nodes.len() as u64);
     }
-}
 
-fn put_bodies(table: &AccountTable, edition: Edition, listed: &[u64], buffer: &mut [u8])
-    requires { (Listed table.now listed.now (length listed.now)) × (plan_length edition (length listed.now) ≤ length buffer.old) }
-    ensures { buffer.new ≡ written buffer.old (entry_at edition (length listed.now)) (bytes_below (length listed.now) (body_bytes edition (plan_of table.now))) }
-{
-    for i in 0..listed.len() {
-        put_body(table, edition, listed, i, buffer);
+    // Writes entry i, and body i, of the nodes listed.
+    #[tactic(auto, using(listing::proofs::Members::listed_few, listing::proofs::Members::listed_standing))]
+    fn put_entry(self, i: usize, buffer: &mut [u8])
+        requires { (i < length self.nodes.now) × (plan_length self.edition (length self.nodes.now) ≤ length buffer.old) }
+        ensures { buffer.new ≡ written buffer.old (entry_at self.entry.edition i) (entry_bytes self.entry.edition (plan_of self.entry.table.now) i) }
+    {
+        let node = listing::node_of(self.table, self.nodes[i] as usize);
+        let offset = forms::body_at(self.edition, self.nodes.len(), i) as u64;
+        let at = forms::entry_at(self.edition, i);
+        putting::put_entry(buffer, at, node.number, node.parent, offset);
     }
-}
 
-// Writes the plan: the head, the entries, then the bodies.
-pub fn put_plan(table: &AccountTable, edition: Edition, listed: &[u64], buffer: &mut [u8])
-    requires { (Listed table.now listed.now (length listed.now)) × (plan_length edition (length listed.now) ≤ length buffer.old) }
-    ensures { buffer.new ≡ written buffer.old 0 (plan_bytes edition table.now) }
-{
-    put_head(table, edition, listed.len(), buffer);
-    put_entries(table, edition, listed, buffer);
-    put_bodies(table, edition, listed, buffer);
+    #[tactic(auto, using(listing::proofs::Members::listed_few, listing::proofs::Members::listed_standing))]
+    fn put_body(self, i: usize, buffer: &mut [u8])
+        requires { (i < length self.nodes.now) × (plan_length self.edition (length self.nodes.now) ≤ length buffer.old) }
+        ensures { buffer.new ≡ written buffer.old (body_at self.entry.edition (length self.entry.nodes.now) i) (body_bytes self.entry.edition (plan_of self.entry.table.now) i) }
+    {
+        let node = listing::node_of(self.table, self.nodes[i] as usize);
+        let sort = node.sort;
+        let kind = bodies::kind_in(sort);
+        let share = bodies::share_in(bodies::held_by(sort));
+        let at = forms::body_at(self.edition, self.nodes.len(), i);
+        putting::put_body(buffer, self.edition, at, kind, share, node.depth);
+    }
+
+    // Writes the entries in turn, and the bodies behind them.
+    // Kept: the new form is no plainer: one function of both would be told the writer, the bytes and the place of each.
+    fn put_entries(self, buffer: &mut [u8])
+        requires { plan_length self.edition (length self.nodes.now) ≤ length buffer.old }
+        ensures { buffer.new ≡ written buffer.old (entry_at self.entry.edition 0) (bytes_below (length self.entry.nodes.now) (entry_bytes self.entry.edition (plan_of self.entry.table.now))) }
+    {
+        for i in 0..self.nodes.len() {
+            self.put_entry(i, buffer);
+        }
+    }
+
+    fn put_bodies(self, buffer: &mut [u8])
+        requires { plan_length self.edition (length self.nodes.now) ≤ length buffer.old }
+        ensures { buffer.new ≡ written buffer.old (entry_at self.entry.edition (length self.entry.nodes.now)) (bytes_below (length self.entry.nodes.now) (body_bytes self.entry.edition (plan_of self.entry.table.now))) }
+    {
+        for i in 0..self.nodes.len() {
+            self.put_body(i, buffer);
+        }
+    }
+
+    // Writes the plan: the head, the entries, then the bodies.
+    #[tactic(auto, using(listing::proofs::Members::listed_count, planformat::proofs::Written::plan_written), unfolding(planlaws::specs::Writing::plan_bytes))]
+    pub fn put_plan(self, buffer: &mut [u8])
+        requires { plan_length self.edition (length self.nodes.now) ≤ length buffer.old }
+        ensures { buffer.new ≡ written buffer.old 0 (plan_bytes self.entry.edition self.entry.table.now) }
+    {
+        self.put_head(buffer);
+        self.put_entries(buffer);
+        self.put_bodies(buffer);
+    }
 }

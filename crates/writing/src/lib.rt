@@ -8,6 +8,7 @@ ghost use Rattle.planlaws.specs.Writing.{write_buffer, write_answer};
 
 use answers::Refusal;
 use layout::Edition;
+use planparts::Contents;
 
 // Whether the table is in order: exactly then look finds the root.
 fn in_order(table: &[i64]) -> bool
@@ -41,6 +42,11 @@ pub fn write(table: &[i64], edition: i64, buffer: &mut [u8]) -> Result<i64, Refu
     if listing::unwritable(table, edition) {
         return Err(Refusal::StatedWrong);
     }
-    planparts::put_plan(table, edition, nodes, buffer);
+    let contents = Contents {
+        table,
+        edition,
+        nodes,
+    };
+    contents.put_plan(buffer);
     Ok(numbers::whole(length as u64))
 }

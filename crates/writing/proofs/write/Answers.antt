@@ -3,8 +3,10 @@ use Rattle.std.proofs.Common.{◌≡◌, sym, ap, ap₂, ◌∙◌, ℕ, ℤ, po
 use mir.Syntax.{w64}
 use mir.Val.{SFits, to_z, of_z}
 use mir.ValLaws.{to_z-of_z}
+use Rattle.std.proofs.Math.Seq.{take-length}
 use Rattle.numbers.specs.Whole.{within_ℤ}
 use Rattle.definitions.specs.Tree.{tree_of}
+use Rattle.definitions.specs.Order.{in_order}
 use Rattle.definitions.specs.Refusals.{accepted}
 use Rattle.definitions.proofs.Facts.{facts}
 use Rattle.answers.specs.declared.Refusal.TheVariants.{NotInOrder, OutsideLimits, BufferShort, StatedWrong}
@@ -99,6 +101,17 @@ returns-then-unwritable-clause-buffer c =
     let long = plan_long same c.list_nodes-listing.ensures c.nodes-nodes.ensures edition c.plan_length-length.ensures in
     refused_buffer _ _ _ 16 (λ e. omega arith)
     (no_kind _ _ _ (sym c.in_order.ensures ∙ c.if-not-in_order.false) edition.within (omega (arith, long, c.if-buffer-length.false)) (kinds_of same edition c.unwritable.ensures ∙ c.if-unwritable.true))
+
+pub invariant_of-contents : goal.invariant_of-contents
+invariant_of-contents c =
+    let members = c.nodes-nodes.ensures ∙ c.list_nodes-listing.ensures in
+    record {
+      listed = record {
+        ordered = ap in_order c.in-Some.ensures.cases.same ∙ sym c.in_order.ensures ∙ c.if-not-in_order.false;
+        members = take-length _ ∙ members;
+        count = ap length members;
+      };
+    }
 
 pub returns-clause-answer : goal.returns-clause-answer
 unfolding told
