@@ -1,2 +1,3 @@
+pub mod Alone
 pub mod Covered
 pub mod Turns

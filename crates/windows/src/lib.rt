@@ -144,8 +144,8 @@ fn share_by(window: Window, m: u64, shares: &mut [u64; Table::NODES])
 fn plan_shares(plan: &AccountTable, shares: &mut [u64; Table::NODES])
     ensures { (k : ℕ) → k < nodes → get_or shares.new k 0 ≡ (tree_of plan.now).share k }
 {
-    for k in 0..Table::NODES {
-        shares[k] = Table::natural(plan, k, Table::SHARE);
+    for (k, share) in shares.iter_mut().enumerate() {
+        *share = Table::natural(plan, k, Table::SHARE);
     }
 }
 
