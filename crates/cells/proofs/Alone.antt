@@ -1,6 +1,6 @@
 -- What window i does is what it does alone.
 use Prim.Native.Nat.{ℕ}
-use mathlib.Core.Path.{◌≡◌, ap}
+use mathlib.Core.Path.{◌≡◌}
 use mathlib.Core.Bool.{Bool}
 use mathlib.Core.List.{List}
 use native.Mathlib.Omega.{arith}
@@ -12,8 +12,8 @@ use Rattle.windows.specs.Timed.{Timed}
 use Rattle.cells.specs.Cells.{cell_value, clear_at, FilledBy, MarkedBy}
 
 module _
-  (ws : List ℤ) (i : ℕ) (w : Window) (node : w.node ≡ window_number ws i window_node_at) (start : w.start ≡ window_number ws i window_start_at)
-  (end : w.end ≡ window_number ws i window_end_at) (share : w.share ≡ window_number ws i window_share_at) where
+    (ws : List ℤ) (i : ℕ) (w : Window) (node : w.node ≡ window_number ws i window_node_at) (start : w.start ≡ window_number ws i window_start_at)
+    (end : w.end ≡ window_number ws i window_end_at) (share : w.share ≡ window_number ws i window_share_at) where
   pub timed_alone : Timed ws i → Timed (alone w) 0
   unfolding window_number
   timed_alone t = record { whole = omega arith; node = rw node t.node; rises = rw (start, end) t.rises; ends = rw end t.ends }

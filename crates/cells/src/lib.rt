@@ -1,10 +1,10 @@
 // The cells of a part of the week, one for each node and each of the part's minutes, and the minutes at which shares can change.
 #![tactic(auto)]
 
-ghost use Rattle.std.specs.Prelude.{◌≡◌, false, ℕ, ◌+◌, ◌*◌, ◌-◌, ◌≤◌, ◌<◌, min, length, get_or, eqb};
+ghost use Rattle.std.specs.Prelude.{◌≡◌, false, ℕ, ◌+◌, ◌*◌, ◌-◌, ◌≤◌, ◌<◌, min, get_or, eqb};
 ghost use Rattle.numbers.specs.Below.{all_below};
 ghost use Rattle.definitions.specs.Limits.{nodes};
-ghost use Rattle.hourlaws.specs.Windows.{window_length, window_share_at, window_count, turn};
+ghost use Rattle.hourlaws.specs.Windows.{window_count, turn};
 ghost use Rattle.windows.specs.Alone.{alone};
 ghost use Rattle.windows.specs.Timed.{Timed};
 ghost use Rattle.cells.specs.Cells.{part_minutes, week_parts, cell_count, cell_at, cell_value, value_in, Filled, Ranged, reaches, clear_in, FilledBy, Marked, MarkedBy};
@@ -27,9 +27,9 @@ fn fill(cells: &mut [u64; CELLS], at: Range<usize>, v: u64) -> bool
     ensures { Filled cells.old cells.new at.start at.end v result }
 {
     let mut clear = true;
-    for x in at.start..at.end {
-        clear = clear & (cells[x] == 0);
-        cells[x] = v;
+    for cell in cells[at].iter_mut() {
+        clear = clear & (*cell == 0);
+        *cell = v;
     }
     clear
 }

@@ -7,7 +7,7 @@ ghost use Rattle.numbers.specs.Below.{all_below};
 ghost use Rattle.definitions.specs.Limits.{nodes};
 ghost use Rattle.definitions.specs.Tree.{tree_of};
 ghost use Rattle.windows.specs.Alone.{alone};
-ghost use Rattle.hourlaws.specs.Windows.{window_length, window_node_at, window_start_at, window_end_at, window_share_at, window_count, window_number, window_node, window_share, covers, window_formed, share_fits, shares_fit, share_in};
+ghost use Rattle.hourlaws.specs.Windows.{window_length, window_node_at, window_start_at, window_end_at, window_share_at, window_count, window_number, window_node, covers, window_formed, share_fits, shares_fit, share_in};
 
 use table::{AccountTable, Table};
 
@@ -100,7 +100,10 @@ fn window_formed(plan: &AccountTable, window: Window) -> bool
 pub fn windows_formed(plan: &AccountTable, windows: &[i64]) -> bool
     ensures { result ≡ all_below (window_count windows.now) (window_formed (tree_of plan.now) windows.now) }
 {
-    numbers::all_below(windows.len() / WINDOW, |i| window_formed(plan, Window::at(windows, i)))
+    numbers::all_below(
+        windows.len() / WINDOW,
+        |i| window_formed(plan, Window::at(windows, i)),
+    )
 }
 
 // Whether a window's share is in the limits of its node's kind.
@@ -118,7 +121,10 @@ pub fn shares_fit(plan: &AccountTable, windows: &[i64]) -> bool
     requires { (i : ℕ) → i < window_count windows.now → window_node windows.now i < nodes }
     ensures { result ≡ shares_fit (tree_of plan.now) windows.now }
 {
-    numbers::all_below(windows.len() / WINDOW, |i| share_fits(plan, Window::at(windows, i)))
+    numbers::all_below(
+        windows.len() / WINDOW,
+        |i| share_fits(plan, Window::at(windows, i)),
+    )
 }
 
 // Whether a window covers minute m for its node.
