@@ -1,2 +1,4 @@
+pub mod Alone
 pub mod Covered
+pub mod Filling
 pub mod Turns

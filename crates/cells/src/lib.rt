@@ -1,10 +1,11 @@
 // The cells of a part of the week, one for each node and each of the part's minutes, and the minutes at which shares can change.
 #![tactic(auto)]
 
-ghost use Rattle.std.specs.Prelude.{◌≡◌, false, ℕ, ◌+◌, ◌*◌, ◌-◌, ◌≤◌, ◌<◌, min, length, get_or, eqb};
+ghost use Rattle.std.specs.Prelude.{◌≡◌, false, ℕ, ◌+◌, ◌*◌, ◌-◌, ◌≤◌, ◌<◌, min, get_or, eqb};
 ghost use Rattle.numbers.specs.Below.{all_below};
 ghost use Rattle.definitions.specs.Limits.{nodes};
-ghost use Rattle.hourlaws.specs.Windows.{window_length, window_share_at, window_count, turn};
+ghost use Rattle.hourlaws.specs.Windows.{window_count, turn};
+ghost use Rattle.windows.specs.Alone.{alone};
 ghost use Rattle.windows.specs.Timed.{Timed};
 ghost use Rattle.cells.specs.Cells.{part_minutes, week_parts, cell_count, cell_at, cell_value, value_in, Filled, Ranged, reaches, clear_in, FilledBy, Marked, MarkedBy};
 
@@ -26,9 +27,9 @@ fn fill(cells: &mut [u64; CELLS], at: Range<usize>, v: u64) -> bool
     ensures { Filled cells.old cells.new at.start at.end v result }
 {
     let mut clear = true;
-    for x in at.start..at.end {
-        clear = clear & (cells[x] == 0);
-        cells[x] = v;
+    for cell in cells[at].iter_mut() {
+        clear = clear & (*cell == 0);
+        *cell = v;
     }
     clear
 }
@@ -52,34 +53,32 @@ pub fn cell_at(k: usize, j: usize) -> usize
     k * PART + j
 }
 
-// The cells of the minutes that window i covers.
-fn cover_of(windows: &[i64], i: usize, first: u64) -> Range<usize>
-    requires { Timed windows.now i }
-    ensures { Ranged windows.now i first result.start result.end }
+// The cells of the minutes that a window covers.
+#[tactic(auto, unfolding(hourlaws::specs::Windows::window_number))]
+fn cover_of(window: Window, first: u64) -> Range<usize>
+    requires { Timed (alone window) 0 }
+    ensures { Ranged (alone window) 0 first result.start result.end }
 {
-    let window = Window::at(windows, i);
-    let k = window.node();
-    let from = before(window.start(), first);
-    let to = before(window.end(), first);
+    let k = window.natural_node();
+    let from = before(window.natural_start(), first);
+    let to = before(window.natural_end(), first);
     cell_at(k, from)..cell_at(k, to)
 }
 
-// What window i writes into its cells: its share and one more.
-#[tactic(auto, unfolding(crate::specs::Cells::cell_value))]
-fn value_of(windows: &[i64], i: usize) -> u64
-    requires { window_length * i + window_share_at < length windows.now }
-    ensures { result ≡ cell_value windows.now i }
+// What a window writes into its cells: its share and one more.
+#[tactic(auto, unfolding(crate::specs::Cells::cell_value, hourlaws::specs::Windows::window_number))]
+fn value_of(window: Window) -> u64
+    ensures { result ≡ cell_value (alone window) 0 }
 {
-    Window::at(windows, i).share().min(Table::GREATEST_RATE) + 1
+    window.natural_share().min(Table::GREATEST_RATE) + 1
 }
 
-// Fills the cells of the minutes that window i covers, and answers whether all of them were 0.
-fn fill_window(cells: &mut [u64; CELLS], windows: &[i64], i: usize, first: u64) -> bool
-    requires { Timed windows.now i }
-    ensures { FilledBy windows.now first i cells.old cells.new result }
+// Fills the cells of the minutes that a window covers, and answers whether all of them were 0.
+fn fill_window(cells: &mut [u64; CELLS], window: Window, first: u64) -> bool
+    requires { Timed (alone window) 0 }
+    ensures { FilledBy (alone window) first 0 cells.old cells.new result }
 {
-    let at = cover_of(windows, i, first);
-    fill(cells, at, value_of(windows, i))
+    fill(cells, cover_of(window, first), value_of(window))
 }
 
 // Marks a minute, where it is one of the part that begins at `first`.
@@ -91,45 +90,42 @@ fn mark(turns: &mut [bool; PART], minute: u64, first: u64)
     }
 }
 
-// Marks the start and the end of window i.
-fn mark_window(turns: &mut [bool; PART], windows: &[i64], i: usize, first: u64)
-    requires { window_length * i + window_share_at < length windows.now }
-    ensures { MarkedBy windows.now first i turns.old turns.new }
+// Marks the start and the end of a window.
+#[tactic(auto, unfolding(hourlaws::specs::Windows::window_number))]
+fn mark_window(turns: &mut [bool; PART], window: Window, first: u64)
+    ensures { MarkedBy (alone window) first 0 turns.old turns.new }
 {
-    let window = Window::at(windows, i);
-    mark(turns, window.start(), first);
-    mark(turns, window.end(), first);
+    mark(turns, window.natural_start(), first);
+    mark(turns, window.natural_end(), first);
 }
 
-// Whether window i has a minute in the part that begins at `first`, or ends where it begins.
-fn reaches(windows: &[i64], i: usize, first: u64) -> bool
-    requires { (window_length * i + window_share_at < length windows.now) × (first ≤ week_parts * part_minutes) }
-    ensures { result ≡ reaches windows.now i first }
+// Whether a window has a minute in the part that begins at `first`, or ends where it begins.
+fn reaches(window: Window, first: u64) -> bool
+    requires { first ≤ week_parts * part_minutes }
+    ensures { result ≡ reaches (alone window) 0 first }
 {
-    let window = Window::at(windows, i);
-    let ends = first <= window.end();
-    let starts = window.start() < first + PART as u64;
+    let ends = first <= window.natural_end();
+    let starts = window.natural_start() < first + PART as u64;
     ends & starts
 }
 
-// Fills the cells of window i and marks its start and end, where it reaches the part, and answers whether the cells that it covers were 0.
+// Fills the cells of a window and marks its start and end, where it reaches the part, and answers whether the cells that it covers were 0.
 // Kept: the new form is no plainer: every method of a struct of cells, turns and first would have to say which of the three it leaves.
 fn add_window(
     cells: &mut [u64; CELLS],
     turns: &mut [bool; PART],
-    windows: &[i64],
-    i: usize,
+    window: Window,
     first: u64,
 ) -> bool
-    requires { Timed windows.now i × (first ≤ week_parts * part_minutes) }
-    ensures filled { FilledBy windows.now first i cells.old cells.new result }
-    ensures marked { MarkedBy windows.now first i turns.old turns.new }
+    requires { Timed (alone window) 0 × (first ≤ week_parts * part_minutes) }
+    ensures filled { FilledBy (alone window) first 0 cells.old cells.new result }
+    ensures marked { MarkedBy (alone window) first 0 turns.old turns.new }
 {
-    if !reaches(windows, i, first) {
+    if !reaches(window, first) {
         return true;
     }
-    mark_window(turns, windows, i, first);
-    fill_window(cells, windows, i, first)
+    mark_window(turns, window, first);
+    fill_window(cells, window, first)
 }
 
 // The same of every window, in turn: answers whether the cells that each covers were 0.
@@ -146,7 +142,7 @@ pub fn add_windows(
 {
     let mut clear = true;
     for i in 0..windows.len() / windows::WINDOW {
-        clear = clear & add_window(cells, turns, windows, i, first);
+        clear = clear & add_window(cells, turns, Window::at(windows, i), first);
     }
     clear
 }

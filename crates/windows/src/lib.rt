@@ -6,7 +6,8 @@ ghost use Rattle.numbers.specs.Whole.{plus};
 ghost use Rattle.numbers.specs.Below.{all_below};
 ghost use Rattle.definitions.specs.Limits.{nodes};
 ghost use Rattle.definitions.specs.Tree.{tree_of};
-ghost use Rattle.hourlaws.specs.Windows.{window_length, window_node_at, window_start_at, window_end_at, window_share_at, window_count, window_number, window_node, window_share, covers, window_formed, share_fits, shares_fit, share_in};
+ghost use Rattle.windows.specs.Alone.{alone};
+ghost use Rattle.hourlaws.specs.Windows.{window_length, window_node_at, window_start_at, window_end_at, window_share_at, window_count, window_number, window_node, covers, window_formed, share_fits, shares_fit, share_in};
 
 use table::{AccountTable, Table};
 
@@ -54,93 +55,94 @@ impl Window {
     }
 
     // The natural parts of its numbers.
-    pub fn node(self) -> usize
+    pub fn natural_node(self) -> usize
         ensures { result ≡ plus self.node }
     {
         numbers::natural(self.node) as usize
     }
 
-    pub fn start(self) -> u64
+    pub fn natural_start(self) -> u64
         ensures { result ≡ plus self.start }
     {
         numbers::natural(self.start)
     }
 
-    pub fn end(self) -> u64
+    pub fn natural_end(self) -> u64
         ensures { result ≡ plus self.end }
     {
         numbers::natural(self.end)
     }
 
-    pub fn share(self) -> u64
+    pub fn natural_share(self) -> u64
         ensures { result ≡ plus self.share }
     {
         numbers::natural(self.share)
     }
 }
 
-// Whether window i is right for a plan's table.
-fn window_formed(plan: &AccountTable, windows: &[i64], i: usize) -> bool
-    requires { window_length * i + window_share_at < length windows.now }
-    ensures { result ≡ window_formed (tree_of plan.now) windows.now i }
+// Whether a window is right for a plan's table.
+fn window_formed(plan: &AccountTable, window: Window) -> bool
+    ensures { result ≡ window_formed (tree_of plan.now) (alone window) 0 }
 {
-    let window = Window::at(windows, i);
     let start = numbers::within(window.start, 0, WEEK);
     let end = numbers::within(window.end, 0, WEEK);
-    let rises = window.start() < window.end();
+    let rises = window.natural_start() < window.natural_end();
     let node = numbers::within(window.node, 1, Table::LAST_NODE);
     if !node {
         return false;
     }
-    let there = table::tree::there(plan, window.node());
+    let there = table::tree::there(plan, window.natural_node());
     start & end & rises & node & there
 }
 
 // Whether every window is.
+#[tactic(auto, unfolding(hourlaws::specs::Windows::window_formed, hourlaws::specs::Windows::window_number))]
 pub fn windows_formed(plan: &AccountTable, windows: &[i64]) -> bool
     ensures { result ≡ all_below (window_count windows.now) (window_formed (tree_of plan.now) windows.now) }
 {
-    numbers::all_below(windows.len() / WINDOW, |i| window_formed(plan, windows, i))
+    numbers::all_below(
+        windows.len() / WINDOW,
+        |i| window_formed(plan, Window::at(windows, i)),
+    )
 }
 
-// Whether the share of window i is in the limits of its node's kind.
-fn share_fits(plan: &AccountTable, windows: &[i64], i: usize) -> bool
-    requires { (window_length * i + window_share_at < length windows.now) × (window_node windows.now i < nodes) }
-    ensures { result ≡ share_fits (tree_of plan.now) windows.now i }
+// Whether a window's share is in the limits of its node's kind.
+fn share_fits(plan: &AccountTable, window: Window) -> bool
+    requires { plus window.node < nodes }
+    ensures { result ≡ share_fits (tree_of plan.now) (alone window) 0 }
 {
-    let window = Window::at(windows, i);
-    let most = Table::share_limit(Table::natural(plan, window.node(), Table::KIND));
+    let most = Table::share_limit(Table::natural(plan, window.natural_node(), Table::KIND));
     numbers::within(window.share, 1, most)
 }
 
 // Whether every window's share is.
-#[tactic(auto, unfolding(hourlaws::specs::Windows::shares_fit))]
+#[tactic(auto, unfolding(hourlaws::specs::Windows::shares_fit, hourlaws::specs::Windows::share_fits, hourlaws::specs::Windows::window_number))]
 pub fn shares_fit(plan: &AccountTable, windows: &[i64]) -> bool
     requires { (i : ℕ) → i < window_count windows.now → window_node windows.now i < nodes }
     ensures { result ≡ shares_fit (tree_of plan.now) windows.now }
 {
-    numbers::all_below(windows.len() / WINDOW, |i| share_fits(plan, windows, i))
+    numbers::all_below(
+        windows.len() / WINDOW,
+        |i| share_fits(plan, Window::at(windows, i)),
+    )
 }
 
-// Whether window i covers minute m for its node.
-fn covers(windows: &[i64], i: usize, m: u64) -> bool
-    requires { window_length * i + window_share_at < length windows.now }
-    ensures { result ≡ covers windows.now i (window_node windows.now i) m }
+// Whether a window covers minute m for its node.
+fn covers(window: Window, m: u64) -> bool
+    ensures { result ≡ covers (alone window) 0 (plus window.node) m }
 {
-    let window = Window::at(windows, i);
-    let start = window.start() <= m;
-    let end = m < window.end();
+    let start = window.natural_start() <= m;
+    let end = m < window.natural_end();
     start & end
 }
 
-// Writes the share that window i gives its node, where it covers minute m.
-fn share_by(windows: &[i64], i: usize, m: u64, shares: &mut [u64; Table::NODES])
-    requires { (window_length * i + window_share_at < length windows.now) × (window_node windows.now i < nodes) }
-    ensures { (k : ℕ) → k < nodes → get_or shares.new k 0 ≡ cond (covers windows.now i k m) (window_share windows.now i) (get_or shares.old k 0) }
+// Writes the share that a window gives its node, where it covers minute m.
+fn share_by(window: Window, m: u64, shares: &mut [u64; Table::NODES])
+    requires { plus window.node < nodes }
+    ensures { (k : ℕ) → k < nodes → get_or shares.new k 0 ≡ cond (covers (alone window) 0 k m) (plus window.share) (get_or shares.old k 0) }
 {
-    if covers(windows, i, m) {
-        let window = Window::at(windows, i);
-        shares[window.node()] = window.share();
+    if covers(window, m) {
+        shares[window.natural_node()] = window.natural_share();
     }
 }
 
@@ -148,8 +150,8 @@ fn share_by(windows: &[i64], i: usize, m: u64, shares: &mut [u64; Table::NODES])
 fn plan_shares(plan: &AccountTable, shares: &mut [u64; Table::NODES])
     ensures { (k : ℕ) → k < nodes → get_or shares.new k 0 ≡ (tree_of plan.now).share k }
 {
-    for k in 0..Table::NODES {
-        shares[k] = Table::natural(plan, k, Table::SHARE);
+    for (k, share) in shares.iter_mut().enumerate() {
+        *share = Table::natural(plan, k, Table::SHARE);
     }
 }
 
@@ -160,6 +162,6 @@ pub fn shares_at(plan: &AccountTable, windows: &[i64], m: u64, shares: &mut [u64
 {
     plan_shares(plan, shares);
     for i in 0..windows.len() / WINDOW {
-        share_by(windows, i, m, shares);
+        share_by(Window::at(windows, i), m, shares);
     }
 }
