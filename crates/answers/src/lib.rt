@@ -148,6 +148,17 @@ impl TryFrom<u64> for Refusal {
     }
 }
 
+// The refusal of a number that one has.
+pub fn refusal_of(number: u64) -> Refusal
+    requires { (1 ≤ number) × (number ≤ last_refusal) }
+    ensures { number_of result ≡ number }
+{
+    match Refusal::try_from(number) {
+        Ok(refusal) => refusal,
+        Err(_) => unreachable!(),
+    }
+}
+
 // The number of the refusal in an answer, or 0.
 // Kept: the C interface needs it: plan check answers the number, or 0.
 #[tactic(auto, unfolding(crate::specs::Answers::number_in))]

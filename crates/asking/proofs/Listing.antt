@@ -7,8 +7,9 @@ use native.Mathlib.Nat.{mod-lt}
 use native.Mathlib.Numerals.{add-one}
 use native.Mathlib.Omega.{arith}
 use lib.ListN.{length, get_or, take, set, length-set, length-append, get_or-append}
-use lib.Seq.{get_or-append_seam, take-suc-set}
+use lib.Seq.{length-take-le, get_or-append_seam, take-suc-set}
 use lib.IntN.{ℤ}
+use Rattle.io.specs.Counts.{IsPrefixLen}
 use Rattle.numbers.proofs.Tests.{by_test, cond_true, cond_false}
 use Rattle.numbers.proofs.All.{below_cases}
 use Rattle.definitions.specs.Limits.{nodes}
@@ -91,9 +92,12 @@ pub lists_none : (tree : Tree) (xs : List ℕ) → nodes ≤ length xs → Lists
 unfolding clients_below
 lists_none tree xs room = record { room = room; size = refl; members = refl }
 
-pub lists_all : (t : List ℤ) (count : ℕ) (xs : List ℕ) → Lists (tree_of t) nodes count xs → take count xs ≡ clients t
+pub lists_all : (t : List ℤ) (k count : ℕ) (xs : List ℕ) → k ≡ nodes → Lists (tree_of t) k count xs → (IsPrefixLen count xs) × (take count xs ≡ clients t)
 unfolding clients
-lists_all t count xs l = l.members
+lists_all t k count xs end l =
+    let few = clients_few (tree_of t) k in
+    let within : count ≤ length xs = omega (arith, l.room, l.size) in
+    ((within, sym (length-take-le count xs within)), l.members ∙ ap (clients_below (tree_of t)) end)
 
 pub ruleset listing = (lists_none, lists_room, lists_more, lists_stay, lists_within, lists_all)
 

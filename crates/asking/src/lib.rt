@@ -1,17 +1,21 @@
 // The requests of a load. Document 02, (d).
 #![tactic(auto)]
 
-ghost use Rattle.std.specs.Prelude.{◌≡◌, true};
+ghost use Rattle.std.specs.Prelude.{◌≡◌, true, ◌≤◌, length, take};
+ghost use Rattle.io.specs.Counts.{IsPrefixLen};
+ghost use Rattle.definitions.specs.Limits.{nodes};
 ghost use Rattle.definitions.specs.Order.{in_order};
 ghost use Rattle.asking.specs.Asking.{clients, load_of, asked};
 
 use table::{AccountTable, Table, tree};
 
-// The clients of a table by rising number, which are put at the start of a list.
-// Kept: no heap: the clients stand at the start of an array of all 64.
+// Puts the clients of a table by rising number at the start of a list, and answers how many there are.
+// Kept: what may not change needs it: any list that is long enough is lent, and what stands in it afterwards is promised.
 #[tactic(auto, using(crate::proofs::Listing::listing))]
-pub fn list_clients<'a>(table: &AccountTable, list: &'a mut [u64; Table::NODES]) -> &'a [u64]
-    ensures { result.now ≡ clients table.now }
+pub fn list_clients(table: &AccountTable, list: &mut [u64]) -> usize
+    requires { nodes ≤ length list.old }
+    ensures count { IsPrefixLen result list.new }
+    ensures clients { take result list.new ≡ clients table.now }
 {
     let mut count = 0;
     for k in 0..Table::NODES {
@@ -20,7 +24,7 @@ pub fn list_clients<'a>(table: &AccountTable, list: &'a mut [u64; Table::NODES])
             count += 1;
         }
     }
-    &list[..count]
+    count
 }
 
 // Makes a load's next request, where its tree has clients, and answers the state of the draws after it. The table is known to be in

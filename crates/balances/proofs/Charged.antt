@@ -77,5 +77,8 @@ chargeable_next tree amount l m u r more k low =
       debt = λ j h. let e : suc l * amount ≡ suc m * amount + amount = rw more (omega arith) in omega (arith, r.debt j h, lower_debt u amount k j r.long low);
     }
 
+pub chargeable_here : (tree : Tree) (amount l : ℕ) (u : List ℤ) → Chargeable tree amount l u → (k : ℕ) → k < nodes → minus (balance u k) + amount ≤ 2 ^ 63
+chargeable_here tree amount l u r k low = omega (arith, r.debt k low)
+
 pub chargeable_parent : (t : List ℤ) (amount l : ℕ) (u : List ℤ) → Within t → Chargeable (tree_of t) amount l u → (k : ℕ) → k < nodes → (tree_of u).parent k < nodes
 chargeable_parent t amount l u w r k low = rw r.same (w.parent k low)

@@ -4,7 +4,7 @@ use mathlib.Core.List.{List}
 use native.Mathlib.Omega.{arith}
 use lib.IntN.{ℤ}
 use Rattle.numbers.specs.Whole.{plus}
-use Rattle.definitions.specs.Limits.{nodes, depth_at, rate_at, queue_at, size_at, greatest_depth, greatest_rate}
+use Rattle.definitions.specs.Limits.{nodes, parent_at, depth_at, rate_at, queue_at, size_at, greatest_depth, greatest_rate}
 use Rattle.definitions.specs.Places.{place, rate, depth_grains, size}
 use Rattle.definitions.specs.Tree.{tree_of}
 use Rattle.balances.specs.Within.{Within}
@@ -15,6 +15,10 @@ unfolding tree_of depth_grains
 depth_grains_small t k h = omega arith
 
 module _ (t : List ℤ) (w : Within t) (k : ℕ) (low : k < nodes) where
+  pub parent_at_law : plus (place t k parent_at) < nodes
+  unfolding tree_of
+  parent_at_law = w.parent k low
+
   pub depth_at_law : plus (place t k depth_at) ≤ greatest_depth
   unfolding tree_of
   depth_at_law = w.depth k low

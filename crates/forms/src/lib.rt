@@ -1,14 +1,28 @@
-// Where the parts of a plan stand, and whether its bytes are well formed.
+// Where the parts of a plan stand, whether its bytes are well formed, and its nodes.
 #![tactic(auto)]
 
 ghost use Rattle.std.specs.Prelude.{◌≡◌, ◌+◌, ◌*◌, ◌≤◌, ◌<◌, eqb, length};
 ghost use Rattle.numbers.specs.Below.{all_below};
-ghost use Rattle.planformat.specs.Bytes.{byte_at};
-ghost use Rattle.planformat.specs.Format.{mark_byte, mark_length, head_length, long_share, depth_length, body_share_at, last_count, last_kind, start_of, share_length, body_length, entry_at, body_at, plan_length, edition_in, count_in, entry_formed, formed};
+ghost use Rattle.planformat.specs.Bytes.{byte_values, four_values, byte_at};
+ghost use Rattle.planformat.specs.Nodes.{share_in, held_by, entry_by};
+ghost use Rattle.planformat.specs.Format.{edition_of, mark_byte, mark_length, head_length, long_share, depth_length, body_share_at, last_count, last_kind, start_of, share_length, body_length, entry_at, body_at, plan_length, share_values, edition_in, count_in, entry_in, entry_formed, formed};
 ghost use Rattle.planformat.specs.Numbers.{kind_number};
 ghost use Rattle.planformat.specs.Framed.{Framed};
 
-use layout::{Edition, Format, Kind, bytes};
+use layout::{Edition, Format, Kind, Node, bodies, bytes};
+
+// The edition of a number.
+// Kept: what may not change needs it: every number is told an edition.
+#[tactic(auto, unfolding(planformat::specs::Format::edition_of))]
+pub fn edition_of(number: u64) -> Edition
+    ensures { result ≡ edition_of number }
+{
+    if number == Edition::FIRST as u64 {
+        Edition::First
+    } else {
+        Edition::Second
+    }
+}
 
 // Where the head begins.
 #[tactic(auto, unfolding(planformat::specs::Format::start_of))]
@@ -146,4 +160,29 @@ pub fn formed(s: &[u8]) -> bool
         return false;
     }
     entries_formed(s, edition, n)
+}
+
+// The node of entry i and its body.
+pub fn node_at(s: &[u8], edition: Edition, n: usize, i: usize) -> Node
+    requires { Framed s.now edition n × (i < n) × ((entry_in s.now i).kind ≤ last_kind edition) }
+    ensures entry { entry_by result ≡ entry_in s.now i }
+    ensures small { (result.number < byte_values) × (result.parent < byte_values) × (share_in (held_by result.sort) < share_values edition) × (result.depth < four_values) }
+{
+    let at = entry_at(edition, i);
+    let body = body_at(edition, n, i);
+    let number = bytes::byte(s, at);
+    let parent = bytes::byte(s, at + Format::ENTRY_PARENT);
+    let Ok(kind) = Kind::try_from(bytes::byte(s, body)) else {
+        unreachable!();
+    };
+    let at_share = body + Format::BODY_SHARE;
+    let share = bytes::share(s, edition, at_share);
+    let depth = bytes::four(s, at_share + share_length(edition));
+    let sort = bodies::sort_of(kind, share);
+    Node {
+        number,
+        parent,
+        sort,
+        depth,
+    }
 }

@@ -1,7 +1,7 @@
 // The nodes of a table in the order of its plan: by level, then by number; and what the plan says of a node.
 #![tactic(auto)]
 
-ghost use Rattle.std.specs.Prelude.{◌≡◌, not, ℕ, ◌≤◌, ◌<◌, List, take};
+ghost use Rattle.std.specs.Prelude.{◌≡◌, not, ◌≤◌, ◌<◌, length, take};
 ghost use Rattle.definitions.specs.Limits.{nodes};
 ghost use Rattle.definitions.specs.Tree.{tree_of, there, is_stated, test_if};
 ghost use Rattle.planformat.specs.Kinds.{kind_of};
@@ -10,34 +10,26 @@ ghost use Rattle.planlaws.specs.Writing.{stands, order, entry_of, any_stated, un
 ghost use Rattle.listing.specs.Listed.{Standing};
 
 use layout::{Edition, Node, Share, Sort};
-use std::marker::Model;
 use table::{AccountTable, Table, tree};
 
 // How many pairs of a level and a number there are.
 const STANDINGS: usize = Table::NODES * (Table::LAST_LEVEL as usize + 1);
 
-// Nodes in order: the first `count` of these.
-// Kept: no heap: the nodes are the first `count` of 64 places, seen as one list by the model.
-#[derive(Drop)]
+// Nodes in order, and how many: the first `count` of these.
+// Kept: no heap: the nodes are the first `count` of 64 places.
+#[derive(Clone, Copy)]
 pub struct Listing {
-    numbers: [u64; Table::NODES],
-    count: usize,
-}
-
-impl Model for Listing {
-    ghost Value = { List ℕ };
-
-    ghost view = { λ l. take l.count l.numbers };
-
-    ghost invariant = { λ l. l.count ≤ nodes };
+    pub nodes: [u64; Table::NODES],
+    pub count: usize,
+    pub ghost few: { count ≤ length nodes },
 }
 
 impl Listing {
     // These nodes.
     pub fn nodes(&self) -> &[u64]
-        ensures { result.now ≡ self.now }
+        ensures { result.now ≡ take self.now.count self.now.nodes }
     {
-        &self.numbers[..self.count]
+        &self.nodes[..self.count]
     }
 }
 
@@ -54,15 +46,16 @@ fn stands(table: &AccountTable, m: usize) -> bool
 
 // The nodes but for the root, by level, then by number.
 pub fn list_nodes(table: &AccountTable) -> Listing
-    ensures { result ≡ order (tree_of table.now) }
+    ensures nodes { take result.count result.nodes ≡ order (tree_of table.now) }
+    ensures count { result.count ≡ length (order (tree_of table.now)) }
 {
-    let mut numbers = [0; Table::NODES];
+    let mut nodes = [0; Table::NODES];
     let mut count = 0;
     for m in 0..STANDINGS {
-        numbers[count] = (m % Table::NODES) as u64;
+        nodes[count] = (m % Table::NODES) as u64;
         count += usize::from(stands(table, m));
     }
-    Listing { numbers, count }
+    Listing { nodes, count }
 }
 
 // Whether node k, where it is there, is not stated.

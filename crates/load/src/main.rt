@@ -49,7 +49,8 @@ fn send(input: &[u8]) -> Result<u64, WriteFailed>
     ensures { IfOk result (λ tick. tick ≡ ticks_allowed input.now) }
 {
     let mut table = [0i64; Table::LENGTH];
-    let mut text = Text::new();
+    let mut buffer = io::large_buffer();
+    let mut text = Text::new(&mut buffer);
     let mut progress = loadinput::begin(&mut text, &mut table, input);
     let mut sent = send_opening(text.so_far(), input)?;
     while progress.made < progress.ticks {

@@ -1,16 +1,19 @@
 // How a load begins: the reading of its input. Document 02, (d).
 #![tactic(auto)]
 
-ghost use Rattle.std.specs.Prelude.{◌≡◌};
+ghost use Rattle.std.specs.Prelude.{◌≡◌, ◌≤◌, length};
 ghost use Rattle.definitions.specs.Calls.{blank};
 ghost use Rattle.answers.specs.Answers.{number_in};
+ghost use Rattle.text.specs.Text.{longest_refused};
+ghost use Rattle.text.specs.Appended.{SameBuffer};
 ghost use Rattle.asking.specs.Asking.{load_of};
 ghost use Rattle.loadformat.specs.Text.{load_refusal, begun};
 ghost use Rattle.loadformat.specs.Parts.{Begins};
 
 use answers::Refusal;
 use layout::bytes;
-use loadformat::{Part, Progress};
+use loadformat::Progress;
+use text::Text;
 
 // Where the parts of the input stand.
 const SEED_AT: usize = 0;
@@ -35,9 +38,10 @@ fn read_input(table: &mut [i64], input: &[u8]) -> Result<(), Refusal>
 }
 
 // Makes a load ready for an input, and its text what stands before the first tick.
-pub fn begin(text: &mut Part, table: &mut [i64], input: &[u8]) -> Progress
-    requires { table.old ≡ blank }
-    ensures { Begins input.now text.old.bytes (load_of table.new result.state) result.made result.ticks text.new.len text.new.bytes }
+pub fn begin(text: &mut Text, table: &mut [i64], input: &[u8]) -> Progress
+    requires { (longest_refused ≤ length text.old.bytes.now) × (table.old ≡ blank) }
+    ensures begins { Begins input.now text.old.bytes.now (load_of table.new result.state) result.made result.ticks text.new.len text.new.bytes.now }
+    ensures same { SameBuffer text.old text.new }
 {
     text.clear();
     if let Err(why) = read_input(table, input) {

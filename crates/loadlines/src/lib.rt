@@ -5,12 +5,12 @@ ghost use Rattle.std.specs.Prelude.{◌≡◌, ◌+◌, ◌*◌, ◌<◌, ◌≤
 ghost use Rattle.definitions.specs.Limits.{entry_length};
 ghost use Rattle.definitions.specs.Tick.{ticked};
 ghost use Rattle.planformat.specs.Bytes.{bytes_below};
-ghost use Rattle.text.specs.Appended.{Appended};
+ghost use Rattle.text.specs.Appended.{Appended, SameBuffer};
 ghost use Rattle.loadformat.specs.Text.{number_text, dispatch_line, tick_lines};
-ghost use Rattle.loadformat.specs.Parts.{most_dispatches, longest_number, longest_line, longest_tick, part_length, Loaded};
+ghost use Rattle.loadformat.specs.Parts.{most_dispatches, longest_number, longest_line, longest_tick, Loaded};
 
-use loadformat::Part;
 use table::{AccountTable, Table};
+use text::Text;
 
 // Number p of dispatch entry i of a list.
 fn entry_number(list: &[i64], i: usize, p: usize) -> i64
@@ -21,18 +21,20 @@ fn entry_number(list: &[i64], i: usize, p: usize) -> i64
 }
 
 // The same behind a space.
-fn put_number(text: &mut Part, list: &[i64], i: usize, p: usize)
-    requires { (text.old.len + longest_number ≤ part_length) × (p < entry_length) × (entry_length * i + entry_length ≤ length list.now) }
-    ensures { Appended text.old.bytes text.old.len (number_text list.now i p) text.new.bytes text.new.len }
+fn put_number(text: &mut Text, list: &[i64], i: usize, p: usize)
+    requires { (text.old.len + longest_number ≤ length text.old.bytes.now) × (p < entry_length) × (entry_length * i + entry_length ≤ length list.now) }
+    ensures put { Appended text.old.bytes.now text.old.len (number_text list.now i p) text.new.bytes.now text.new.len }
+    ensures same { SameBuffer text.old text.new }
 {
     text.put_text(b" ");
     text.put_decimal(numbers::natural(entry_number(list, i, p)));
 }
 
 // The numbers of dispatch entry i.
-fn put_entry(text: &mut Part, list: &[i64], i: usize)
-    requires { (text.old.len + longest_number * entry_length ≤ part_length) × (entry_length * i + entry_length ≤ length list.now) }
-    ensures { Appended text.old.bytes text.old.len (bytes_below entry_length (number_text list.now i)) text.new.bytes text.new.len }
+fn put_entry(text: &mut Text, list: &[i64], i: usize)
+    requires { (text.old.len + longest_number * entry_length ≤ length text.old.bytes.now) × (entry_length * i + entry_length ≤ length list.now) }
+    ensures put { Appended text.old.bytes.now text.old.len (bytes_below entry_length (number_text list.now i)) text.new.bytes.now text.new.len }
+    ensures same { SameBuffer text.old text.new }
 {
     for p in 0..Table::ENTRY {
         put_number(text, list, i, p);
@@ -40,9 +42,10 @@ fn put_entry(text: &mut Part, list: &[i64], i: usize)
 }
 
 // The line of dispatch entry i.
-fn put_dispatch(text: &mut Part, tick: u64, list: &[i64], i: usize)
-    requires { (text.old.len + longest_line ≤ part_length) × (entry_length * i + entry_length ≤ length list.now) }
-    ensures { Appended text.old.bytes text.old.len (dispatch_line tick list.now i) text.new.bytes text.new.len }
+fn put_dispatch(text: &mut Text, tick: u64, list: &[i64], i: usize)
+    requires { (text.old.len + longest_line ≤ length text.old.bytes.now) × (entry_length * i + entry_length ≤ length list.now) }
+    ensures put { Appended text.old.bytes.now text.old.len (dispatch_line tick list.now i) text.new.bytes.now text.new.len }
+    ensures same { SameBuffer text.old text.new }
 {
     text.put_decimal(tick);
     put_entry(text, list, i);
@@ -50,9 +53,10 @@ fn put_dispatch(text: &mut Part, tick: u64, list: &[i64], i: usize)
 }
 
 // The lines of the first dispatch entries of a list.
-fn put_dispatches(text: &mut Part, tick: u64, list: &[i64], count: usize)
-    requires { (text.old.len + longest_line * count ≤ part_length) × (entry_length * count ≤ length list.now) }
-    ensures { Appended text.old.bytes text.old.len (bytes_below count (dispatch_line tick list.now)) text.new.bytes text.new.len }
+fn put_dispatches(text: &mut Text, tick: u64, list: &[i64], count: usize)
+    requires { (text.old.len + longest_line * count ≤ length text.old.bytes.now) × (entry_length * count ≤ length list.now) }
+    ensures put { Appended text.old.bytes.now text.old.len (bytes_below count (dispatch_line tick list.now)) text.new.bytes.now text.new.len }
+    ensures same { SameBuffer text.old text.new }
 {
     for i in 0..count {
         put_dispatch(text, tick, list, i);
@@ -60,9 +64,10 @@ fn put_dispatches(text: &mut Part, tick: u64, list: &[i64], count: usize)
 }
 
 // The lines of a tick, which is made. All clients are on the first port, and the second list is empty.
-pub fn put_tick(text: &mut Part, table: &mut AccountTable, list: &mut [i64], tick: u64)
-    requires { (text.old.len + longest_tick ≤ part_length) × Loaded table.old × (entry_length * most_dispatches ≤ length list.old) }
-    ensures lines { Appended text.old.bytes text.old.len (tick_lines tick (ticked table.old).entries) text.new.bytes text.new.len }
+pub fn put_tick(text: &mut Text, table: &mut AccountTable, list: &mut [i64], tick: u64)
+    requires { (text.old.len + longest_tick ≤ length text.old.bytes.now) × Loaded table.old × (entry_length * most_dispatches ≤ length list.old) }
+    ensures lines { Appended text.old.bytes.now text.old.len (tick_lines tick (ticked table.old).entries) text.new.bytes.now text.new.len }
+    ensures same { SameBuffer text.old text.new }
     ensures table { table.new ≡ (ticked table.old).table }
 {
     let counts = steps::run(table, list, &mut []);

@@ -53,7 +53,7 @@ impl<'a> Contents<'a> {
         let kind = bodies::kind_in(sort);
         let share = bodies::share_in(bodies::held_by(sort));
         let at = forms::body_at(self.edition, self.nodes.len(), i);
-        putting::put_body(buffer, self.edition, at, kind, share, node.depth);
+        putting::put_body(buffer, self.edition, at, u64::from(kind), share, node.depth);
     }
 
     // Writes the entries in turn, and the bodies behind them.

@@ -4,10 +4,9 @@
 ghost use Rattle.std.specs.Prelude.{◌≡◌, [], ◌∷◌, ◌++◌, ◌+◌, ◌≤◌, ◌<◌, length};
 ghost use Rattle.planformat.specs.Bytes.{byte_values, bytes2, bytes4};
 ghost use Rattle.planformat.specs.Format.{head_length, entry_length, body_length, share_length, start_of, mark_bytes, share_bytes};
-ghost use Rattle.planformat.specs.Numbers.{kind_number};
 ghost use Rattle.planformat.specs.Written.{written};
 
-use layout::{Edition, Format, Kind};
+use layout::{Edition, Format};
 
 // Writes a byte at place a.
 #[tactic(auto, using(planformat::proofs::Written::written_one))]
@@ -88,11 +87,12 @@ fn put_share(buffer: &mut [u8], edition: Edition, a: usize, share: u64)
 }
 
 // Writes a body.
-pub fn put_body(buffer: &mut [u8], edition: Edition, a: usize, kind: Kind, share: u64, depth: u64)
-    requires { a + body_length edition ≤ length buffer.old }
-    ensures { buffer.new ≡ written buffer.old a (kind_number kind ∷ share_bytes edition share ++ bytes4 depth) }
+// Kept: what may not change needs it: every byte can be put as a kind.
+pub fn put_body(buffer: &mut [u8], edition: Edition, a: usize, kind: u64, share: u64, depth: u64)
+    requires { (a + body_length edition ≤ length buffer.old) × (kind < byte_values) }
+    ensures { buffer.new ≡ written buffer.old a (kind ∷ share_bytes edition share ++ bytes4 depth) }
 {
-    put_byte(buffer, a, u64::from(kind));
+    put_byte(buffer, a, kind);
     let at = a + Format::BODY_SHARE;
     put_share(buffer, edition, at, share);
     put_four(buffer, at + forms::share_length(edition), depth);

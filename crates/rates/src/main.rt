@@ -19,10 +19,10 @@ fn send(text: &[u8], contents: &[u8])
 }
 
 // Of an input the first 4096 bytes are read: with more, its text is the same (`first_bytes`, report/proofs/Texts.antt).
-#[tactic(auto, using(text::proofs::Appending::written_first))]
 fn main() {
     let mut contents = io::buffer();
     let n = io::read_full(STDIN, &mut contents);
-    let text = report::report(&contents[..n]);
-    send(text.so_far(), &contents[..n]);
+    let mut text = io::buffer();
+    let length = report::report(&contents[..n], &mut text);
+    send(&text[..length], &contents[..n]);
 }

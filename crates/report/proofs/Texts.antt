@@ -24,7 +24,7 @@ use Rattle.text.specs.Text.{input_length, refused_line}
 use Rattle.report.specs.Text.{lines_of, report_of}
 
 -- The number told of a plan read into a table of zeros.
-told_check : (s : List ℕ) → number_told (plan_answer blank s) ≡ check_answer s
+pub told_check : (s : List ℕ) → number_told (plan_answer blank s) ≡ check_answer s
 unfolding plan_answer check_answer
 told_check s = number_outcome _ _
 
@@ -32,7 +32,7 @@ pub accepted_report : (s : List ℕ) → check_answer s ≡ 0 → lines_of (plan
 unfolding report_of
 accepted_report s h = sym (cond_true (eqb (check_answer s) 0) _ _ (eq-eqb (check_answer s) 0 h))
 
-refused_report : (s : List ℕ) → (check_answer s ≡ 0 → ⊥) → refused_line (check_answer s) ≡ report_of s
+pub refused_report : (s : List ℕ) → (check_answer s ≡ 0 → ⊥) → refused_line (check_answer s) ≡ report_of s
 unfolding report_of
 refused_report s h = sym (cond_false (eqb (check_answer s) 0) _ _ (ne_eqb (check_answer s) 0 h))
 

@@ -144,6 +144,9 @@ pub record Going (On : List ℤ → Type 0) (step : State → State) (t₀ a₀ 
   pub left : (t' a' b' : List ℤ) (n' : PortCounts) → Follows step t a b n t' a' b' n' → Follows step t₀ a₀ b₀ n₀ t' a' b' n'
 
 module _ (On : List ℤ → Type 0) (step : State → State) (t₀ a₀ b₀ : List ℤ) (n₀ : PortCounts) where
+  pub going_first : On t₀ → Room first_port t₀ a₀ n₀.first → Room second_port t₀ b₀ n₀.second → Going On step t₀ a₀ b₀ n₀ t₀ a₀ b₀ n₀
+  going_first on first second = record { on = on; first = first; second = second; left = λ t' a' b' n' f. f }
+
   pub going_next : (t a b : List ℤ) (n : PortCounts) (k s : ℕ) → Going On step t₀ a₀ b₀ n₀ t a b n → Turn On step t k s → (u a' b' : List ℤ) (n' : PortCounts) → u ≡ table_after t k s → a' ≡ list_after first_port a n.first t k s → b' ≡ list_after second_port b n.second t k s → (n'.first ≡ n.first + gets first_port (port t k)) × (n'.second ≡ n.second + gets second_port (port t k)) → Going On step t₀ a₀ b₀ n₀ u a' b' n'
   going_next t a b n k s g turn u a' b' n' e made₀ made₁ counts =
       let first : Listed first_port t k s a n.first a' n'.first = record { list = made₀; count = counts.0 } in

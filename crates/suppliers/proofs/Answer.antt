@@ -4,9 +4,9 @@ use mathlib.Core.Path.{◌≡◌, sym, ap, ◌∙◌}
 use mathlib.Core.List.{List}
 use lib.Dec.{eqb}
 use lib.IntN.{ℤ}
-use borrow.Author.Tests.{eqb-true, eqb-false}
+use borrow.Author.Tests.{eqb-true, eqb-false, eq-eqb, ne_eqb}
 use Rattle.std.specs.Prelude.{Some, None}
-use Rattle.numbers.proofs.Tests.{by_test}
+use Rattle.numbers.proofs.Tests.{by_test, cond_true, cond_false}
 use Rattle.definitions.specs.Tick.{nobody, supplier, next}
 use Rattle.suppliers.specs.declared.Turn.{Turn}
 use Rattle.suppliers.specs.Next.{next_in}
@@ -18,6 +18,17 @@ pub record Goes (t : List ℤ) (k s : ℕ) : Type 0 where
   pub node : s ≡ supplier t k
 
 module _ (t : List ℤ) where
+  pub answer_nothing : next t ≡ nobody → None ≡ next_in t
+  unfolding next_in
+  answer_nothing e = sym (cond_true (eqb (next t) nobody) _ _ (eq-eqb (next t) nobody e))
+
+  pub answer_client : (k s : ℕ) → Goes t k s → Some (record { client = k; supplier = s }) ≡ next_in t
+  unfolding next_in
+  answer_client k s g =
+      ap (λ (s : ℕ). Some (record { client = k; supplier = s })) g.node
+      ∙ ap (λ (j : ℕ). Some (record { client = j; supplier = supplier t j })) g.client
+      ∙ sym (cond_false (eqb (next t) nobody) _ _ (ne_eqb (next t) nobody (λ e. g.some (g.client ∙ e))))
+
   pub turn_answer : (turn : Turn) → Some turn ≡ next_in t → Goes t turn.client turn.supplier
   unfolding next_in
   turn_answer turn e =

@@ -1,13 +1,13 @@
 -- Step 4's choice, one client at a time: best stays where client k has nothing waiting, no supplier or a request that is not
 -- better, else it is k.
-use Prim.Native.Nat.{ℕ, ◌+◌, ◌<◌, ◌≤◌}
+use Prim.Native.Nat.{ℕ, zero, suc, ◌+◌, ◌<◌, ◌≤◌}
 use mathlib.Core.Path.{◌≡◌, refl, sym, ap, ◌∙◌}
 use mathlib.Core.Bool.{Bool, true, false, cond}
 use mathlib.Core.List.{List, [], ◌∷◌}
 use native.Mathlib.Omega.{arith}
 use lib.Dec.{eqb, ltb}
 use lib.IntN.{ℤ}
-use borrow.Author.Tests.{lt-ltb, le-ltb, ne_eqb}
+use borrow.Author.Tests.{lt-ltb, le-ltb, ne_eqb, eqb-false}
 use Rattle.std.specs.Prelude.{Option, Some, None, option_map}
 use Rattle.numbers.specs.Tests.{every}
 use Rattle.numbers.specs.Below.{for_below}
@@ -107,5 +107,25 @@ best_turn t k b e low high =
     let end : k ≡ nodes = omega arith in
     rw (e, end) (by_test (eqb (for_below nodes (choice t) nobody) nobody) (λ y. rw y) (λ n. rw n))
 
+-- The best of the first k clients is one of the 64.
+among_low : (t : List ℤ) (k : ℕ) → k ≤ nodes → for_below k (choice t) nobody ≤ nobody
+unfolding for_below choice
+among_low t zero low = omega arith
+among_low t (suc k) low =
+    let best = for_below k (choice t) nobody in
+    by_test (every (supplied t k ∷ goes_before t k best ∷ []))
+    (λ y. omega (arith, cond_true _ k best y))
+    (λ n. omega (arith, cond_false _ k best n, among_low t k (omega arith)))
+
+pub best_low : (t : List ℤ) (k : ℕ) (b : Option Best) (best : Best) → k ≤ nodes → b ≡ best_among t k → b ≡ Some best → best.turn.client < nodes
+unfolding best_among best_of
+best_low t k b best low e some =
+    let chosen = for_below k (choice t) nobody in
+    by_test (eqb chosen nobody) (λ y. absurd (let is = rw y at (sym some ∙ e) in cc))
+    (λ n.
+    let is = ap (option_map (λ (b : Best). b.turn.client)) (rw n at (sym some ∙ e)) in
+    let client : best.turn.client ≡ chosen = cc in
+    omega (arith, client, among_low t k low, eqb-false chosen nobody n))
+
 -- What the choice of a client needs of these.
-pub ruleset choosing = (none_among, after_idle, after_unsupplied, after_later, after_taken)
+pub ruleset choosing = (none_among, after_idle, after_unsupplied, after_later, after_taken, best_low)

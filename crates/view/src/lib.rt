@@ -12,7 +12,7 @@ ghost use Rattle.view.specs.Views.{Views, EntryAt, BodyAt};
 ghost use Rattle.view.specs.Answer.{body_answer, told_found};
 
 use answers::Refusal;
-use layout::{Edition, Format, Kind, Node, Sort, bodies, bytes};
+use layout::{Edition, Format, Node, Sort, bytes};
 
 // What an entry says: a node and its parent. Where its body stands follows from the edition and the count of entries.
 #[derive(Clone, Copy)]
@@ -82,37 +82,26 @@ impl<'a> View<'a> {
     }
 
     // The body of entry i.
+    #[tactic(auto, unfolding(planformat::specs::Nodes::entry_by))]
     pub fn body(self, i: usize) -> Body
         requires { i < self.count }
         ensures told { BodyAt self.entry.bytes.now i result }
         ensures small { (share_in (held_by result.sort) < share_values self.entry.edition) × (result.depth < four_values) }
     {
-        let at = forms::body_at(self.edition, self.count, i);
-        let Ok(kind) = Kind::try_from(bytes::byte(self.bytes, at)) else {
-            unreachable!();
-        };
-        let at_share = at + Format::BODY_SHARE;
-        let share = bytes::share(self.bytes, self.edition, at_share);
-        let depth = bytes::four(self.bytes, at_share + forms::share_length(self.edition));
-        let sort = bodies::sort_of(kind, share);
-        Body { sort, depth }
+        let node = self.node(i);
+        Body {
+            sort: node.sort,
+            depth: node.depth,
+        }
     }
 
     // The node of entry i and its body.
-    #[tactic(auto, using(planformat::proofs::Codec::same_entry), unfolding(planformat::specs::Nodes::entry_by))]
     pub fn node(self, i: usize) -> Node
         requires { i < self.count }
         ensures entry { entry_by result ≡ entry_in self.entry.bytes.now i }
         ensures small { (result.number < byte_values) × (result.parent < byte_values) × (share_in (held_by result.sort) < share_values self.entry.edition) × (result.depth < four_values) }
     {
-        let entry = self.entry(i);
-        let body = self.body(i);
-        Node {
-            number: entry.number,
-            parent: entry.parent,
-            sort: body.sort,
-            depth: body.depth,
-        }
+        forms::node_at(self.bytes, self.edition, self.count, i)
     }
 }
 

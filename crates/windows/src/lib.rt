@@ -14,16 +14,33 @@ use table::{AccountTable, Table};
 // Numbers of a window, and which is which.
 pub const WINDOW: usize = 4;
 
-const NODE: usize = 0;
+pub const NODE: usize = 0;
 
-const START: usize = 1;
+pub const START: usize = 1;
 
-const END: usize = 2;
+pub const END: usize = 2;
 
-const SHARE: usize = 3;
+pub const SHARE: usize = 3;
 
 // Minutes of a week, which is the last end of a window.
 pub const WEEK: u64 = 10080;
+
+// Number p of window i.
+#[tactic(auto, unfolding(hourlaws::specs::Windows::window_number))]
+pub fn get(windows: &[i64], i: usize, p: usize) -> i64
+    requires { window_length * i + p < length windows.now }
+    ensures { result ≡ window_number windows.now i p }
+{
+    windows[WINDOW * i + p]
+}
+
+// The natural part of it.
+pub fn number(windows: &[i64], i: usize, p: usize) -> u64
+    requires { window_length * i + p < length windows.now }
+    ensures { result ≡ plus (window_number windows.now i p) }
+{
+    numbers::natural(get(windows, i, p))
+}
 
 // The numbers of one window, right or not.
 // Kept: the C interface needs it: a timetable is lent as plain numbers, and the definitions speak of a place in it.
@@ -37,7 +54,6 @@ pub struct Window {
 
 impl Window {
     // Window i.
-    #[tactic(auto, unfolding(hourlaws::specs::Windows::window_number))]
     pub fn at(windows: &[i64], i: usize) -> Window
         requires { window_length * i + window_share_at < length windows.now }
         ensures node { result.node ≡ window_number windows.now i window_node_at }
@@ -45,12 +61,11 @@ impl Window {
         ensures end { result.end ≡ window_number windows.now i window_end_at }
         ensures share { result.share ≡ window_number windows.now i window_share_at }
     {
-        let from = WINDOW * i;
         Window {
-            node: windows[from + NODE],
-            start: windows[from + START],
-            end: windows[from + END],
-            share: windows[from + SHARE],
+            node: get(windows, i, NODE),
+            start: get(windows, i, START),
+            end: get(windows, i, END),
+            share: get(windows, i, SHARE),
         }
     }
 

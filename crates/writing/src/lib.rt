@@ -1,9 +1,13 @@
 // Writing the plan of a table. Document 01, "Same tree, and the plan file", and document 02, (f).
 #![tactic(auto)]
 
-ghost use Rattle.std.specs.Prelude.{◌≡◌};
+ghost use Rattle.std.specs.Prelude.{◌≡◌, false, MatchResult};
+ghost use Rattle.numbers.specs.Whole.{within_ℤ};
 ghost use Rattle.definitions.specs.Order.{in_order};
+ghost use Rattle.answers.specs.declared.Refusal.TheVariants.{OutsideLimits};
 ghost use Rattle.answers.specs.Answers.{told};
+ghost use Rattle.planformat.specs.Format.{first_edition, second_edition};
+ghost use Rattle.planformat.specs.Numbers.{EditionFound};
 ghost use Rattle.planlaws.specs.Writing.{write_buffer, write_answer};
 
 use answers::Refusal;
@@ -15,6 +19,16 @@ fn in_order(table: &[i64]) -> bool
     ensures { result ≡ in_order table.now }
 {
     accounts::look(table, 0).is_ok()
+}
+
+// The edition of a number.
+fn edition_of(number: i64) -> Result<Edition, Refusal>
+    ensures { MatchResult result (λ edition. EditionFound number edition) (λ why. (why ≡ OutsideLimits) × (within_ℤ first_edition second_edition number ≡ false)) }
+{
+    match Edition::try_from(number) {
+        Ok(edition) => Ok(edition),
+        Err(_) => Err(Refusal::OutsideLimits),
+    }
 }
 
 // Writes the plan of a table into a buffer, in edition 1 or 2, and answers its length. Document 01, "Same tree, and the plan
@@ -30,9 +44,7 @@ pub fn write(table: &[i64], edition: i64, buffer: &mut [u8]) -> Result<i64, Refu
     let Some(table) = table.as_array() else {
         return Err(Refusal::NotInOrder);
     };
-    let Ok(edition) = Edition::try_from(edition) else {
-        return Err(Refusal::OutsideLimits);
-    };
+    let edition = edition_of(edition)?;
     let listing = listing::list_nodes(table);
     let nodes = listing.nodes();
     let length = forms::plan_length(edition, nodes.len());

@@ -39,19 +39,29 @@ pub loop-m-init : goal.loop-m-init
 unfolding order_below
 loop-m-init c = (refl, refl, refl)
 
-pub bounds-numbers-count : goal.bounds-numbers-count
-bounds-numbers-count c = omega (arith, order_few (tree_of c.args.table.now) c.loop-m.m)
+pub bounds-nodes-count : goal.bounds-nodes-count
+bounds-nodes-count c = omega (arith, order_few (tree_of c.args.table.now) c.loop-m.m)
 
 pub loop-m-preserved : goal.loop-m-preserved
 loop-m-preserved c =
     let at = c.loop-m in
     let tree = tree_of c.args.table.now in
-    let next = next_nodes tree at.m at.count c.from-count.result at.numbers at.invariant.0 at.invariant.1 at.invariant.2 (c.from-count.ensures ∙ ap bool_byte c.stands.ensures ∙ counted (stands tree at.m)) in
-    (length-set at.numbers at.count (at.m % nodes) ∙ at.invariant.0, next.0, next.1)
+    let next = next_nodes tree at.m at.count c.from-count.result at.nodes at.invariant.0 at.invariant.1 at.invariant.2 (c.from-count.ensures ∙ ap bool_byte c.stands.ensures ∙ counted (stands tree at.m)) in
+    (length-set at.nodes at.count (at.m % nodes) ∙ at.invariant.0, next.0, next.1)
 
-pub returns : goal.returns
+pub invariant_of-result : goal.invariant_of-result
+invariant_of-result c = record { few = omega (arith, order_few (tree_of c.args.table.now) c.loop-m.m) }
+
+pub returns-clause-nodes : goal.returns-clause-nodes
 unfolding order
-returns c =
+returns-clause-nodes c =
     let tree = tree_of c.args.table.now in
     let end : c.loop-m.m ≡ standings = omega arith in
     c.loop-m.invariant.2 ∙ ap (order_below tree) end
+
+pub returns-clause-count : goal.returns-clause-count
+unfolding order
+returns-clause-count c =
+    let tree = tree_of c.args.table.now in
+    let end : c.loop-m.m ≡ standings = omega arith in
+    c.loop-m.invariant.1 ∙ ap (λ (m : ℕ). length (order_below tree m)) end

@@ -7,4 +7,4 @@ use Rattle.listing.proofs.list_nodes.Given as goal
 
 abbrev pub invariant-loop-m : goal.invariant-loop-m
 invariant-loop-m l =
-    (length l.numbers ≡ nodes) × (l.count ≡ length (order_below (tree_of l.table) l.m)) × (take l.count l.numbers ≡ order_below (tree_of l.table) l.m)
+    (length l.nodes ≡ nodes) × (l.count ≡ length (order_below (tree_of l.table) l.m)) × (take l.count l.nodes ≡ order_below (tree_of l.table) l.m)

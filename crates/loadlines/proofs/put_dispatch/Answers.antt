@@ -14,13 +14,13 @@ put_entry-requires c = (omega (arith, decimal_short c.args.tick), omega arith)
 
 pub put_text-requires : goal.put_text-requires
 put_text-requires c =
-    (omega arith, omega (arith, decimal_short c.args.tick, entry_short c.args.list.now c.args.i entry_length))
+    omega (arith, decimal_short c.args.tick, entry_short c.args.list.now c.args.i entry_length)
 
-pub returns : goal.returns
+pub returns-clause-put : goal.returns-clause-put
 unfolding dispatch_line ascii
-returns c =
+returns-clause-put c =
     let tick = decimal c.args.tick in
     let entry = bytes_below entry_length (number_text c.args.list.now c.args.i) in
     let short = decimal_short c.args.tick in
     let long = entry_short c.args.list.now c.args.i entry_length in
-    append_more _ _ _ _ _ _ _ _ (omega (arith, length-append tick entry)) (append_more _ _ _ _ _ _ _ _ (omega arith) c.put_decimal.ensures c.put_entry.ensures) c.put_text.ensures
+    append_more _ _ _ _ _ _ _ _ (omega (arith, length-append tick entry)) (append_more _ _ _ _ _ _ _ _ (omega arith) c.put_decimal.ensures.put c.put_entry.ensures.put) c.put_text.ensures.put

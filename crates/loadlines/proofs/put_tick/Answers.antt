@@ -19,4 +19,4 @@ put_dispatches-requires c =
 pub returns-clause-lines : goal.returns-clause-lines
 returns-clause-lines c =
     let shown = tick_shown c.args.table.now c.args.list.now c.requires.1 c.requires.2 _ _ c.run-counts.ensures.first c.run-counts.ensures.counts.0 in
-    append_as _ _ _ _ _ _ (shown.lines _) c.put_dispatches.ensures
+    append_as _ _ _ _ _ _ (shown.lines _) c.put_dispatches.ensures.put

@@ -8,11 +8,12 @@ use Rattle.loadtext.proofs.put_ticks.Goals as goal
 pub loop-next-init : goal.loop-next-init
 loop-next-init c =
     record {
-      part = rw (c.clear.ensures.bytes, c.clear.ensures.len) (goes_none _ _ _ _ (omega arith) c.requires.0);
+      part = rw (c.clear.ensures.bytes, c.clear.ensures.len) (goes_none _ _ _ _ (omega arith) c.requires.1);
+      same = record { place = c.clear.ensures.same.place; long = c.clear.ensures.same.long };
       last = omega arith;
       ticks = refl;
       list = refl;
-      askers = c.requires.1;
+      askers = c.requires.2;
     }
 
 pub put_next-next-requires : goal.put_next-next-requires
@@ -25,7 +26,8 @@ loop-next-preserved c =
     let part = c.loop-next.invariant.part in
     let made = c.put_next-next.ensures in
     record {
-      part = goes_next _ _ _ _ _ _ _ _ part _ _ _ _ (omega arith) (omega (arith, c.args.text.now.whole)) made.lines made.load made.ticks.0;
+      part = goes_next _ _ _ _ _ _ _ _ part _ _ _ _ (omega arith) (omega (arith, c.requires.0)) made.lines made.load made.ticks.0;
+      same = record { place = made.same.place ∙ c.loop-next.invariant.same.place; long = made.same.long ∙ c.loop-next.invariant.same.long };
       last = omega (arith, made.ticks.0);
       ticks = made.ticks.1 ∙ c.loop-next.invariant.ticks;
       list = omega arith;

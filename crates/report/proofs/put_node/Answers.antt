@@ -9,13 +9,13 @@ pub put_sort-requires : goal.put_sort-requires
 put_sort-requires c = omega (arith, decimal_short c.args.node)
 
 pub put_decimal-requires-2 : goal.put_decimal-requires-2
-put_decimal-requires-2 c = (omega arith, omega (arith, decimal_short c.args.node, sort_short c.args.class))
+put_decimal-requires-2 c = omega (arith, decimal_short c.args.node, sort_short c.args.class)
 
 pub put_text-requires : goal.put_text-requires
 put_text-requires c =
-    (omega arith, omega (arith, decimal_short c.args.node, sort_short c.args.class, decimal_short c.args.rate))
+    omega (arith, decimal_short c.args.node, sort_short c.args.class, decimal_short c.args.rate)
 
-pub returns : goal.returns
+pub returns-clause-put : goal.returns-clause-put
 unfolding ascii
-returns c =
-    node_appended _ _ _ _ _ _ _ _ _ _ _ _ _ (omega (arith, c.args.text.now.whole)) c.put_decimal.ensures c.put_sort.ensures c.put_decimal-2.ensures c.put_text.ensures
+returns-clause-put c =
+    node_appended _ _ _ _ _ _ _ _ _ _ _ _ _ (omega arith) c.put_decimal.ensures.put c.put_sort.ensures.put c.put_decimal-2.ensures.put c.put_text.ensures.put

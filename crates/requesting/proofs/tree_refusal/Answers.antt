@@ -31,7 +31,7 @@ pub there-requires : goal.there-requires
 there-requires c = low _ _ c.requires
 
 pub is_class-requires : goal.is_class-requires
-is_class-requires c = low _ _ c.requires
+is_class-requires c = omega (arith, low _ _ c.requires)
 
 pub natural-depth-requires : goal.natural-depth-requires
 natural-depth-requires c = (low _ _ c.requires, omega arith)

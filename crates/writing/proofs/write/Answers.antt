@@ -4,6 +4,7 @@ use mir.Syntax.{w64}
 use mir.Val.{SFits, to_z, of_z}
 use mir.ValLaws.{to_z-of_z}
 use Rattle.std.proofs.Math.Seq.{take-length}
+use Rattle.std.proofs.lemmas.Result.{err_from_is_err_and}
 use Rattle.numbers.specs.Whole.{within_ℤ}
 use Rattle.definitions.specs.Tree.{tree_of}
 use Rattle.definitions.specs.Order.{in_order}
@@ -57,54 +58,55 @@ returns-in_default-clause-answer c = absurd (c.in_default.ensures.cases (facts _
 pub returns-in_default-clause-buffer : goal.returns-in_default-clause-buffer
 returns-in_default-clause-buffer c = absurd (c.in_default.ensures.cases (facts _ (sym c.in_order.ensures ∙ c.if-not-in_order.false)).long)
 
-pub returns-in_default-try_from-clause-answer : goal.returns-in_default-try_from-clause-answer
+pub returns-in_err-edition-clause-answer : goal.returns-in_err-edition-clause-answer
 unfolding write_answer
-returns-in_default-try_from-clause-answer c =
-    let none = unknown c.ranges.edition c.in_default-try_from.ensures.1 in
-    refused_tells OutsideLimits _ _ (no_edition _ _ _ (sym c.in_order.ensures ∙ c.if-not-in_order.false) none)
+returns-in_err-edition-clause-answer c =
+    let p = err_from_is_err_and c.from_residual.result c.from_residual.ensures.1 in
+    let none = unknown c.ranges.edition c.in_err-edition.ensures.1 in
+    rw (p.1, p.2, c.in_err-edition.ensures.0) (refused_tells OutsideLimits _ _ (no_edition _ _ _ (sym c.in_order.ensures ∙ c.if-not-in_order.false) none))
 
-pub returns-in_default-try_from-clause-buffer : goal.returns-in_default-try_from-clause-buffer
-returns-in_default-try_from-clause-buffer c =
-    let none = unknown c.ranges.edition c.in_default-try_from.ensures.1 in
+pub returns-in_err-edition-clause-buffer : goal.returns-in_err-edition-clause-buffer
+returns-in_err-edition-clause-buffer c =
+    let none = unknown c.ranges.edition c.in_err-edition.ensures.1 in
     refused_buffer _ _ _ 2 (λ e. omega arith) (no_edition _ _ _ (sym c.in_order.ensures ∙ c.if-not-in_order.false) none)
 
 pub plan_length-length-requires : goal.plan_length-length-requires
 plan_length-length-requires c =
-    omega (arith, ap length (c.nodes-nodes.ensures ∙ c.list_nodes-listing.ensures), order_short (tree_of c.in-Some.table.now))
+    omega (arith, ap length (c.nodes-nodes.ensures ∙ c.list_nodes-listing.ensures.nodes), order_short (tree_of c.in-Some.table.now))
 
 pub returns-then-buffer-length-clause-answer : goal.returns-then-buffer-length-clause-answer
 unfolding write_answer
 returns-then-buffer-length-clause-answer c =
-    let edition = found c.ranges.edition c.in-Ok.ensures in
-    let long = plan_long c.in-Some.ensures.cases.same c.list_nodes-listing.ensures c.nodes-nodes.ensures edition c.plan_length-length.ensures in
+    let edition = found c.ranges.edition c.in_ok-edition.ensures in
+    let long = plan_long c.in-Some.ensures.cases.same c.list_nodes-listing.ensures.nodes c.nodes-nodes.ensures edition c.plan_length-length.ensures in
     refused_tells BufferShort _ _ (too_short _ _ _ (sym c.in_order.ensures ∙ c.if-not-in_order.false) edition.within (omega (arith, long, c.if-buffer-length.true)))
 
 pub returns-then-buffer-length-clause-buffer : goal.returns-then-buffer-length-clause-buffer
 returns-then-buffer-length-clause-buffer c =
-    let edition = found c.ranges.edition c.in-Ok.ensures in
-    let long = plan_long c.in-Some.ensures.cases.same c.list_nodes-listing.ensures c.nodes-nodes.ensures edition c.plan_length-length.ensures in
+    let edition = found c.ranges.edition c.in_ok-edition.ensures in
+    let long = plan_long c.in-Some.ensures.cases.same c.list_nodes-listing.ensures.nodes c.nodes-nodes.ensures edition c.plan_length-length.ensures in
     refused_buffer _ _ _ 13 (λ e. omega arith) (too_short _ _ _ (sym c.in_order.ensures ∙ c.if-not-in_order.false) edition.within (omega (arith, long, c.if-buffer-length.true)))
 
 pub returns-then-unwritable-clause-answer : goal.returns-then-unwritable-clause-answer
 unfolding write_answer
 returns-then-unwritable-clause-answer c =
-    let edition = found c.ranges.edition c.in-Ok.ensures in
+    let edition = found c.ranges.edition c.in_ok-edition.ensures in
     let same = c.in-Some.ensures.cases.same in
-    let long = plan_long same c.list_nodes-listing.ensures c.nodes-nodes.ensures edition c.plan_length-length.ensures in
+    let long = plan_long same c.list_nodes-listing.ensures.nodes c.nodes-nodes.ensures edition c.plan_length-length.ensures in
     refused_tells StatedWrong _ _
     (no_kind _ _ _ (sym c.in_order.ensures ∙ c.if-not-in_order.false) edition.within (omega (arith, long, c.if-buffer-length.false)) (kinds_of same edition c.unwritable.ensures ∙ c.if-unwritable.true))
 
 pub returns-then-unwritable-clause-buffer : goal.returns-then-unwritable-clause-buffer
 returns-then-unwritable-clause-buffer c =
-    let edition = found c.ranges.edition c.in-Ok.ensures in
+    let edition = found c.ranges.edition c.in_ok-edition.ensures in
     let same = c.in-Some.ensures.cases.same in
-    let long = plan_long same c.list_nodes-listing.ensures c.nodes-nodes.ensures edition c.plan_length-length.ensures in
+    let long = plan_long same c.list_nodes-listing.ensures.nodes c.nodes-nodes.ensures edition c.plan_length-length.ensures in
     refused_buffer _ _ _ 16 (λ e. omega arith)
     (no_kind _ _ _ (sym c.in_order.ensures ∙ c.if-not-in_order.false) edition.within (omega (arith, long, c.if-buffer-length.false)) (kinds_of same edition c.unwritable.ensures ∙ c.if-unwritable.true))
 
 pub invariant_of-contents : goal.invariant_of-contents
 invariant_of-contents c =
-    let members = c.nodes-nodes.ensures ∙ c.list_nodes-listing.ensures in
+    let members = c.nodes-nodes.ensures ∙ c.list_nodes-listing.ensures.nodes in
     record {
       listed = record {
         ordered = ap in_order c.in-Some.ensures.cases.same ∙ sym c.in_order.ensures ∙ c.if-not-in_order.false;
@@ -116,9 +118,9 @@ invariant_of-contents c =
 pub returns-clause-answer : goal.returns-clause-answer
 unfolding told
 returns-clause-answer c =
-    let edition = found c.ranges.edition c.in-Ok.ensures in
+    let edition = found c.ranges.edition c.in_ok-edition.ensures in
     let same = c.in-Some.ensures.cases.same in
-    let long = plan_long same c.list_nodes-listing.ensures c.nodes-nodes.ensures edition c.plan_length-length.ensures in
+    let long = plan_long same c.list_nodes-listing.ensures.nodes c.nodes-nodes.ensures edition c.plan_length-length.ensures in
     let passed : WritePassed c.args.table.now c.args.edition c.args.buffer.now =
     record {
       order = sym c.in_order.ensures ∙ c.if-not-in_order.false;
@@ -131,9 +133,9 @@ returns-clause-answer c =
 
 pub returns-clause-buffer : goal.returns-clause-buffer
 returns-clause-buffer c =
-    let edition = found c.ranges.edition c.in-Ok.ensures in
+    let edition = found c.ranges.edition c.in_ok-edition.ensures in
     let same = c.in-Some.ensures.cases.same in
-    let long = plan_long same c.list_nodes-listing.ensures c.nodes-nodes.ensures edition c.plan_length-length.ensures in
+    let long = plan_long same c.list_nodes-listing.ensures.nodes c.nodes-nodes.ensures edition c.plan_length-length.ensures in
     let passed : WritePassed c.args.table.now c.args.edition c.args.buffer.now =
     record {
       order = sym c.in_order.ensures ∙ c.if-not-in_order.false;
