@@ -6,7 +6,7 @@ ghost use Rattle.std.specs.Prelude.{◌≡◌, ◌≤◌, IfOk, MatchResult};
 ghost use Rattle.loadformat.specs.Parts.{opening, ticks_allowed, part_of};
 
 use table::Table;
-use text::Text;
+use text::LentText;
 
 // The numbers of the standard streams.
 // Kept: the new form is no plainer: std's streams come from a runtime that each function takes, and answer causes that go unused here.
@@ -50,7 +50,7 @@ fn send(input: &[u8]) -> Result<u64, WriteFailed>
 {
     let mut table = [0i64; Table::LENGTH];
     let mut buffer = io::large_buffer();
-    let mut text = Text::new(&mut buffer);
+    let mut text = LentText::new(&mut buffer);
     let mut progress = loadinput::begin(&mut text, &mut table, input);
     let mut sent = send_opening(text.so_far(), input)?;
     while progress.made < progress.ticks {

@@ -13,7 +13,7 @@ ghost use Rattle.loadformat.specs.Parts.{Begins};
 use answers::Refusal;
 use layout::bytes;
 use loadformat::Progress;
-use text::Text;
+use text::LentText;
 
 // Where the parts of the input stand.
 const SEED_AT: usize = 0;
@@ -38,7 +38,7 @@ fn read_input(table: &mut [i64], input: &[u8]) -> Result<(), Refusal>
 }
 
 // Makes a load ready for an input, and its text what stands before the first tick.
-pub fn begin(text: &mut Text, table: &mut [i64], input: &[u8]) -> Progress
+pub fn begin(text: &mut LentText, table: &mut [i64], input: &[u8]) -> Progress
     requires { (longest_refused ≤ length text.old.bytes.now) × (table.old ≡ blank) }
     ensures begins { Begins input.now text.old.bytes.now (load_of table.new result.state) result.made result.ticks text.new.len text.new.bytes.now }
     ensures same { SameBuffer text.old text.new }

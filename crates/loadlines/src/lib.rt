@@ -10,7 +10,7 @@ ghost use Rattle.loadformat.specs.Text.{number_text, dispatch_line, tick_lines};
 ghost use Rattle.loadformat.specs.Parts.{most_dispatches, longest_number, longest_line, longest_tick, Loaded};
 
 use table::{AccountTable, Table};
-use text::Text;
+use text::LentText;
 
 // Number p of dispatch entry i of a list.
 fn entry_number(list: &[i64], i: usize, p: usize) -> i64
@@ -21,7 +21,7 @@ fn entry_number(list: &[i64], i: usize, p: usize) -> i64
 }
 
 // The same behind a space.
-fn put_number(text: &mut Text, list: &[i64], i: usize, p: usize)
+fn put_number(text: &mut LentText, list: &[i64], i: usize, p: usize)
     requires { (text.old.len + longest_number ≤ length text.old.bytes.now) × (p < entry_length) × (entry_length * i + entry_length ≤ length list.now) }
     ensures put { Appended text.old.bytes.now text.old.len (number_text list.now i p) text.new.bytes.now text.new.len }
     ensures same { SameBuffer text.old text.new }
@@ -31,7 +31,7 @@ fn put_number(text: &mut Text, list: &[i64], i: usize, p: usize)
 }
 
 // The numbers of dispatch entry i.
-fn put_entry(text: &mut Text, list: &[i64], i: usize)
+fn put_entry(text: &mut LentText, list: &[i64], i: usize)
     requires { (text.old.len + longest_number * entry_length ≤ length text.old.bytes.now) × (entry_length * i + entry_length ≤ length list.now) }
     ensures put { Appended text.old.bytes.now text.old.len (bytes_below entry_length (number_text list.now i)) text.new.bytes.now text.new.len }
     ensures same { SameBuffer text.old text.new }
@@ -42,7 +42,7 @@ fn put_entry(text: &mut Text, list: &[i64], i: usize)
 }
 
 // The line of dispatch entry i.
-fn put_dispatch(text: &mut Text, tick: u64, list: &[i64], i: usize)
+fn put_dispatch(text: &mut LentText, tick: u64, list: &[i64], i: usize)
     requires { (text.old.len + longest_line ≤ length text.old.bytes.now) × (entry_length * i + entry_length ≤ length list.now) }
     ensures put { Appended text.old.bytes.now text.old.len (dispatch_line tick list.now i) text.new.bytes.now text.new.len }
     ensures same { SameBuffer text.old text.new }
@@ -53,7 +53,7 @@ fn put_dispatch(text: &mut Text, tick: u64, list: &[i64], i: usize)
 }
 
 // The lines of the first dispatch entries of a list.
-fn put_dispatches(text: &mut Text, tick: u64, list: &[i64], count: usize)
+fn put_dispatches(text: &mut LentText, tick: u64, list: &[i64], count: usize)
     requires { (text.old.len + longest_line * count ≤ length text.old.bytes.now) × (entry_length * count ≤ length list.now) }
     ensures put { Appended text.old.bytes.now text.old.len (bytes_below count (dispatch_line tick list.now)) text.new.bytes.now text.new.len }
     ensures same { SameBuffer text.old text.new }
@@ -64,7 +64,7 @@ fn put_dispatches(text: &mut Text, tick: u64, list: &[i64], count: usize)
 }
 
 // The lines of a tick, which is made. All clients are on the first port, and the second list is empty.
-pub fn put_tick(text: &mut Text, table: &mut AccountTable, list: &mut [i64], tick: u64)
+pub fn put_tick(text: &mut LentText, table: &mut AccountTable, list: &mut [i64], tick: u64)
     requires { (text.old.len + longest_tick ≤ length text.old.bytes.now) × Loaded table.old × (entry_length * most_dispatches ≤ length list.old) }
     ensures lines { Appended text.old.bytes.now text.old.len (tick_lines tick (ticked table.old).entries) text.new.bytes.now text.new.len }
     ensures same { SameBuffer text.old text.new }

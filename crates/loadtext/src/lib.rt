@@ -9,9 +9,9 @@ ghost use Rattle.asking.specs.Asking.{clients, load_of};
 ghost use Rattle.loadformat.specs.Text.{tick_lines, next_tick, after_tick};
 ghost use Rattle.loadformat.specs.Parts.{most_dispatches, longest_tick, part_length, part_ticks, Loaded, GoesOn};
 
-use loadformat::Progress;
+use loadformat::{PART_LENGTH, Progress};
 use table::{AccountTable, Table};
-use text::Text;
+use text::LentText;
 
 // The most dispatches of a tick, and how long a number behind a space, a line and the lines of a tick can be.
 const MOST_DISPATCHES: usize = Table::NODES * Table::MOST_WAITING as usize;
@@ -22,16 +22,14 @@ const LONGEST_LINE: usize = text::MOST_DIGITS + LONGEST_NUMBER * Table::ENTRY + 
 
 const LONGEST_TICK: usize = LONGEST_LINE * MOST_DISPATCHES;
 
-// What a part's buffer holds, the last place of it from which there is room for a tick, and the most ticks of a part.
-const PART_LENGTH: usize = 65536;
-
+// The last place of a part's buffer from which there is room for a tick, and the most ticks of a part.
 const LAST_PLACE: usize = PART_LENGTH - LONGEST_TICK;
 
 const PART_TICKS: u64 = 4096;
 
 // One request, one tick and its lines, behind those of the part so far. The askers are the clients.
 fn put_next(
-    text: &mut Text,
+    text: &mut LentText,
     table: &mut AccountTable,
     askers: &[u64],
     list: &mut [i64],
@@ -63,7 +61,7 @@ fn last_tick(progress: Progress) -> u64
 
 // Whole ticks, one or more, while the buffer has room for one. The askers are the clients.
 fn put_ticks(
-    text: &mut Text,
+    text: &mut LentText,
     table: &mut AccountTable,
     askers: &[u64],
     progress: Progress,
@@ -84,7 +82,7 @@ fn put_ticks(
 }
 
 // Makes the next part of a load in a buffer, and answers how far the load is then.
-pub fn go_on(text: &mut Text, table: &mut AccountTable, progress: Progress) -> Progress
+pub fn go_on(text: &mut LentText, table: &mut AccountTable, progress: Progress) -> Progress
     requires { (part_length ≤ length text.old.bytes.now) × Loaded table.old × (progress.made < progress.ticks) }
     ensures part { GoesOn text.old.bytes.now (load_of table.old progress.state) progress.made progress.ticks text.new.bytes.now (load_of table.new result.state) result.made text.new.len }
     ensures same { SameBuffer text.old text.new }

@@ -10,14 +10,14 @@ ghost use Rattle.text.specs.Appended.{Appended, SameBuffer};
 ghost use Rattle.report.specs.Text.{longest_sort, longest_line, sort_text, node_line, line, lines_of, report_of};
 
 use table::{AccountTable, Table, tree};
-use text::Text;
+use text::LentText;
 
 // What the text's buffer holds.
 pub const TEXT_LENGTH: usize = 4096;
 
 // The word of a sort.
 #[tactic(auto, unfolding(crate::specs::Text::sort_text, text::specs::Text::ascii))]
-fn put_sort(text: &mut Text, class: bool)
+fn put_sort(text: &mut LentText, class: bool)
     requires { text.old.len + longest_sort ≤ length text.old.bytes.now }
     ensures put { Appended text.old.bytes.now text.old.len (sort_text class) text.new.bytes.now text.new.len }
     ensures same { SameBuffer text.old text.new }
@@ -30,7 +30,7 @@ fn put_sort(text: &mut Text, class: bool)
 }
 
 // The line of a node: node, sort, rate.
-fn put_node(text: &mut Text, node: u64, class: bool, rate: u64)
+fn put_node(text: &mut LentText, node: u64, class: bool, rate: u64)
     requires { text.old.len + longest_line ≤ length text.old.bytes.now }
     ensures put { Appended text.old.bytes.now text.old.len (node_line node class rate) text.new.bytes.now text.new.len }
     ensures same { SameBuffer text.old text.new }
@@ -42,7 +42,7 @@ fn put_node(text: &mut Text, node: u64, class: bool, rate: u64)
 }
 
 // The line of node k of a table where it is there, else nothing.
-fn put_line(text: &mut Text, table: &AccountTable, k: usize)
+fn put_line(text: &mut LentText, table: &AccountTable, k: usize)
     requires { (text.old.len + longest_line ≤ length text.old.bytes.now) × (k < nodes) }
     ensures put { Appended text.old.bytes.now text.old.len (line table.now k) text.new.bytes.now text.new.len }
     ensures same { SameBuffer text.old text.new }
@@ -57,7 +57,7 @@ fn put_line(text: &mut Text, table: &AccountTable, k: usize)
 
 // One line for each node in rising number.
 #[tactic(auto, unfolding(crate::specs::Text::lines_of))]
-fn put_lines(text: &mut Text, table: &AccountTable)
+fn put_lines(text: &mut LentText, table: &AccountTable)
     requires { text.old.len + longest_line * nodes ≤ length text.old.bytes.now }
     ensures put { Appended text.old.bytes.now text.old.len (lines_of table.now) text.new.bytes.now text.new.len }
     ensures same { SameBuffer text.old text.new }
@@ -68,7 +68,7 @@ fn put_lines(text: &mut Text, table: &AccountTable)
 }
 
 // The text of a plan.
-fn put_report(text: &mut Text, contents: &[u8])
+fn put_report(text: &mut LentText, contents: &[u8])
     requires { text.old.len + longest_line * nodes ≤ length text.old.bytes.now }
     ensures put { Appended text.old.bytes.now text.old.len (report_of contents.now) text.new.bytes.now text.new.len }
     ensures same { SameBuffer text.old text.new }
@@ -89,7 +89,7 @@ pub fn report(contents: &[u8], text: &mut [u8; TEXT_LENGTH]) -> usize
     ensures length { result ≡ length (report_of contents.now) }
     ensures text { text.new ≡ written text.old 0 (report_of contents.now) }
 {
-    let mut text = Text::new(text);
+    let mut text = LentText::new(text);
     put_report(&mut text, contents);
     text.len
 }

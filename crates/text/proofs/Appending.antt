@@ -4,7 +4,7 @@ use mathlib.Core.Path.{◌≡◌, sym, ap, ◌∙◌}
 use mathlib.Core.List.{List, [], ◌++◌}
 use native.Mathlib.Omega.{arith}
 use lib.ListN.{length, take, drop, length-append}
-use lib.Seq.{take_at, drop-drop}
+use lib.Seq.{length-take-le, take_at, drop-drop}
 use borrow.Rule.Slice.PartMut.{put_mid}
 use Rattle.io.specs.Counts.{IsPrefixLen}
 use Rattle.planformat.specs.Written.{written}
@@ -26,6 +26,12 @@ module _ (b : List ℕ) (a : ℕ) where
         bytes = more.bytes ∙ ap (λ (x : List ℕ). written x next v) h.bytes ∙ written_more b a u room next v h.behind;
         behind = omega (arith, h.behind, more.behind, length-append u v);
       }
+
+  -- What is appended to a text that lies within its buffer lies within it, too.
+  pub appended_within : (u after : List ℕ) (next : ℕ) → a ≤ length b → Appended b a u after next → next ≤ length after
+  unfolding written
+  appended_within u after next within h =
+      omega (arith, h.behind, ap length h.bytes, length-append (take a b) (u ++ drop (a + length u) b), length-append u (drop (a + length u) b), length-take-le a b within)
 
   -- A piece copied over a part of the buffer.
   pub append_copied : (piece part : List ℕ) (next : ℕ) → part ≡ piece → next ≡ a + length piece → Appended b a piece (put_mid a (next - a) b part) next

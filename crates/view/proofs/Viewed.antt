@@ -1,6 +1,6 @@
 -- What reading the count of a plan and the node of an entry asks of the bytes.
 use Prim.Native.Nat.{ℕ, ◌+◌, ◌≤◌, ◌<◌}
-use mathlib.Core.Path.{◌≡◌, ap}
+use mathlib.Core.Path.{◌≡◌, ap, ap₂}
 use mathlib.Core.Bool.{true}
 use mathlib.Core.List.{List}
 use native.Mathlib.Omega.{arith}
@@ -24,17 +24,23 @@ viewed s e n i views within =
     let here : i < count_in s = omega (arith, views.counted) in
     rw (views.edition, views.counted) (formed_frame s f, here, f.kind i here)
 
--- What a view says of entry i: there are few entries, and its body ends within the bytes, at a place that is a small number.
+-- What a view says of entry i: there are few entries, its body stands where the bytes have it and ends within them, and its kind
+-- is one of the edition.
 pub record Within (s : List ℕ) (e : Edition) (n i : ℕ) : Type 0 where
   pub few : n ≤ last_count
   pub room : body_at e n i + body_length e ≤ length s
   pub low : body_at e n i < pair_values
+  pub body : body_at e n i ≡ body_at (edition_in s) (count_in s) i
+  pub kind : (entry_in s i).kind ≤ last_kind e
 
 pub within : (s : List ℕ) (e : Edition) (n i : ℕ) → Views s e n → i < n → Within s e n i
 within s e n i views h =
-    let f = (viewed s e n i views h).0 in
+    let v = viewed s e n i views h in
+    let f = v.0 in
     record {
       few = f.few;
       room = omega (arith, f.long, body_within e n i h);
       low = body_small e n i f.few (omega arith);
+      body = ap₂ (λ (d : Edition) (m : ℕ). body_at d m i) f.edition f.counted;
+      kind = v.2;
     }

@@ -2,7 +2,7 @@ use Rattle.std.proofs.Common.{arith}
 use Rattle.text.specs.Text.{ascii, refused_line}
 use Rattle.text.proofs.Appending.{append_more}
 use Rattle.text.proofs.Decimal.{decimal_short}
-use Rattle.text.proofs.Text.put_refused.Goals as goal
+use Rattle.text.proofs.LentText.put_refused.Goals as goal
 
 -- The word, the number and the line's end stand one behind the other.
 pub returns-clause-put : goal.returns-clause-put

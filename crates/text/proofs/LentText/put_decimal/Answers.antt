@@ -1,7 +1,7 @@
 use Rattle.std.proofs.Common.{◌∙◌, arith}
 use Rattle.text.proofs.Appending.{append_as}
 use Rattle.text.proofs.Decimal.{fewest_decimal}
-use Rattle.text.proofs.Text.put_decimal.Goals as goal
+use Rattle.text.proofs.LentText.put_decimal.Goals as goal
 
 -- The fewest digits that hold n are put.
 pub returns-clause-put : goal.returns-clause-put
