@@ -8,7 +8,7 @@ use text::Text;
 // What a part's buffer holds.
 pub const PART_LENGTH: usize = 65536;
 
-// A part of the text, in a buffer of its own.
+// A part of the text in a buffer that it owns, for callers that have none to lend.
 pub type Part = Text<PART_LENGTH>;
 
 // How far a load is: the state of the draws, and the ticks made and asked for.

@@ -53,7 +53,7 @@ module _ (b u after : List ℕ) (next : ℕ) (h : Appended b 0 u after next) whe
 
   pub appended_counts : IsPrefixLen next after
   appended_counts = (
-    omega (arith, ap length front, length-append u (drop (length u) b), h.behind),
+    appended_within b 0 u after next (omega arith) h,
     omega (arith, ap length appended_front, h.behind),
   )
 
